@@ -1,0 +1,4 @@
+pub mod Judged
+pub mod Found
+pub mod Cached
+pub mod Checked

@@ -1,0 +1,1 @@
+// The bench sheet, proved about the definitions. No functions.

@@ -1,0 +1,4 @@
+pub mod Needs
+pub mod State
+pub mod Sound
+pub mod Calls

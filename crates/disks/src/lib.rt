@@ -1,0 +1,127 @@
+// Disks of 256 blocks: the disk that a schedule leaves, and the three checks.
+use model::Check;
+use model::Write;
+ghost use mathlib.Core.Path.{_≡_};
+ghost use mathlib.Core.Bool.{cond};
+ghost use Prim.Native.Nat.{_+_, _*_, _≤_};
+ghost use lib.ListN.{length, take};
+ghost use Rattle.model.specs.Disk.{firstOf, secondOf};
+ghost use Rattle.model.specs.Schedule.{store, run};
+ghost use Rattle.model.specs.Check.{rangeHolds, holds, consistent};
+ghost use Rattle.reader.specs.Scan.{writeField, writesAt};
+
+// One write, if its flag is set.
+fn store_if(disk: &mut [u32], on: bool, w: Write)
+    requires { ⌜ length (now disk) ≡ 256 ⌝ }
+    ensures { λ _. ⌜ now (disk .exit) ≡ cond on (store w (now (disk .entry))) (now (disk .entry)) ⌝ }
+{
+    if on {
+        disk[w.address as usize] = w.block;
+    }
+}
+
+// The disk of a schedule, in place: of the `left` writes whose fields stand from `at` on, the first
+// if its flag is set, then the remaining ones.
+pub fn apply(disk: &mut [u32], file: &[u8], at: usize, left: usize, schedule: u64)
+    requires { ⌜ (length (now disk) ≡ 256) × ((at + 13 * left ≤ length (now file)) × (left ≤ 64)) ⌝ }
+    ensures { λ _. ⌜ now (disk .exit) ≡ run (writesAt (now (file .entry)) at left) schedule (now (disk .entry)) ⌝ }
+{
+    if 0 < left {
+        store_if(disk, schedule & 1 == 1, reader::write_at(file, at));
+        apply(disk, file, at + 13, left - 1, schedule >> 1);
+    }
+}
+
+fn range_holds(disk: &[u32], head: usize, tail: usize) -> bool
+    requires { ⌜ length (now disk) ≡ 256 ⌝ }
+    ensures { λ r. ⌜ r ≡ rangeHolds (now (disk .entry)) head tail ⌝ }
+{
+    if tail <= head {
+        return true;
+    }
+    if 256 < tail {
+        return false;
+    }
+    let mut k = head;
+    while k < tail {
+        if disk[k] == 0 {
+            return false;
+        }
+        k += 1;
+    }
+    true
+}
+
+// The two numbers of a block.
+fn first_of(b: u32) -> usize
+    ensures { λ r. ⌜ r ≡ firstOf b ⌝ }
+{
+    (b / 65536) as usize
+}
+
+fn second_of(b: u32) -> usize
+    ensures { λ r. ⌜ r ≡ secondOf b ⌝ }
+{
+    (b % 65536) as usize
+}
+
+fn range_at(disk: &[u32], a: u8) -> bool
+    requires { ⌜ length (now disk) ≡ 256 ⌝ }
+    ensures { λ r. ⌜ r ≡ holds (now (disk .entry)) (Check.Range a) ⌝ }
+{
+    let b = disk[a as usize];
+    range_holds(disk, first_of(b), second_of(b))
+}
+
+fn pair_holds(disk: &[u32], a: u8, v: u32, b: u8, w: u32) -> bool
+    requires { ⌜ length (now disk) ≡ 256 ⌝ }
+    ensures { λ r. ⌜ r ≡ holds (now (disk .entry)) (Check.Pair a v b w) ⌝ }
+{
+    if disk[a as usize] == v {
+        return disk[b as usize] == w;
+    }
+    true
+}
+
+fn pointer_holds(disk: &[u32], a: u8) -> bool
+    requires { ⌜ length (now disk) ≡ 256 ⌝ }
+    ensures { λ r. ⌜ r ≡ holds (now (disk .entry)) (Check.Pointer a) ⌝ }
+{
+    let b = disk[a as usize];
+    if b == 0 {
+        return true;
+    }
+    let to = second_of(b);
+    if 255 < to {
+        return false;
+    }
+    disk[to] != 0
+}
+
+// Whether a check holds of a disk.
+pub fn check_holds(disk: &[u32], c: Check) -> bool
+    requires { ⌜ length (now disk) ≡ 256 ⌝ }
+    ensures { λ r. ⌜ r ≡ holds (now (disk .entry)) c ⌝ }
+{
+    match c {
+        Check::Range(a) => range_at(disk, a),
+        Check::Pair { a, v, b, w } => pair_holds(disk, a, v, b, w),
+        Check::Pointer(a) => pointer_holds(disk, a),
+    }
+}
+
+// Whether the first n checks hold of a disk.
+pub fn is_consistent(disk: &[u32], checks: [Check; 16], n: usize) -> bool
+    requires { ⌜ (length (now disk) ≡ 256) × (n ≤ 16) ⌝ }
+    ensures { λ r. ⌜ r ≡ consistent (take n checks) (now (disk .entry)) ⌝ }
+{
+    let mut i: usize = 0;
+    while i < n {
+        let c = checks[i];
+        if !check_holds(disk, c) {
+            return false;
+        }
+        i += 1;
+    }
+    true
+}

@@ -1,0 +1,45 @@
+-- Finding rules for a file's tests.
+use Prim.Native.Nat.{ℕ}
+use mathlib.Core.Bool.{cond}
+use mathlib.Core.List.{List, _++_}
+use mathlib.Core.Option.{Option, none, some}
+use lib.Dec.{ltb}
+use lib.ListN.{length, drop}
+use Rattle.model.specs.declared.Rule.{Rule}
+use Rattle.model.specs.Answer.{Outcome, answer, refused}
+use Rattle.model.specs.Test.{Test, File}
+use Rattle.model.specs.Find.{candidatesOf, picked, chosen}
+use Rattle.reader.specs.Encode.{ruleFields}
+use Rattle.reader.specs.File.{readOf}
+
+-- what a call leaves: its outcome and its buffer
+pub record Found : Type 0 where
+  pub outcome : Outcome ℕ
+  pub buffer : List ℕ
+
+abbrev pub found : Outcome ℕ → List ℕ → Found
+found o b = record { outcome = o; buffer = b }
+
+-- bytes at the front of a buffer, its rest as it was
+unfoldable pub over : List ℕ → List ℕ → List ℕ
+over bytes buffer = bytes ++ drop (length bytes) buffer
+
+-- the chosen set's tag 03 fields in candidate order, and how many; 13: no acyclic set makes all tests hold
+unfoldable pub wrote : List Rule → Option ℕ → List ℕ → Found
+wrote candidates none buffer = found (refused 13 0) buffer
+wrote candidates (some m) buffer = found (answer (length (picked candidates m))) (over (ruleFields (picked candidates m)) buffer)
+
+-- 10 file has rules; 12 buffer under 96 bytes; 11 over 16 candidates
+unfoldable pub findIn : Outcome File → List ℕ → Found
+findIn (refused number place) buffer = found (refused number place) buffer
+findIn (answer f) buffer =
+    let candidates = candidatesOf (f .tests) in
+    let choice = chosen (f .tests) candidates in
+    let done = wrote candidates choice buffer in
+    cond (ltb 0 (length (f .rules))) (found (refused 10 0) buffer)
+    (cond (ltb (length buffer) 96) (found (refused 12 0) buffer)
+    (cond (ltb 16 (length candidates)) (found (refused 11 0) buffer)
+    done))
+
+unfoldable pub findOf : List ℕ → List ℕ → Found
+findOf s buffer = findIn (readOf s) buffer

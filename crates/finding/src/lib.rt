@@ -1,0 +1,1 @@
+// Finding the smallest sufficient rule set. What is right is in specs/.

@@ -1,0 +1,69 @@
+use Prim.Native.Nat.{_-_, _≤_}
+use mathlib.Core.Path.{_≡_}
+use lib.ListN.{length, take}
+use Rattle.reader.specs.Scan.{checkPlace, checksAt}
+use Rattle.loading.proofs.Steps.{steps}
+use Rattle.loading.proofs.file_checks.Statement.{statement}
+use Rattle.loading.proofs.file_checks.Tie as tie
+use Rattle.loading.proofs.file_checks.Reads as reads
+use Rattle.loading.proofs.file_checks.Lts as lts
+use Rattle.reader.proofs.check_at.Reads as check-at-reads
+use Rattle.reader.proofs.end_of.Reads as end-of-reads
+
+abbrev Inv-loop : tie.InvT-loop
+Inv-loop file from n checks₀ at₀ i₀ checks at i = (i ≤ n) × (length checks ≡ 16) × (at ≡ checkPlace file from i) × (take i checks ≡ checksAt file from i)
+
+abbrev μ-loop : tie.MeasureT-loop
+μ-loop file from n checks₀ at₀ i₀ checks at i = n - i
+
+-- src/lib.rt:38:5
+loop-holds : tie.Need-loop-holds Inv-loop μ-loop
+loop-holds c = search steps
+
+-- src/lib.rt:39:21
+check-at-requires : tie.Need-check-at-requires Inv-loop μ-loop
+check-at-requires c κs = search steps
+
+-- src/lib.rt:39:9
+mul-checks : tie.Need-mul-checks Inv-loop μ-loop
+mul-checks c = search steps
+
+-- src/lib.rt:39:9
+array-set-from-checks : tie.Need-array-set-from-checks Inv-loop μ-loop
+array-set-from-checks c = search steps
+
+-- src/lib.rt:40:9
+end-of-requires : tie.Need-end-of-requires Inv-loop μ-loop
+end-of-requires c κs = search steps
+
+-- src/lib.rt:41:9
+add-i : tie.Need-add-i Inv-loop μ-loop
+add-i c = search steps
+
+-- src/lib.rt:38:5
+loop-less : tie.Need-loop-less Inv-loop μ-loop
+loop-less c = search steps
+
+-- src/lib.rt:38:5
+loop-again : tie.Need-loop-again Inv-loop μ-loop
+loop-again c = search steps
+
+-- src/lib.rt:31:1
+returns : tie.Need-returns Inv-loop μ-loop
+returns c = search steps
+
+pub file-checks-spec : {M : Type 1} → statement M
+file-checks-spec =
+    tie.close
+    (tie.spec
+    Inv-loop
+    μ-loop
+    loop-holds
+    check-at-requires
+    mul-checks
+    array-set-from-checks
+    end-of-requires
+    add-i
+    loop-less
+    loop-again
+    returns)

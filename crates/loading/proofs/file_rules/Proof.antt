@@ -1,0 +1,68 @@
+use Prim.Native.Nat.{_-_, _≤_}
+use mathlib.Core.Path.{_≡_}
+use lib.ListN.{length, take}
+use Rattle.reader.specs.Scan.{rulesAt}
+use Rattle.loading.proofs.Steps.{steps}
+use Rattle.loading.proofs.file_rules.Statement.{statement}
+use Rattle.loading.proofs.file_rules.Tie as tie
+use Rattle.loading.proofs.file_rules.Reads as reads
+use Rattle.loading.proofs.file_rules.Lts as lts
+use Rattle.reader.proofs.rule_at.Reads as rule-at-reads
+
+abbrev Inv-loop : tie.InvT-loop
+Inv-loop file n items₀ i₀ items i = (i ≤ n) × (length items ≡ 32) × (take i items ≡ rulesAt file i)
+
+abbrev μ-loop : tie.MeasureT-loop
+μ-loop file n items₀ i₀ items i = n - i
+
+-- src/lib.rt:23:5
+loop-holds : tie.Need-loop-holds Inv-loop μ-loop
+loop-holds c = search steps
+
+-- src/lib.rt:24:42
+mul-rule-at : tie.Need-mul-rule-at Inv-loop μ-loop
+mul-rule-at c = search steps
+
+-- src/lib.rt:24:20
+rule-at-requires : tie.Need-rule-at-requires Inv-loop μ-loop
+rule-at-requires c κs = search steps
+
+-- src/lib.rt:24:9
+mul-items : tie.Need-mul-items Inv-loop μ-loop
+mul-items c = search steps
+
+-- src/lib.rt:24:9
+array-set-from-items : tie.Need-array-set-from-items Inv-loop μ-loop
+array-set-from-items c = search steps
+
+-- src/lib.rt:25:9
+add-i : tie.Need-add-i Inv-loop μ-loop
+add-i c = search steps
+
+-- src/lib.rt:23:5
+loop-less : tie.Need-loop-less Inv-loop μ-loop
+loop-less c = search steps
+
+-- src/lib.rt:23:5
+loop-again : tie.Need-loop-again Inv-loop μ-loop
+loop-again c = search steps
+
+-- src/lib.rt:13:1
+returns : tie.Need-returns Inv-loop μ-loop
+returns c = search steps
+
+pub file-rules-spec : {M : Type 1} → statement M
+file-rules-spec =
+    tie.close
+    (tie.spec
+    Inv-loop
+    μ-loop
+    loop-holds
+    mul-rule-at
+    rule-at-requires
+    mul-items
+    array-set-from-items
+    add-i
+    loop-less
+    loop-again
+    returns)

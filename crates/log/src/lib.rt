@@ -1,0 +1,1 @@
+// The reading log: traces of puts, and get. What is right is in specs/.

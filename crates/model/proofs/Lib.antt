@@ -1,0 +1,4 @@
+pub mod RuleLaws
+pub mod ScheduleLaws
+pub mod CheckLaws
+pub mod TestLaws

@@ -1,0 +1,99 @@
+-- The computed forms of a bad schedule and of a test that holds agree with their meaning, and so does the count of bad schedules.
+use mathlib.Core.Path.{_≡_, refl, sym, ap, _∙_}
+use mathlib.Core.Logic.{_⊎_, inl, inr, ⊎-elim}
+use mathlib.Core.Bool.{Bool, true, false, cond, not, _&&_, false≢true}
+use mathlib.Core.List.{List}
+use Prim.Native.Nat.{ℕ, zero, suc, _+_, _≤_, _<_}
+use native.Mathlib.Omega.{arith}
+use borrow.Author.Tests.{not-true, not-false}
+use Rattle.relation.proofs.ListLaws.{and-left, and-right, and-intro, allBelow-true, allBelow-intro, anyBelow-true, anyBelow-false, below-suc}
+use Rattle.relation.specs.Lists.{allBelow, anyBelow}
+use Rattle.model.specs.declared.Rule.{Rule}
+use Rattle.model.specs.Schedule.{Valid, valid}
+use Rattle.model.specs.Check.{Consistent, consistent}
+use Rattle.model.specs.Test.{Test, schedules, diskAfter, TestHolds, testHolds, Bad, bad, countBelow, badCount}
+use Rattle.model.proofs.ScheduleLaws.{valid-true, true-valid}
+use Rattle.model.proofs.CheckLaws.{consistent-true, true-consistent}
+
+not-so : (b : Bool) → (b ≡ true → ⊥) → not b ≡ true
+not-so true h = absurd (h refl)
+not-so false h = refl
+
+module _ (rules : List Rule) (t : Test) where
+  pub bad-true : (s : ℕ) → s < schedules t → bad rules t s ≡ true → Bad rules t s
+  unfolding bad Bad
+  bad-true s l e = (
+    l,
+    valid-true rules (t .main) s (and-left (valid rules (t .main) s) _ e),
+    λ c. false≢true (sym (not-true _ (and-right (valid rules (t .main) s) _ e)) ∙ true-consistent (diskAfter t s) (t .checks) c),
+  )
+
+  pub true-bad : (s : ℕ) → Bad rules t s → bad rules t s ≡ true
+  unfolding bad Bad
+  true-bad s b =
+      and-intro (valid rules (t .main) s) _ (true-valid rules (t .main) s (b .1))
+      (not-so (consistent (t .checks) (diskAfter t s)) (λ e. b .2 (consistent-true (diskAfter t s) (t .checks) e)))
+
+  pub testHolds-true : testHolds rules t ≡ true → TestHolds rules t
+  unfolding testHolds TestHolds bad
+  testHolds-true e s l v = go (consistent (t .checks) (diskAfter t s)) refl
+    where
+      n : bad rules t s ≡ false
+      n = not-true _ (allBelow-true (λ x. not (bad rules t x)) (schedules t) e s l)
+
+      go : (b : Bool) → consistent (t .checks) (diskAfter t s) ≡ b → Consistent (t .checks) (diskAfter t s)
+      go true q = consistent-true (diskAfter t s) (t .checks) q
+      go false q = absurd (false≢true (sym n ∙ and-intro (valid rules (t .main) s) _ (true-valid rules (t .main) s v) (rw q)))
+
+  pub true-testHolds : TestHolds rules t → testHolds rules t ≡ true
+  unfolding testHolds TestHolds
+  true-testHolds h =
+      allBelow-intro (λ x. not (bad rules t x)) (schedules t)
+      (λ s l. not-so (bad rules t s) (λ e. let b = bad-true s l e in unfold Bad in b .2 (h s l (b .1))))
+
+  -- a test holds, or a valid and inconsistent schedule shows that it does not
+  pub holds-or-bad : TestHolds rules t ⊎ ((s : ℕ) × Bad rules t s)
+  holds-or-bad = go (anyBelow (bad rules t) (schedules t)) refl
+    where
+      go : (b : Bool) → anyBelow (bad rules t) (schedules t) ≡ b → TestHolds rules t ⊎ ((s : ℕ) × Bad rules t s)
+      go true e = let w = anyBelow-true (bad rules t) (schedules t) e in inr (w .0, bad-true (w .0) (w .1) (w .2))
+      go false e =
+          inl (testHolds-true (unfold testHolds in allBelow-intro (λ x. not (bad rules t x)) (schedules t) (λ s l. rw (anyBelow-false (bad rules t) (schedules t) e s l))))
+
+  pub bad-fails : (s : ℕ) → Bad rules t s → TestHolds rules t → ⊥
+  unfolding Bad TestHolds
+  bad-fails s b h = b .2 (h s (b .0) (b .1))
+
+-- a count is 0 exactly if nothing below the bound passes
+pub count-none : (p : ℕ → Bool) (n : ℕ) → countBelow p n ≡ 0 → (s : ℕ) → s < n → p s ≡ false
+unfolding countBelow
+count-none p zero e s l = absurd (omega arith)
+count-none p (suc n) e s l = ⊎-elim
+    (λ (q : s ≡ n). rw q (here (p n) (countBelow p n) e))
+    (λ (q : s < n). count-none p n (there (p n) (countBelow p n) e) s q)
+    (below-suc s n l)
+  where
+    here : (b : Bool) (k : ℕ) → cond b 1 0 + k ≡ 0 → b ≡ false
+    here true k z = absurd (omega arith)
+    here false k z = refl
+
+    there : (b : Bool) (k : ℕ) → cond b 1 0 + k ≡ 0 → k ≡ 0
+    there true k z = absurd (omega arith)
+    there false k z = omega arith
+
+pub none-count : (p : ℕ → Bool) (n : ℕ) → ((s : ℕ) → s < n → p s ≡ false) → countBelow p n ≡ 0
+unfolding countBelow
+none-count p zero h = refl
+none-count p (suc n) h = rw (h n (omega arith), none-count p n (λ s l. h s (omega arith)))
+
+-- no bad schedule is counted exactly if the test holds
+pub count-holds : (rules : List Rule) (t : Test) → badCount rules t ≡ 0 → TestHolds rules t
+unfolding badCount
+count-holds rules t e =
+    testHolds-true rules t (unfold testHolds in allBelow-intro (λ x. not (bad rules t x)) (schedules t) (λ s l. rw (count-none (bad rules t) (schedules t) e s l)))
+
+pub holds-count : (rules : List Rule) (t : Test) → TestHolds rules t → badCount rules t ≡ 0
+unfolding badCount
+holds-count rules t h =
+    none-count (bad rules t) (schedules t)
+    (λ s l. not-true _ (allBelow-true (λ x. not (bad rules t x)) (schedules t) (unfold testHolds in true-testHolds rules t h) s l))

@@ -1,0 +1,41 @@
+-- The three checks of a disk.
+use Prim.Native.Nat.{ℕ, zero, suc, _+_, _-_, _≤_, _<_}
+use mathlib.Core.Path.{_≡_}
+use mathlib.Core.Bool.{Bool, true, false, not, _&&_, _||_}
+use mathlib.Core.List.{List, List·Memᴰ}
+use lib.Dec.{eqb, leb}
+use Rattle.relation.specs.Lists.{all, allBelow}
+use Rattle.model.specs.declared.Check.{Check}
+use Rattle.model.specs.declared.Check.the-variants.{Range, Pair, Pointer}
+use Rattle.model.specs.Disk.{empty, firstOf, secondOf, blockAt}
+
+-- *range*: every block from head up to tail - 1 is non-empty; if head < tail and tail > 256 it fails
+unfoldable pub RangeHolds : List ℕ → ℕ → ℕ → Type 0
+RangeHolds disk head tail = ((k : ℕ) → head ≤ k → k < tail → empty (blockAt disk k) ≡ false) × (head < tail → tail ≤ 256)
+
+-- a check holds of a disk.
+-- *range* at a: of block a = (head, tail). *pair*: if block a equals v, block b equals w.
+-- *pointer* at a: if block a is non-empty, the block at its second number is non-empty; above 255 it fails
+unfoldable pub Holds : List ℕ → Check → Type 0
+Holds disk (Range a) = RangeHolds disk (firstOf (blockAt disk a)) (secondOf (blockAt disk a))
+Holds disk (Pair a v b w) = blockAt disk a ≡ v → blockAt disk b ≡ w
+Holds disk (Pointer a) =
+    empty (blockAt disk a) ≡ false → (secondOf (blockAt disk a) ≤ 255) × (empty (blockAt disk (secondOf (blockAt disk a))) ≡ false)
+
+-- *consistent*: all checks of the test hold
+unfoldable pub Consistent : List Check → List ℕ → Type 0
+Consistent checks disk = (c : Check) → List·Memᴰ c checks → Holds disk c
+
+-- ---- the same, computed
+
+unfoldable pub rangeHolds : List ℕ → ℕ → ℕ → Bool
+rangeHolds disk head tail = leb tail head || leb tail 256 && allBelow (λ k. not (empty (blockAt disk (head + k)))) (tail - head)
+
+unfoldable pub holds : List ℕ → Check → Bool
+holds disk (Range a) = rangeHolds disk (firstOf (blockAt disk a)) (secondOf (blockAt disk a))
+holds disk (Pair a v b w) = not (eqb (blockAt disk a) v) || eqb (blockAt disk b) w
+holds disk (Pointer a) =
+    empty (blockAt disk a) || leb (secondOf (blockAt disk a)) 255 && not (empty (blockAt disk (secondOf (blockAt disk a))))
+
+unfoldable pub consistent : List Check → List ℕ → Bool
+consistent checks disk = all (holds disk) checks

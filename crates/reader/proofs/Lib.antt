@@ -1,0 +1,7 @@
+pub mod FaultLaws
+pub mod FieldLaws
+pub mod LimitLaws
+pub mod ReadLaws
+pub mod TellsLaws
+pub mod PrefixLaws
+pub mod CallerLaws

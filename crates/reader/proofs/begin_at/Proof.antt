@@ -1,0 +1,25 @@
+use Rattle.reader.specs.Scan.{testFrom}
+use Rattle.relation.proofs.Cases.{cases}
+use borrow.Author.Needs.{needs}
+use Rattle.reader.proofs.begin_at.Statement.{statement}
+use Rattle.reader.proofs.begin_at.Tie as tie
+use Rattle.reader.proofs.begin_at.Reads as reads
+use Rattle.reader.proofs.begin_at.Lts as lts
+
+-- src/lib.rt:260:9
+returns : tie.Need-returns
+unfolding testFrom
+returns c = search cases depth 9
+
+-- src/lib.rt:263:9
+returns-2 : tie.Need-returns-2
+unfolding testFrom
+returns-2 c = search cases depth 9
+
+-- src/lib.rt:256:1
+returns-3 : tie.Need-returns-3
+unfolding testFrom
+returns-3 c = search cases depth 9
+
+pub begin-at-spec : {M : Type 1} → statement M
+begin-at-spec = tie.close (tie.spec returns returns-2 returns-3)

@@ -1,0 +1,20 @@
+use Rattle.reader.specs.Scan.{ended}
+use Rattle.relation.proofs.Cases.{cases}
+use borrow.Author.Needs.{needs}
+use Rattle.reader.proofs.end_scan.Statement.{statement}
+use Rattle.reader.proofs.end_scan.Tie as tie
+use Rattle.reader.proofs.end_scan.Reads as reads
+use Rattle.reader.proofs.end_scan.Lts as lts
+
+-- src/lib.rt:305:9
+returns : tie.Need-returns
+unfolding ended
+returns c = search cases depth 9
+
+-- src/lib.rt:299:1
+returns-2 : tie.Need-returns-2
+unfolding ended
+returns-2 c = search cases depth 9
+
+pub end-scan-spec : {M : Type 1} → statement M
+end-scan-spec = tie.close (tie.spec returns returns-2)

@@ -1,0 +1,38 @@
+use Rattle.reader.specs.File.{checkOf}
+use borrow.Author.Needs.{needs}
+use Rattle.reader.proofs.read_pair.Statement.{statement}
+use Rattle.reader.proofs.read_pair.Tie as tie
+use Rattle.reader.proofs.read_pair.Reads as reads
+use Rattle.reader.proofs.read_pair.Lts as lts
+use Rattle.reader.proofs.word_at.Reads as word-at-reads
+
+-- src/lib.rt:397:12
+shared-slice-read-t3 : tie.Need-shared-slice-read-t3
+shared-slice-read-t3 c = search needs
+
+-- src/lib.rt:398:12
+word-at-requires : tie.Need-word-at-requires
+word-at-requires c κs = search needs
+
+-- src/lib.rt:399:12
+shared-slice-read-t6 : tie.Need-shared-slice-read-t6
+shared-slice-read-t6 c = search needs
+
+-- src/lib.rt:400:12
+word-at-requires-2 : tie.Need-word-at-requires-2
+word-at-requires-2 c κs = search needs
+
+-- src/lib.rt:392:1
+returns : tie.Need-returns
+unfolding checkOf
+returns c = rw (c .before .before .word-at .ensures, c .word-at2 .ensures)
+
+pub read-pair-spec : {M : Type 1} → statement M
+read-pair-spec =
+    tie.close
+    (tie.spec
+    shared-slice-read-t3
+    word-at-requires
+    shared-slice-read-t6
+    word-at-requires-2
+    returns)

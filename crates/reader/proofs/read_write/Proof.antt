@@ -1,0 +1,38 @@
+use Rattle.reader.specs.File.{writeOf}
+use borrow.Author.Needs.{needs}
+use Rattle.reader.proofs.read_write.Statement.{statement}
+use Rattle.reader.proofs.read_write.Tie as tie
+use Rattle.reader.proofs.read_write.Reads as reads
+use Rattle.reader.proofs.read_write.Lts as lts
+use Rattle.reader.proofs.word_at.Reads as word-at-reads
+
+-- src/lib.rt:385:18
+shared-slice-read-t3 : tie.Need-shared-slice-read-t3
+shared-slice-read-t3 c = search needs
+
+-- src/lib.rt:386:15
+shared-slice-read-t5 : tie.Need-shared-slice-read-t5
+shared-slice-read-t5 c = search needs
+
+-- src/lib.rt:387:16
+word-at-requires : tie.Need-word-at-requires
+word-at-requires c κs = search needs
+
+-- src/lib.rt:388:16
+word-at-requires-2 : tie.Need-word-at-requires-2
+word-at-requires-2 c κs = search needs
+
+-- src/lib.rt:380:1
+returns : tie.Need-returns
+unfolding writeOf
+returns c = rw (c .before .word-at .ensures, c .word-at2 .ensures)
+
+pub read-write-spec : {M : Type 1} → statement M
+read-write-spec =
+    tie.close
+    (tie.spec
+    shared-slice-read-t3
+    shared-slice-read-t5
+    word-at-requires
+    word-at-requires-2
+    returns)

@@ -1,0 +1,47 @@
+use Rattle.reader.proofs.FieldLaws.{fields}
+use borrow.Author.Needs.{needs}
+use Rattle.reader.proofs.word_at.Statement.{statement}
+use Rattle.reader.proofs.word_at.Tie as tie
+use Rattle.reader.proofs.word_at.Reads as reads
+use Rattle.reader.proofs.word_at.Lts as lts
+use Rattle.reader.proofs.half_at.Reads as half-at-reads
+
+-- src/lib.rt:365:6
+half-at-requires : tie.Need-half-at-requires
+half-at-requires c κs = search needs
+
+-- src/lib.rt:365:6
+mul-result : tie.Need-mul-result
+mul-result c = search needs
+
+-- src/lib.rt:365:41
+add-half-at : tie.Need-add-half-at
+add-half-at c = search needs
+
+-- src/lib.rt:365:30
+half-at-requires-2 : tie.Need-half-at-requires-2
+half-at-requires-2 c κs = search needs
+
+-- src/lib.rt:365:6
+add-result : tie.Need-add-result
+add-result c = search needs
+
+-- src/lib.rt:365:5
+cast-result : tie.Need-cast-result
+cast-result c = search needs
+
+-- src/lib.rt:361:1
+returns : tie.Need-returns
+returns c = search fields
+
+pub word-at-spec : {M : Type 1} → statement M
+word-at-spec =
+    tie.close
+    (tie.spec
+    half-at-requires
+    mul-result
+    add-half-at
+    half-at-requires-2
+    add-result
+    cast-result
+    returns)

@@ -1,0 +1,37 @@
+-- Numbers, blocks and writes as bytes, big-endian.
+use Prim.Native.Nat.{ℕ, _+_, _*_, _/_, _%_}
+use mathlib.Core.List.{List, [], _∷_, _++_}
+use lib.ListN.{getD}
+use Rattle.relation.specs.Lists.{tabulate}
+use Rattle.model.specs.declared.Write.{Write}
+use Rattle.model.specs.declared.Rule.{Rule}
+
+abbrev pub byte : List ℕ → ℕ → ℕ
+byte s i = getD s i 0
+
+-- the number of two bytes, and of four
+unfoldable pub half : List ℕ → ℕ → ℕ
+half s i = byte s i * 256 + byte s (i + 1)
+
+unfoldable pub word : List ℕ → ℕ → ℕ
+word s i = half s i * 65536 + half s (i + 2)
+
+-- a number in four bytes
+abbrev pub bytes4 : ℕ → List ℕ
+bytes4 n = n / 16777216 % 256 ∷ n / 65536 % 256 ∷ n / 256 % 256 ∷ n % 256 ∷ []
+
+-- a disk of 1,024 bytes: block a at 4a
+unfoldable pub blockIn : List ℕ → ℕ → ℕ
+blockIn disk a = word disk (4 * a)
+
+-- its 256 blocks
+unfoldable pub blocksOf : List ℕ → List ℕ
+blocksOf disk = tabulate (blockIn disk) 256
+
+-- tag 02's body: address 1, name 1, epoch 4, first 2, second 2
+unfoldable pub writeBytes : Write → List ℕ
+writeBytes w = w .address ∷ w .name ∷ (bytes4 (w .epoch) ++ bytes4 (w .block))
+
+-- tag 03's: name, predicate, name
+unfoldable pub ruleBytes : Rule → List ℕ
+ruleBytes r = r .first ∷ r .predicate ∷ r .second ∷ []

@@ -1,0 +1,451 @@
+// The reader of test files. A file is fields: a tag, a two-byte length and a body.
+use model::Check;
+use model::Rule;
+use model::Write;
+ghost use mathlib.Core.Path.{_≡_};
+ghost use mathlib.Core.Bool.{true};
+ghost use Prim.Native.Nat.{ℕ, _+_, _*_, _<_, _≤_};
+ghost use lib.Dec.{eqb, ltb, leb};
+ghost use lib.ListN.{length, getD};
+ghost use Rattle.reader.specs.Scan.{counted, testFrom, found, advanced, ended, scanOf, ruleField, writeField, checkField};
+ghost use Rattle.reader.specs.Limits.{Within};
+ghost use Rattle.reader.specs.Held.{Tells};
+ghost use Rattle.reader.specs.Bytes.{half, word};
+ghost use Rattle.reader.specs.File.{isTag, isCheck, bodyLength, outOfOrder, overLimit, overTest, ruleFault, bodyFault, faultOf, ruleOf, writeOf, checkOf, fieldEnd, readOf};
+
+// How much of a file has been read: its rules, its finished tests, whether a test has begun,
+// and that test's fields.
+pub struct Counts {
+    pub rules: usize,
+    pub tests: usize,
+    pub begun: bool,
+    pub initial: usize,
+    pub main: usize,
+    pub checks: usize,
+}
+
+// Where a test stands: the offset of its first field, and how many fields of each kind it has.
+pub struct Extent {
+    pub at: usize,
+    pub initial: usize,
+    pub main: usize,
+    pub checks: usize,
+}
+
+// A scan in progress: the counts, where the test in hand begins, and the wanted test once it is read.
+pub struct ScanState {
+    pub counts: Counts,
+    pub from: usize,
+    pub found: Extent,
+}
+
+// What a scan finds: the counts of rules and tests and where the wanted test stands, or a refusal.
+pub enum Scan {
+    Accepted {
+        rules: usize,
+        tests: usize,
+        found: Extent,
+    },
+    Refused {
+        number: u8,
+        place: usize,
+    },
+}
+
+fn wide(x: u8) -> usize
+    ensures { λ r. ⌜ (r ≡ x) × (r < 256) ⌝ }
+{
+    x as usize
+}
+
+// Two bytes, big-endian.
+fn half_at(s: &[u8], i: usize) -> usize
+    requires { ⌜ i + 1 < length (now s) ⌝ }
+    ensures { λ r. ⌜ (r ≡ half (now (s .entry)) i) × (r < 65536) ⌝ }
+{
+    wide(s[i]) * 256 + wide(s[i + 1])
+}
+
+fn is_tag(tag: u8) -> bool
+    ensures { λ r. ⌜ r ≡ isTag tag ⌝ }
+{
+    if tag < 1 {
+        return false;
+    }
+    tag <= 7
+}
+
+fn is_check(tag: u8) -> bool
+    ensures { λ r. ⌜ r ≡ isCheck tag ⌝ }
+{
+    if tag < 4 {
+        return false;
+    }
+    tag <= 6
+}
+
+// How long the body of a field with this tag is.
+pub fn body_length(tag: u8) -> usize
+    ensures { λ r. ⌜ (r ≡ bodyLength tag) × (r ≤ 10) ⌝ }
+{
+    if tag == 3 {
+        return 3;
+    }
+    if tag == 4 {
+        return 1;
+    }
+    if tag == 6 {
+        return 1;
+    }
+    if tag == 7 {
+        return 0;
+    }
+    10
+}
+
+fn out_of_order(tag: u8, c: Counts) -> bool
+    ensures { λ r. ⌜ r ≡ outOfOrder tag c ⌝ }
+{
+    if tag == 3 {
+        if c.begun {
+            return true;
+        }
+        return 0 < c.tests;
+    }
+    if tag == 1 {
+        if 0 < c.main {
+            return true;
+        }
+        return 0 < c.checks;
+    }
+    if tag == 2 {
+        return 0 < c.checks;
+    }
+    false
+}
+
+fn over_test(tag: u8, c: Counts) -> bool
+    ensures { λ r. ⌜ r ≡ overTest tag c ⌝ }
+{
+    if tag == 1 {
+        return 64 <= c.initial;
+    }
+    if tag == 2 {
+        return 12 <= c.main;
+    }
+    if is_check(tag) {
+        return 16 <= c.checks;
+    }
+    false
+}
+
+fn over_limit(tag: u8, c: Counts) -> bool
+    ensures { λ r. ⌜ r ≡ overLimit tag c ⌝ }
+{
+    if tag == 3 {
+        return 32 <= c.rules;
+    }
+    if c.begun {
+        return over_test(tag, c);
+    }
+    16 <= c.tests
+}
+
+// The reader of a rule's body: the refusal of an unknown predicate.
+fn rule_fault(body: &[u8]) -> u8
+    requires { ⌜ length (now body) ≡ 3 ⌝ }
+    ensures { λ r. ⌜ r ≡ ruleFault (now (body .entry)) ⌝ }
+{
+    if 2 < body[1] {
+        return 5;
+    }
+    0
+}
+
+fn body_fault(tag: u8, body: &[u8]) -> u8
+    requires { ⌜ length (now body) ≡ bodyLength tag ⌝ }
+    ensures { λ r. ⌜ r ≡ bodyFault tag (now (body .entry)) ⌝ }
+{
+    if tag == 3 {
+        return rule_fault(body);
+    }
+    0
+}
+
+// The number of the refusal that the field at `at` meets, or 0.
+fn fault(s: &[u8], at: usize, c: Counts) -> u8
+    requires { ⌜ at < length (now s) ⌝ }
+    ensures { λ r. ⌜ r ≡ faultOf (now (s .entry)) at c ⌝ }
+{
+    let left = s.len() - at;
+    if left < 3 {
+        return 1;
+    }
+    let tag = s[at];
+    if !is_tag(tag) {
+        return 2;
+    }
+    if out_of_order(tag, c) {
+        return 4;
+    }
+    if over_limit(tag, c) {
+        return 6;
+    }
+    let n = body_length(tag);
+    if half_at(s, at + 1) != n {
+        return 3;
+    }
+    let b = at + 3;
+    if s.len() - b < n {
+        return 1;
+    }
+    let e = b + n;
+    body_fault(tag, &s[b..e])
+}
+
+// The counts after one more field.
+fn count_field(tag: u8, c: Counts) -> Counts
+    requires { ⌜ Within c ⌝ }
+    ensures { λ r. ⌜ r ≡ counted tag c ⌝ }
+{
+    if tag == 3 {
+        return Counts {
+            rules: c.rules + 1,
+            tests: c.tests,
+            begun: c.begun,
+            initial: c.initial,
+            main: c.main,
+            checks: c.checks,
+        };
+    }
+    if tag == 1 {
+        return Counts {
+            rules: c.rules,
+            tests: c.tests,
+            begun: true,
+            initial: c.initial + 1,
+            main: c.main,
+            checks: c.checks,
+        };
+    }
+    if tag == 2 {
+        return Counts {
+            rules: c.rules,
+            tests: c.tests,
+            begun: true,
+            initial: c.initial,
+            main: c.main + 1,
+            checks: c.checks,
+        };
+    }
+    if tag == 7 {
+        return Counts {
+            rules: c.rules,
+            tests: c.tests + 1,
+            begun: false,
+            initial: 0,
+            main: 0,
+            checks: 0,
+        };
+    }
+    Counts {
+        rules: c.rules,
+        tests: c.tests,
+        begun: true,
+        initial: c.initial,
+        main: c.main,
+        checks: c.checks + 1,
+    }
+}
+
+fn begin_at(tag: u8, from: usize, next: usize) -> usize
+    ensures { λ r. ⌜ r ≡ testFrom tag from next ⌝ }
+{
+    if tag == 3 {
+        return next;
+    }
+    if tag == 7 {
+        return next;
+    }
+    from
+}
+
+fn find_test(tag: u8, wanted: usize, st: ScanState) -> Extent
+    ensures { λ r. ⌜ r ≡ found tag wanted st ⌝ }
+{
+    let c = st.counts;
+    let before = st.found;
+    if tag == 7 {
+        if c.tests == wanted {
+            return Extent {
+                at: st.from,
+                initial: c.initial,
+                main: c.main,
+                checks: c.checks,
+            };
+        }
+        return before;
+    }
+    before
+}
+
+fn advance(tag: u8, next: usize, wanted: usize, st: ScanState) -> ScanState
+    requires { ⌜ Within (st .counts) ⌝ }
+    ensures { λ r. ⌜ r ≡ advanced tag next wanted st ⌝ }
+{
+    let c = st.counts;
+    ScanState {
+        counts: count_field(tag, c),
+        from: begin_at(tag, st.from, next),
+        found: find_test(tag, wanted, st),
+    }
+}
+
+fn end_scan(length: usize, st: ScanState) -> Scan
+    ensures { λ r. ⌜ r ≡ ended length st ⌝ }
+{
+    let c = st.counts;
+    let found = st.found;
+    if c.begun {
+        return Scan::Refused {
+            number: 7,
+            place: length,
+        };
+    }
+    Scan::Accepted {
+        rules: c.rules,
+        tests: c.tests,
+        found,
+    }
+}
+
+// Reads a file: how many rules and tests it holds and where test `wanted`, counted from 0, stands;
+// or the refusal.
+pub fn read(s: &[u8], wanted: usize) -> Scan
+    ensures { λ r. ⌜ (r ≡ scanOf (now (s .entry)) wanted) × Tells (now (s .entry)) wanted (readOf (now (s .entry))) r ⌝ }
+{
+    let mut st = ScanState {
+        counts: Counts {
+            rules: 0,
+            tests: 0,
+            begun: false,
+            initial: 0,
+            main: 0,
+            checks: 0,
+        },
+        from: 0,
+        found: Extent {
+            at: 0,
+            initial: 0,
+            main: 0,
+            checks: 0,
+        },
+    };
+    let mut at = 0;
+    while at < s.len() {
+        let c = st.counts;
+        let number = fault(s, at, c);
+        if number != 0 {
+            return Scan::Refused { number, place: at };
+        }
+        let tag = s[at];
+        let next = at + 3 + body_length(tag);
+        st = advance(tag, next, wanted, st);
+        at = next;
+    }
+    end_scan(s.len(), st)
+}
+
+// Four bytes, big-endian.
+fn word_at(s: &[u8], i: usize) -> u32
+    requires { ⌜ i + 3 < length (now s) ⌝ }
+    ensures { λ r. ⌜ r ≡ word (now (s .entry)) i ⌝ }
+{
+    (half_at(s, i) * 65536 + half_at(s, i + 2)) as u32
+}
+
+// The readers of a rule's, a write's and a check's body.
+fn read_rule(body: &[u8]) -> Rule
+    requires { ⌜ length (now body) ≡ 3 ⌝ }
+    ensures { λ r. ⌜ r ≡ ruleOf (now (body .entry)) ⌝ }
+{
+    Rule {
+        first: body[0],
+        predicate: body[1],
+        second: body[2],
+    }
+}
+
+fn read_write(body: &[u8]) -> Write
+    requires { ⌜ length (now body) ≡ 10 ⌝ }
+    ensures { λ r. ⌜ r ≡ writeOf (now (body .entry)) ⌝ }
+{
+    Write {
+        address: body[0],
+        name: body[1],
+        epoch: word_at(body, 2),
+        block: word_at(body, 6),
+    }
+}
+
+fn read_pair(body: &[u8]) -> Check
+    requires { ⌜ length (now body) ≡ 10 ⌝ }
+    ensures { λ r. ⌜ r ≡ checkOf 5 (now (body .entry)) ⌝ }
+{
+    Check::Pair {
+        a: body[0],
+        v: word_at(body, 1),
+        b: body[5],
+        w: word_at(body, 6),
+    }
+}
+
+fn read_check(tag: u8, body: &[u8]) -> Check
+    requires { ⌜ (length (now body) ≡ bodyLength tag) × (isCheck tag ≡ true) ⌝ }
+    ensures { λ r. ⌜ r ≡ checkOf tag (now (body .entry)) ⌝ }
+{
+    if tag == 4 {
+        return Check::Range(body[0]);
+    }
+    if tag == 5 {
+        return read_pair(body);
+    }
+    Check::Pointer(body[0])
+}
+
+// The rule, the write and the check whose field stands at `at`.
+pub fn rule_at(s: &[u8], at: usize) -> Rule
+    requires { ⌜ at + 6 ≤ length (now s) ⌝ }
+    ensures { λ r. ⌜ r ≡ ruleField (now (s .entry)) at ⌝ }
+{
+    let b = at + 3;
+    let e = at + 6;
+    read_rule(&s[b..e])
+}
+
+pub fn write_at(s: &[u8], at: usize) -> Write
+    requires { ⌜ at + 13 ≤ length (now s) ⌝ }
+    ensures { λ r. ⌜ r ≡ writeField (now (s .entry)) at ⌝ }
+{
+    let b = at + 3;
+    let e = at + 13;
+    read_write(&s[b..e])
+}
+
+// Where the field at `at` ends.
+pub fn end_of(s: &[u8], at: usize) -> usize
+    requires { ⌜ (at < length (now s)) × (fieldEnd (now s) at ≤ length (now s)) ⌝ }
+    ensures { λ r. ⌜ r ≡ fieldEnd (now (s .entry)) at ⌝ }
+{
+    at + 3 + body_length(s[at])
+}
+
+pub fn check_at(s: &[u8], at: usize) -> Check
+    requires { ⌜ (at < length (now s)) × ((fieldEnd (now s) at ≤ length (now s)) × (isCheck (getD (now s) at 0) ≡ true)) ⌝ }
+    ensures { λ r. ⌜ r ≡ checkField (now (s .entry)) at ⌝ }
+{
+    let tag = s[at];
+    let b = at + 3;
+    let e = b + body_length(tag);
+    read_check(tag, &s[b..e])
+}

@@ -1,0 +1,6 @@
+pub mod ListLaws
+pub mod BitLaws
+pub mod TransitiveLaws
+pub mod FiniteLaws
+pub mod Steps
+pub mod Cases

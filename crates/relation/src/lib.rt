@@ -1,0 +1,73 @@
+// Sets of numbers below 64 as masks, and relations on such numbers as tables of 64 rows.
+ghost use mathlib.Core.Path.{_≡_};
+ghost use Prim.Native.Nat.{_<_, _≤_};
+ghost use lib.ListN.{length};
+ghost use Rattle.relation.specs.Bits.{bit, withBit};
+ghost use Rattle.relation.specs.Finite.{joined, round, closed, loops};
+
+// Whether bit i of mask is set.
+pub fn has_bit(mask: u64, i: usize) -> bool
+    requires { ⌜ i < 64 ⌝ }
+    ensures { λ r. ⌜ r ≡ bit mask i ⌝ }
+{
+    (mask >> i) & 1 == 1
+}
+
+// mask with bit i set.
+pub fn with_bit(mask: u64, i: usize) -> u64
+    requires { ⌜ i < 64 ⌝ }
+    ensures { λ r. ⌜ r ≡ withBit mask i ⌝ }
+{
+    mask | (1 << i)
+}
+
+// row, with what k reaches where row reaches k.
+fn join(row: u64, through: u64, k: usize) -> u64
+    requires { ⌜ k < 64 ⌝ }
+    ensures { λ r. ⌜ r ≡ joined k through row ⌝ }
+{
+    if has_bit(row, k) {
+        return row | through;
+    }
+    row
+}
+
+// Each row that reaches k reaches all that k reaches.
+fn join_all(rows: &mut [u64], k: usize)
+    requires { ⌜ (k < 64) × (length (now rows) ≡ 64) ⌝ }
+    ensures { λ _. ⌜ now (rows .exit) ≡ round k (now (rows .entry)) ⌝ }
+{
+    let through = rows[k];
+    let mut i: usize = 0;
+    while i < 64 {
+        rows[i] = join(rows[i], through, k);
+        i += 1;
+    }
+}
+
+// Warshall's closure of the relation of the first n rows, in place.
+pub fn close(rows: &mut [u64; 64], n: usize)
+    requires { ⌜ n ≤ 64 ⌝ }
+    ensures { λ _. ⌜ now (rows .exit) ≡ closed n (now (rows .entry)) ⌝ }
+{
+    let mut k: usize = 0;
+    while k < n {
+        join_all(rows, k);
+        k += 1;
+    }
+}
+
+// Whether some number below n reaches itself in the table.
+pub fn has_loop(rows: &[u64; 64], n: usize) -> bool
+    requires { ⌜ n ≤ 64 ⌝ }
+    ensures { λ r. ⌜ r ≡ loops (now (rows .entry)) n ⌝ }
+{
+    let mut i: usize = 0;
+    while i < n {
+        if has_bit(rows[i], i) {
+            return true;
+        }
+        i += 1;
+    }
+    false
+}

@@ -1,0 +1,4 @@
+pub mod EpochLaws
+pub mod CyclicLaws
+pub mod Examples
+pub mod Steps

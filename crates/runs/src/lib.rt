@@ -1,0 +1,1 @@
+// Whole runs of the cache: definitions and theorems, no functions.

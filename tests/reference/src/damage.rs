@@ -1,0 +1,495 @@
+// Damaged files: for each refusal of reading, files made so that it is known beforehand which
+// refusal they get, and further damage whose effect is not known beforehand.
+//
+// A damaged field may have further damage that stands later in the document's list, and anything
+// may follow it: neither changes the refusal.
+
+use crate::file::{body_length, bytes_of, Field, File, Test};
+use crate::file::{END, INITIAL, LONGEST, MAIN, PAIR, POINTER, RANGE, RULE};
+use crate::file::{MOST_CHECKS, MOST_INITIAL, MOST_MAIN, MOST_RULES, MOST_TESTS};
+use crate::generate::{self, Palette};
+use crate::random::Random;
+use crate::refusal::{self, Refusal};
+
+/// A file with the refusal that it must get.
+#[derive(Clone, Debug)]
+pub struct Damaged {
+    pub bytes: Vec<u8>,
+    pub refusal: Refusal,
+}
+
+const TEST_TAGS: [u8; 6] = [INITIAL, MAIN, RANGE, PAIR, POINTER, END];
+const CHECK_TAGS: [u8; 3] = [RANGE, PAIR, POINTER];
+
+/// A field with a right length and any body; of an unknown tag, with no body.
+pub fn field(random: &mut Random, tag: u8) -> Field {
+    let mut body = random.bytes(body_length(tag).unwrap_or(0));
+    if tag == RULE {
+        body[1] %= 3;
+    }
+    Field::new(tag, body)
+}
+
+/// A file with at least one field that has this property, and the index of such a field.
+fn file_with(random: &mut Random, has: impl Fn(&Field) -> bool) -> (Vec<Field>, usize) {
+    loop {
+        let file = if random.one_in(20) {
+            generate::file(random)
+        } else {
+            generate::small_file(random)
+        };
+        let fields = file.fields();
+        let found: Vec<usize> = (0..fields.len()).filter(|&i| has(&fields[i])).collect();
+        if !found.is_empty() {
+            let index = random.pick(&found);
+            return (fields, index);
+        }
+    }
+}
+
+/// The damaged field after `before`, and after it the rest, other bytes, or nothing.
+fn assemble(
+    random: &mut Random,
+    number: u32,
+    before: &[Field],
+    damaged: &Field,
+    after: &[Field],
+) -> Damaged {
+    let mut bytes = bytes_of(before);
+    let place = bytes.len();
+    damaged.append_to(&mut bytes);
+    match random.below(4) {
+        0 => {}
+        1 => {
+            let length = random.below(30);
+            bytes.extend(random.bytes(length));
+        }
+        _ => bytes.extend(bytes_of(after)),
+    }
+    Damaged {
+        bytes,
+        refusal: refusal::at(number, place),
+    }
+}
+
+/// Likewise, where the damaged field may have any of the damage listed after 6.
+fn assemble_with_more(
+    random: &mut Random,
+    number: u32,
+    before: &[Field],
+    damaged: &Field,
+    after: &[Field],
+) -> Damaged {
+    let mut damaged = damaged.clone();
+    if random.one_in(4) && damaged.tag == RULE {
+        damaged.body[1] = random.byte();
+    }
+    if random.one_in(4) {
+        damaged.length = any_length(random);
+    }
+    if random.one_in(4) {
+        let length = random.below(damaged.body.len() + 1);
+        damaged.body.truncate(length);
+        return assemble(random, number, before, &damaged, &[]);
+    }
+    assemble(random, number, before, &damaged, after)
+}
+
+fn any_length(random: &mut Random) -> u16 {
+    const LENGTHS: [u16; 12] = [0, 1, 2, 3, 4, 9, 10, 11, 255, 256, 65534, 65535];
+    if random.one_in(4) {
+        random.number() as u16
+    } else {
+        random.pick(&LENGTHS)
+    }
+}
+
+/// 1, one or two bytes left.
+pub fn one_or_two_left(random: &mut Random) -> Damaged {
+    let (fields, k) = file_with(random, |_| true);
+    let k = if random.one_in(4) { fields.len() } else { k };
+    let mut bytes = bytes_of(&fields[..k]);
+    let place = bytes.len();
+    let left = random.between(1, 2);
+    if k == fields.len() || random.one_in(2) {
+        bytes.extend(random.bytes(left));
+    } else {
+        let mut next = Vec::new();
+        fields[k].append_to(&mut next);
+        bytes.extend(&next[..left]);
+    }
+    Damaged {
+        bytes,
+        refusal: refusal::at(refusal::CUT, place),
+    }
+}
+
+/// 1, body cut.
+pub fn body_cut(random: &mut Random) -> Damaged {
+    let (fields, k) = file_with(random, |f| !f.body.is_empty());
+    let mut cut = fields[k].clone();
+    if cut.tag == RULE && random.one_in(2) {
+        cut.body[1] = random.byte();
+    }
+    let length = random.below(cut.body.len());
+    cut.body.truncate(length);
+    let mut bytes = bytes_of(&fields[..k]);
+    let place = bytes.len();
+    cut.append_to(&mut bytes);
+    Damaged {
+        bytes,
+        refusal: refusal::at(refusal::CUT, place),
+    }
+}
+
+/// 2, unknown tag.
+pub fn unknown_tag(random: &mut Random) -> Damaged {
+    let (fields, k) = file_with(random, |_| true);
+    let mut damaged = fields[k].clone();
+    damaged.tag = match random.below(4) {
+        0 => 0,
+        1 => 8,
+        2 => 255,
+        _ => random.between(8, 255) as u8,
+    };
+    assemble_with_more(
+        random,
+        refusal::UNKNOWN_TAG,
+        &fields[..k],
+        &damaged,
+        &fields[k + 1..],
+    )
+}
+
+/// 3, wrong length.
+pub fn wrong_length(random: &mut Random) -> Damaged {
+    let (fields, k) = file_with(random, |_| true);
+    let mut damaged = fields[k].clone();
+    let right = damaged.length;
+    while damaged.length == right {
+        damaged.length = match random.below(4) {
+            0 => right.wrapping_add(1),
+            1 => right.wrapping_sub(1),
+            2 => right ^ 1 << random.below(16),
+            _ => any_length(random),
+        };
+    }
+    if damaged.tag == RULE && random.one_in(4) {
+        damaged.body[1] = random.byte();
+    }
+    match random.below(4) {
+        0 => {
+            let length = random.below(damaged.body.len() + 1);
+            damaged.body.truncate(length);
+            assemble(random, refusal::WRONG_LENGTH, &fields[..k], &damaged, &[])
+        }
+        1 if damaged.length < 100 => {
+            damaged.body = random.bytes(damaged.length as usize);
+            assemble(
+                random,
+                refusal::WRONG_LENGTH,
+                &fields[..k],
+                &damaged,
+                &fields[k + 1..],
+            )
+        }
+        _ => assemble(
+            random,
+            refusal::WRONG_LENGTH,
+            &fields[..k],
+            &damaged,
+            &fields[k + 1..],
+        ),
+    }
+}
+
+/// 4, out of order: a rule once a test has begun, an 01 after its test's 02 or check, an 02 after
+/// its test's check. In some of the files the field is over its limit too.
+pub fn out_of_order(random: &mut Random) -> Damaged {
+    let palette = Palette::random(random);
+    let tag = random.pick(&[RULE, INITIAL, MAIN]);
+    let at_limit = random.one_in(4);
+    let mut file = generate::small_file(random);
+    let mut test = generate::test(random, &palette);
+    match tag {
+        RULE if at_limit => file.rules = generate::rules_of(random, &palette, MOST_RULES),
+        INITIAL if at_limit => {
+            test.initial = generate::test_of(random, &palette, MOST_INITIAL, 0, 0).initial
+        }
+        MAIN if at_limit => test.main = generate::test_of(random, &palette, 0, MOST_MAIN, 0).main,
+        _ => {}
+    }
+    if tag != RULE {
+        let least_main = usize::from(tag == INITIAL && random.one_in(2));
+        let least_checks = 1 - least_main;
+        while test.main.len() < least_main {
+            test.main.push(generate::write(random, &palette));
+        }
+        while test.checks.len() < least_checks {
+            test.checks.push(generate::check(random, &palette));
+        }
+    }
+    // From where to where in the test, by index among its fields, `tag` is out of order.
+    let fields = test.fields();
+    let (first, last) = match tag {
+        RULE if file.tests.is_empty() => (1, fields.len()),
+        RULE => (0, fields.len()),
+        INITIAL => (test.initial.len() + 1, fields.len() - 1),
+        _ => (test.initial.len() + test.main.len() + 1, fields.len() - 1),
+    };
+    let k = random.between(first, last);
+    let mut before = file.fields();
+    before.extend_from_slice(&fields[..k]);
+    let damaged = field(random, tag);
+    assemble_with_more(
+        random,
+        refusal::OUT_OF_ORDER,
+        &before,
+        &damaged,
+        &fields[k..],
+    )
+}
+
+/// 5, predicate above 2.
+pub fn unknown_predicate(random: &mut Random) -> Damaged {
+    let (fields, k) = file_with(random, |f| f.tag == RULE);
+    let mut damaged = fields[k].clone();
+    damaged.body[1] = match random.below(3) {
+        0 => 3,
+        1 => 255,
+        _ => random.between(3, 255) as u8,
+    };
+    assemble(
+        random,
+        refusal::UNKNOWN_PREDICATE,
+        &fields[..k],
+        &damaged,
+        &fields[k + 1..],
+    )
+}
+
+#[derive(Clone, Copy, Debug, PartialEq, Eq)]
+pub enum Limit {
+    Rules,
+    Tests,
+    Initial,
+    Main,
+    Checks,
+}
+
+pub const LIMITS: [Limit; 5] = [
+    Limit::Rules,
+    Limit::Tests,
+    Limit::Initial,
+    Limit::Main,
+    Limit::Checks,
+];
+
+/// The fields of a file up to where this limit is reached exactly: after the last rule, after the
+/// last test's end, or within a test.
+fn fields_up_to(random: &mut Random, limit: Limit) -> Vec<Field> {
+    let palette = Palette::random(random);
+    let mut file = generate::small_file(random);
+    let mut test = Test::default();
+    match limit {
+        Limit::Rules => {
+            file.rules = generate::rules_of(random, &palette, MOST_RULES);
+            file.tests.clear();
+        }
+        Limit::Tests => {
+            while file.tests.len() < MOST_TESTS {
+                let (initial, main, checks) = (random.below(2), random.below(2), random.below(2));
+                file.tests
+                    .push(generate::test_of(random, &palette, initial, main, checks));
+            }
+        }
+        Limit::Initial => test = generate::test_of(random, &palette, MOST_INITIAL, 0, 0),
+        Limit::Main => {
+            let initial = generate::count(random, MOST_INITIAL);
+            test = generate::test_of(random, &palette, initial, MOST_MAIN, 0);
+        }
+        Limit::Checks => {
+            let initial = generate::count(random, MOST_INITIAL);
+            let main = generate::count(random, MOST_MAIN);
+            test = generate::test_of(random, &palette, initial, main, MOST_CHECKS);
+        }
+    }
+    let mut fields = file.fields();
+    let mut within = test.fields();
+    within.pop();
+    fields.extend(within);
+    fields
+}
+
+/// The tags of the fields that are one over this limit.
+fn tags_over(limit: Limit) -> &'static [u8] {
+    match limit {
+        Limit::Rules => &[RULE],
+        Limit::Tests => &TEST_TAGS,
+        Limit::Initial => &[INITIAL],
+        Limit::Main => &[MAIN],
+        Limit::Checks => &CHECK_TAGS,
+    }
+}
+
+/// 6, one over this limit.
+pub fn over_limit(random: &mut Random, limit: Limit) -> Damaged {
+    let fields = fields_up_to(random, limit);
+    let tag = random.pick(tags_over(limit));
+    let damaged = field(random, tag);
+    assemble_with_more(
+        random,
+        refusal::OVER_LIMIT,
+        &fields,
+        &damaged,
+        &[Field::end()],
+    )
+}
+
+/// A file that reaches this limit exactly, and is accepted.
+pub fn at_limit(random: &mut Random, limit: Limit) -> Vec<u8> {
+    let mut fields = fields_up_to(random, limit);
+    if !matches!(limit, Limit::Rules | Limit::Tests) {
+        fields.push(Field::end());
+    }
+    bytes_of(&fields)
+}
+
+/// 7, test not ended.
+pub fn not_ended(random: &mut Random) -> Damaged {
+    let (fields, k) = file_with(random, |f| f.tag != RULE && f.tag != END);
+    let bytes = bytes_of(&fields[..k + 1]);
+    let place = bytes.len();
+    Damaged {
+        bytes,
+        refusal: refusal::at(refusal::TEST_NOT_ENDED, place),
+    }
+}
+
+/// Any damage whose refusal is known.
+pub fn any(random: &mut Random) -> Damaged {
+    match random.below(8) {
+        0 => one_or_two_left(random),
+        1 => body_cut(random),
+        2 => unknown_tag(random),
+        3 => wrong_length(random),
+        4 => out_of_order(random),
+        5 => unknown_predicate(random),
+        6 => {
+            let limit = random.pick(&LIMITS);
+            over_limit(random, limit)
+        }
+        _ => not_ended(random),
+    }
+}
+
+/// A few bytes changed.
+pub fn bytes_changed(random: &mut Random, file: &File) -> Vec<u8> {
+    let mut bytes = file.to_bytes();
+    if bytes.is_empty() {
+        return bytes;
+    }
+    for _ in 0..random.between(1, 4) {
+        let at = random.below(bytes.len());
+        bytes[at] = match random.below(4) {
+            0 => random.byte(),
+            1 => random.below(9) as u8,
+            _ => bytes[at] ^ 1 << random.below(8),
+        };
+    }
+    bytes
+}
+
+/// A few bytes put in or taken out.
+pub fn bytes_shifted(random: &mut Random, file: &File) -> Vec<u8> {
+    let mut bytes = file.to_bytes();
+    for _ in 0..random.between(1, 3) {
+        if bytes.is_empty() || random.one_in(2) {
+            let at = random.below(bytes.len() + 1);
+            bytes.insert(at, random.below(9) as u8);
+        } else {
+            bytes.remove(random.below(bytes.len()));
+        }
+    }
+    bytes
+}
+
+/// Fields put in, taken out, doubled, exchanged, or given another tag or length.
+pub fn fields_changed(random: &mut Random, file: &File) -> Vec<u8> {
+    let mut fields = file.fields();
+    for _ in 0..random.between(1, 3) {
+        let k = random.below(fields.len() + 1);
+        let tag = random.between(1, 7) as u8;
+        if k == fields.len() || random.one_in(3) {
+            let new = field(random, tag);
+            fields.insert(k, new);
+            continue;
+        }
+        match random.below(5) {
+            0 => {
+                fields.remove(k);
+            }
+            1 => fields.insert(k, fields[k].clone()),
+            2 => fields.swap(k, random.below(k + 1)),
+            3 => fields[k].tag = random.below(9) as u8,
+            _ => fields[k].length = any_length(random),
+        }
+    }
+    bytes_of(&fields)
+}
+
+/// Fields of known tags in any order.
+pub fn any_fields(random: &mut Random) -> Vec<u8> {
+    let mut fields = Vec::new();
+    for _ in 0..random.below(12) {
+        let tag = random.between(1, 7) as u8;
+        fields.push(field(random, tag));
+    }
+    bytes_of(&fields)
+}
+
+/// A field that claims a huge body, which in half of the cases is there.
+pub fn huge_length(random: &mut Random) -> Vec<u8> {
+    const LENGTHS: [u16; 6] = [65535, 65534, 32768, 32767, 256, 2560];
+    let (mut fields, k) = file_with(random, |_| true);
+    let length = random.pick(&LENGTHS);
+    fields[k].length = length;
+    if random.one_in(2) {
+        fields[k].body.resize(length as usize, random.byte());
+    }
+    bytes_of(&fields)
+}
+
+/// A file longer than any that reading accepts.
+pub fn over_long(random: &mut Random) -> Vec<u8> {
+    let longer = match random.below(4) {
+        0 => random.between(1, 2),
+        1 => random.between(3, 16),
+        _ => random.between(1, 60_000),
+    };
+    let length = LONGEST + longer;
+    let mut bytes = Vec::new();
+    match random.below(4) {
+        // The longest file, with more behind it.
+        0 | 1 => bytes = generate::full_file(random, true).to_bytes(),
+        // Damage somewhere in the longest file.
+        2 => {
+            let mut file = generate::full_file(random, true);
+            if random.one_in(2) {
+                file.tests.truncate(random.below(MOST_TESTS));
+            }
+            bytes = bytes_changed(random, &file);
+        }
+        _ => {}
+    }
+    while bytes.len() < length {
+        if random.one_in(8) {
+            bytes.push(random.byte());
+        } else {
+            let tag = random.between(1, 7) as u8;
+            field(random, tag).append_to(&mut bytes);
+        }
+    }
+    bytes.truncate(length);
+    bytes
+}

@@ -1,0 +1,274 @@
+// Random files, rules and tests: mostly of few names, addresses and epochs, so that rules match,
+// writes meet at one address and checks say something; sometimes at the limits exactly.
+
+use crate::checks::Check;
+use crate::file::{File, Test};
+use crate::file::{MOST_CHECKS, MOST_INITIAL, MOST_MAIN, MOST_RULES, MOST_TESTS};
+use crate::log;
+use crate::random::Random;
+use crate::writes::{Block, Predicate, Rule, Write, PREDICATES};
+
+/// The values that a file draws from.
+#[derive(Clone, Debug)]
+pub struct Palette {
+    pub names: Vec<u8>,
+    pub addresses: Vec<u8>,
+    pub epochs: Vec<u32>,
+    /// For the two numbers of a block.
+    pub halves: Vec<u16>,
+}
+
+impl Palette {
+    pub fn random(random: &mut Random) -> Palette {
+        if random.one_in(4) {
+            Palette::wide(random)
+        } else {
+            Palette::small(random)
+        }
+    }
+
+    /// A few values of each kind, among them those at the ends of their ranges.
+    pub fn small(random: &mut Random) -> Palette {
+        const NAMES: [u8; 7] = [0, 1, 2, 3, 127, 128, 255];
+        const ADDRESSES: [u8; 9] = [0, 1, 2, 3, 4, 5, 128, 254, 255];
+        const EPOCHS: [u32; 5] = [0, 1, 0x7FFF_FFFE, 0x0000_FFFF, 0xFFFF_FFFC];
+        const HALVES: [u16; 12] = [0, 0, 1, 2, 3, 4, 5, 254, 255, 256, 257, 65535];
+        let few = random.between(1, 4);
+        let names = some(random, &NAMES, few);
+        let few = random.between(1, 6);
+        let addresses = some(random, &ADDRESSES, few);
+        let from = random.pick(&EPOCHS);
+        let few = random.between(1, 4) as u32;
+        let epochs = (0..few).map(|i| from + i).collect();
+        let few = random.between(2, 6);
+        let halves = some(random, &HALVES, few);
+        Palette {
+            names,
+            addresses,
+            epochs,
+            halves,
+        }
+    }
+
+    /// Many values from the whole ranges.
+    pub fn wide(random: &mut Random) -> Palette {
+        const MANY: usize = 40;
+        Palette {
+            names: random.bytes(MANY),
+            addresses: random.bytes(MANY),
+            epochs: (0..MANY).map(|_| random.number() as u32).collect(),
+            halves: (0..MANY).map(|_| random.number() as u16).collect(),
+        }
+    }
+}
+
+/// Some of the items, in any order, perhaps with repeats.
+fn some<T: Copy>(random: &mut Random, items: &[T], count: usize) -> Vec<T> {
+    (0..count).map(|_| random.pick(items)).collect()
+}
+
+/// A count up to `most`: mostly small, sometimes 0 or `most` itself.
+pub fn count(random: &mut Random, most: usize) -> usize {
+    match random.below(12) {
+        0 => 0,
+        1 => most,
+        2 => random.between(0, most),
+        _ => random.between(0, most.min(4)),
+    }
+}
+
+pub fn block(random: &mut Random, palette: &Palette) -> Block {
+    Block {
+        first: random.pick(&palette.halves),
+        second: random.pick(&palette.halves),
+    }
+}
+
+pub fn write(random: &mut Random, palette: &Palette) -> Write {
+    Write {
+        address: random.pick(&palette.addresses),
+        name: random.pick(&palette.names),
+        epoch: random.pick(&palette.epochs),
+        block: block(random, palette),
+    }
+}
+
+pub fn rule(random: &mut Random, palette: &Palette) -> Rule {
+    Rule {
+        name: random.pick(&palette.names),
+        predicate: random.pick(&PREDICATES),
+        second: random.pick(&palette.names),
+    }
+}
+
+pub fn check(random: &mut Random, palette: &Palette) -> Check {
+    let at = random.pick(&palette.addresses);
+    match random.below(3) {
+        0 => Check::Range { at },
+        1 => Check::Pointer { at },
+        _ => Check::Pair {
+            a: at,
+            v: block(random, palette),
+            b: random.pick(&palette.addresses),
+            w: block(random, palette),
+        },
+    }
+}
+
+/// A test with these numbers of initial writes, main writes and checks.
+pub fn test_of(
+    random: &mut Random,
+    palette: &Palette,
+    initial: usize,
+    main: usize,
+    checks: usize,
+) -> Test {
+    Test {
+        initial: (0..initial).map(|_| write(random, palette)).collect(),
+        main: (0..main).map(|_| write(random, palette)).collect(),
+        checks: (0..checks).map(|_| check(random, palette)).collect(),
+    }
+}
+
+pub fn test(random: &mut Random, palette: &Palette) -> Test {
+    if random.one_in(6) {
+        return log_test(random);
+    }
+    let initial = count(random, MOST_INITIAL);
+    let main = count(random, MOST_MAIN);
+    let checks = count(random, MOST_CHECKS);
+    test_of(random, palette, initial, main, checks)
+}
+
+/// A test of the reading log.
+pub fn log_test(random: &mut Random) -> Test {
+    let puts = |random: &mut Random, count: usize| -> Vec<Block> {
+        let put = |random: &mut Random| Block {
+            first: random.below(3) as u16,
+            second: random.between(1, 99) as u16,
+        };
+        (0..count).map(|_| put(random)).collect()
+    };
+    let (before, after) = (random.below(4), random.below(4));
+    let initial = puts(random, before);
+    let main = puts(random, after);
+    log::test_of(&initial, &main)
+}
+
+pub fn rules_of(random: &mut Random, palette: &Palette, rules: usize) -> Vec<Rule> {
+    (0..rules).map(|_| rule(random, palette)).collect()
+}
+
+/// Any file that reading accepts.
+pub fn file(random: &mut Random) -> File {
+    let palette = Palette::random(random);
+    let rules = count(random, MOST_RULES);
+    let tests = count(random, MOST_TESTS);
+    File {
+        rules: rules_of(random, &palette, rules),
+        tests: (0..tests).map(|_| test(random, &palette)).collect(),
+    }
+}
+
+/// A small file: at most a few fields of each kind.
+pub fn small_file(random: &mut Random) -> File {
+    let palette = Palette::random(random);
+    let rules = random.below(4);
+    let tests = random.below(4);
+    let mut file = File {
+        rules: rules_of(random, &palette, rules),
+        tests: Vec::new(),
+    };
+    for _ in 0..tests {
+        let (initial, main, checks) = (random.below(4), random.below(4), random.below(4));
+        file.tests
+            .push(test_of(random, &palette, initial, main, checks));
+    }
+    file
+}
+
+/// A file with every count at its limit; with pair checks only it is as long as a file can be.
+pub fn full_file(random: &mut Random, pairs_only: bool) -> File {
+    let palette = Palette::random(random);
+    let mut file = File {
+        rules: rules_of(random, &palette, MOST_RULES),
+        tests: Vec::new(),
+    };
+    for _ in 0..MOST_TESTS {
+        let mut test = test_of(random, &palette, MOST_INITIAL, MOST_MAIN, 0);
+        while test.checks.len() < MOST_CHECKS {
+            let check = check(random, &palette);
+            if !pairs_only || matches!(check, Check::Pair { .. }) {
+                test.checks.push(check);
+            }
+        }
+        file.tests.push(test);
+    }
+    file
+}
+
+/// Rules that are or nearly are cyclic: rings over the names, some with an edge left out, some that
+/// share a name, with further rules strewn in.
+pub fn nearly_cyclic_rules(random: &mut Random) -> Vec<Rule> {
+    let mut names: Vec<u8> = (0..=255).collect();
+    random.shuffle(&mut names);
+    let mut rules = Vec::new();
+    let mut shared = None;
+    for _ in 0..random.between(1, 3) {
+        let longest = if random.one_in(16) { 31 } else { 5 };
+        let mut ring = names.split_off(names.len() - random.between(1, longest));
+        if let Some(name) = shared {
+            ring.push(name);
+        }
+        rules.extend(ring_of_rules(random, &ring));
+        shared = if random.one_in(4) {
+            None
+        } else {
+            Some(random.pick(&ring))
+        };
+    }
+    let used: Vec<u8> = rules
+        .iter()
+        .flat_map(|r: &Rule| [r.name, r.second])
+        .collect();
+    if !used.is_empty() {
+        for _ in 0..random.below(3) {
+            rules.push(Rule {
+                name: random.pick(&used),
+                predicate: random.pick(&PREDICATES),
+                second: random.pick(&used),
+            });
+        }
+    }
+    random.shuffle(&mut rules);
+    rules.truncate(MOST_RULES);
+    rules
+}
+
+/// A ring of rules over these names, in half of the cases with one rule left out, and with both,
+/// one or none of > and <.
+fn ring_of_rules(random: &mut Random, names: &[u8]) -> Vec<Rule> {
+    use Predicate::{Equal, Greater, Less};
+    const KINDS: [&[Predicate]; 8] = [
+        &[Equal],
+        &[Greater],
+        &[Less],
+        &[Equal, Greater],
+        &[Equal, Less],
+        &[Equal, Equal, Equal, Greater],
+        &[Equal, Equal, Equal, Less],
+        &[Equal, Greater, Less],
+    ];
+    let predicates = random.pick(&KINDS);
+    let mut rules: Vec<Rule> = (0..names.len())
+        .map(|i| Rule {
+            name: names[i],
+            predicate: random.pick(predicates),
+            second: names[(i + 1) % names.len()],
+        })
+        .collect();
+    if random.one_in(2) {
+        rules.remove(random.below(names.len()));
+    }
+    rules
+}

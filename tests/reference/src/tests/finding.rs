@@ -1,0 +1,147 @@
+// Finding and judging, against the definitions taken literally on small files.
+
+use crate::checks::consistent;
+use crate::cyclic::cyclic;
+use crate::file::{read, File, Test};
+use crate::find::{candidates, find};
+use crate::generate::{self, Palette};
+use crate::judge::{is_bad, judge_test, Judgement};
+use crate::random::Random;
+use crate::refusal::plain;
+use crate::schedule::{disk_of, flagged};
+use crate::writes::{Rule, PREDICATES};
+
+/// Definition 3.4, pair by pair.
+fn valid_by_pairs(rules: &[Rule], test: &Test, schedule: u64) -> bool {
+    for (i, one) in test.main.iter().enumerate() {
+        for (j, two) in test.main.iter().enumerate() {
+            let paired = rules.iter().any(|r| r.matches(one.label(), two.label()));
+            if paired && flagged(schedule, i) && !flagged(schedule, j) {
+                return false;
+            }
+        }
+    }
+    true
+}
+
+fn judge_by_pairs(rules: &[Rule], test: &Test) -> Judgement {
+    let initial = disk_of(&crate::writes::EMPTY_DISK, &test.initial, u64::MAX);
+    let mut found = Judgement {
+        valid: 0,
+        bad: 0,
+        shown: 0,
+    };
+    for schedule in (0..1 << test.main.len()).rev() {
+        if valid_by_pairs(rules, test, schedule) {
+            found.valid += 1;
+            if !consistent(&test.checks, &disk_of(&initial, &test.main, schedule)) {
+                found.bad += 1;
+                found.shown = schedule;
+            }
+        }
+    }
+    found
+}
+
+#[test]
+fn judging_by_pairs() {
+    for seed in 0..300 {
+        let mut random = Random::new(seed);
+        let file = generate::small_file(&mut random);
+        for test in &file.tests {
+            let judgement = judge_test(&file.rules, test);
+            assert_eq!(judgement, judge_by_pairs(&file.rules, test), "seed {seed}");
+            let shown_is_bad = is_bad(&file.rules, test, judgement.shown);
+            assert_eq!(shown_is_bad, judgement.bad > 0, "seed {seed}");
+        }
+    }
+}
+
+/// A file without rules over two names, whose tests have up to three main writes.
+fn file_to_find(random: &mut Random) -> File {
+    let palette = Palette {
+        names: vec![1, 2],
+        addresses: vec![0, 1, 2],
+        epochs: vec![0, 1],
+        halves: vec![0, 1, 2, 3],
+    };
+    let tests = random.between(1, 2);
+    let mut test = || {
+        if random.one_in(4) {
+            return generate::log_test(random);
+        }
+        let (initial, main, checks) = (random.below(3), random.between(1, 3), random.between(1, 2));
+        generate::test_of(random, &palette, initial, main, checks)
+    };
+    File {
+        rules: vec![],
+        tests: (0..tests).map(|_| test()).collect(),
+    }
+}
+
+fn all_hold(file: &File, rules: &[Rule]) -> bool {
+    file.tests.iter().all(|t| judge_test(rules, t).bad == 0)
+}
+
+/// The found set against all sets of rules over the two names, candidates or not.
+#[test]
+fn no_other_set_is_smaller() {
+    let mut all = Vec::new();
+    for name in [1, 2] {
+        for second in [1, 2] {
+            all.extend(PREDICATES.map(|predicate| Rule {
+                name,
+                predicate,
+                second,
+            }));
+        }
+    }
+    let sets: Vec<Vec<Rule>> = (0..1u32 << all.len())
+        .map(|set| {
+            (0..all.len())
+                .filter(|i| set >> i & 1 == 1)
+                .map(|i| all[i])
+                .collect()
+        })
+        .filter(|rules: &Vec<Rule>| !cyclic(rules))
+        .collect();
+    let mut refused = 0;
+    for seed in 0..60 {
+        let file = file_to_find(&mut Random::new(seed));
+        let mut buffer = [0; 96];
+        let fewest = sets
+            .iter()
+            .filter(|rules| all_hold(&file, rules))
+            .map(|rules| rules.len())
+            .min();
+        match find(&file.to_bytes(), &mut buffer) {
+            Ok(count) => {
+                let found = read(&buffer[..6 * count]).unwrap().rules;
+                assert_eq!(Some(count), fewest, "seed {seed}");
+                assert!(all_hold(&file, &found) && !cyclic(&found), "seed {seed}");
+            }
+            Err(refusal) => {
+                assert_eq!((refusal, fewest), (plain(13), None), "seed {seed}");
+                refused += 1;
+            }
+        }
+    }
+    assert!(refused > 0 && refused < 60);
+}
+
+#[test]
+fn refusals_of_finding() {
+    let mut random = Random::new(5);
+    let wide = Palette::wide(&mut random);
+    let mut file = File {
+        rules: vec![],
+        tests: vec![generate::test_of(&mut random, &wide, 0, 12, 0)],
+    };
+    assert!(candidates(&file).len() > 16);
+    let over = file.to_bytes();
+    assert_eq!(find(&over, &mut [0; 95]), Err(plain(12)));
+    assert_eq!(find(&over, &mut [0; 96]), Err(plain(11)));
+    file.rules = generate::rules_of(&mut random, &wide, 1);
+    assert_eq!(find(&file.to_bytes(), &mut []), Err(plain(10)));
+    assert_eq!(find(&[], &mut [0; 96]), Ok(0));
+}

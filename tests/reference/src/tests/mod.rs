@@ -1,0 +1,9 @@
+// The reference's own tests: the bench sheet, and each part against a second way to say it.
+
+mod bench_sheet;
+mod cyclic;
+mod finding;
+mod log;
+mod reading;
+mod runs;
+mod soundness;

@@ -1,0 +1,117 @@
+// Writes, rules and disks: blocks, labels, and what a write depends on.
+
+pub const BLOCKS: usize = 256;
+
+#[derive(Clone, Copy, Debug, PartialEq, Eq)]
+pub struct Block {
+    pub first: u16,
+    pub second: u16,
+}
+
+pub const EMPTY: Block = Block {
+    first: 0,
+    second: 0,
+};
+
+impl Block {
+    pub fn is_empty(self) -> bool {
+        self == EMPTY
+    }
+
+    /// Four bytes, big-endian.
+    pub fn from_bytes(bytes: &[u8]) -> Block {
+        Block {
+            first: u16::from_be_bytes([bytes[0], bytes[1]]),
+            second: u16::from_be_bytes([bytes[2], bytes[3]]),
+        }
+    }
+
+    pub fn to_bytes(self) -> [u8; 4] {
+        let first = self.first.to_be_bytes();
+        let second = self.second.to_be_bytes();
+        [first[0], first[1], second[0], second[1]]
+    }
+}
+
+pub type Disk = [Block; BLOCKS];
+
+pub const EMPTY_DISK: Disk = [EMPTY; BLOCKS];
+
+#[derive(Clone, Copy, Debug, PartialEq, Eq)]
+pub struct Label {
+    pub name: u8,
+    pub epoch: u32,
+}
+
+#[derive(Clone, Copy, Debug, PartialEq, Eq)]
+pub struct Write {
+    pub address: u8,
+    pub name: u8,
+    pub epoch: u32,
+    pub block: Block,
+}
+
+impl Write {
+    pub fn label(&self) -> Label {
+        Label {
+            name: self.name,
+            epoch: self.epoch,
+        }
+    }
+}
+
+#[derive(Clone, Copy, Debug, PartialEq, Eq, PartialOrd, Ord)]
+pub enum Predicate {
+    Equal,
+    Greater,
+    Less,
+}
+
+pub const PREDICATES: [Predicate; 3] = [Predicate::Equal, Predicate::Greater, Predicate::Less];
+
+impl Predicate {
+    pub fn from_byte(byte: u8) -> Option<Predicate> {
+        match byte {
+            0 => Some(Predicate::Equal),
+            1 => Some(Predicate::Greater),
+            2 => Some(Predicate::Less),
+            _ => None,
+        }
+    }
+
+    pub fn to_byte(self) -> u8 {
+        match self {
+            Predicate::Equal => 0,
+            Predicate::Greater => 1,
+            Predicate::Less => 2,
+        }
+    }
+
+    pub fn relates(self, one: u32, two: u32) -> bool {
+        match self {
+            Predicate::Equal => one == two,
+            Predicate::Greater => one > two,
+            Predicate::Less => one < two,
+        }
+    }
+}
+
+#[derive(Clone, Copy, Debug, PartialEq, Eq)]
+pub struct Rule {
+    pub name: u8,
+    pub predicate: Predicate,
+    pub second: u8,
+}
+
+impl Rule {
+    pub fn matches(&self, one: Label, two: Label) -> bool {
+        self.name == one.name
+            && self.second == two.name
+            && self.predicate.relates(one.epoch, two.epoch)
+    }
+}
+
+/// Does a write labelled `one` depend on a write labelled `two`?
+pub fn depends_on(rules: &[Rule], one: Label, two: Label) -> bool {
+    rules.iter().any(|rule| rule.matches(one, two))
+}

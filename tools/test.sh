@@ -1,0 +1,123 @@
+#!/usr/bin/env bash
+# The gate: proves every crate, then tests the proved libraries against the reference.
+#   tools/test.sh         all of it
+#   tools/test.sh soak    only the differential tests, with many more cases and another seed
+# Each part runs whatever became of the ones before it. The very last line is 'N passed, M failed',
+# and the status is 0 only if M is 0.
+set -uo pipefail
+cd "$(dirname "${BASH_SOURCE[0]}")/.." || exit 1
+
+# Nothing but the libraries just proved is tested, and builds write below target/ only.
+unset PELZHONDY_STATICLIB
+export CARGO_TERM_COLOR=never CARGO_HOME="$PWD/target/cargo"
+libraries='workbench receiver'
+
+passed=0
+failed=0
+log=$(mktemp) || exit 1
+trap 'rm -f "$log"' EXIT
+
+# Installs the Debian packages of the commands that are missing.
+install_missing() {
+    local pair wanted=''
+    for pair in make:make 'gcc:gcc libc6-dev' ar:binutils cargo:cargo rustc:rustc; do
+        command -v "${pair%%:*}" >/dev/null 2>&1 || wanted="$wanted ${pair#*:}"
+    done
+    [ -n "$wanted" ] || return 0
+    echo "== installing$wanted"
+    export DEBIAN_FRONTEND=noninteractive
+    apt-get update
+    # shellcheck disable=SC2086
+    apt-get install -y --no-install-recommends $wanted
+}
+
+# Runs a part: shows its output and keeps it in $log, leaves its status in $status.
+part() { # NAME COMMAND...
+    local name=$1 started=$SECONDS
+    shift
+    echo "== $name"
+    "$@" 2>&1 | tee "$log"
+    status=${PIPESTATUS[0]}
+    echo "== $name: status $status, $((SECONDS - started)) s"
+}
+
+# Adds the counts of the part that ran last. With no count, or no test at all, it is one failure,
+# and so it is if it failed while all its tests passed.
+add() { # [PASSED FAILED]
+    local p=$((10#${1:-0})) f=$((10#${2:-0}))
+    if [ $((p + f)) -eq 0 ] || { [ "$status" -ne 0 ] && [ "$f" -eq 0 ]; }; then
+        f=$((f + 1))
+    fi
+    passed=$((passed + p))
+    failed=$((failed + f))
+}
+
+# The counts of a last line '<prefix>N passed, M failed'.
+last_line_counts() { # PREFIX
+    tail -n 1 "$log" | sed -n -E "s/^$1([0-9]+) passed, ([0-9]+) failed\$/\1 \2/p"
+}
+
+# The counts of all 'test result:' lines of cargo test, summed up.
+cargo_test_counts() {
+    sed -n -E 's/^test result: .* ([0-9]+) passed; ([0-9]+) failed;.*/\1 \2/p' "$log" |
+        awk '{ p += $1; f += $2 } END { if (NR) print p, f }'
+}
+
+rust() { # VERB WORDS...
+    local verb=$1
+    shift
+    cargo "$verb" --release --offline --locked --manifest-path tests/Cargo.toml \
+        --target-dir target/rust "$@"
+}
+
+is_listed() { # CRATE
+    grep -Eq "^[[:space:]]*$1[[:space:]]*:" crates.txt
+}
+
+static_libraries() {
+    local library
+    for library in $libraries; do
+        if is_listed "$library"; then
+            part "rt staticlib $library" rt staticlib "$library"
+            [ "$status" -eq 0 ] || failed=$((failed + 1))
+        fi
+    done
+}
+
+differential_tests() {
+    part 'building the differential tests' rust build -p differential
+    if [ "$status" -ne 0 ]; then
+        failed=$((failed + 1))
+        return
+    fi
+    part 'differential tests' target/rust/release/differential
+    # shellcheck disable=SC2046
+    add $(last_line_counts 'differential: ')
+}
+
+case "${1:-}" in
+'')
+    install_missing
+    part 'rt ci' rt ci
+    # shellcheck disable=SC2046
+    add $(last_line_counts '')
+    static_libraries
+    part 'tests of the reference' rust test -p reference
+    # shellcheck disable=SC2046
+    add $(cargo_test_counts)
+    differential_tests
+    ;;
+soak)
+    export PELZHONDY_CASES="${PELZHONDY_CASES:-100}" PELZHONDY_SEED="${PELZHONDY_SEED:-$(date +%s)}"
+    static_libraries
+    differential_tests
+    ;;
+*)
+    echo "usage: tools/test.sh [soak]" >&2
+    exit 2
+    ;;
+esac
+
+echo "== all: $SECONDS s"
+echo "$passed passed, $failed failed"
+[ "$failed" -eq 0 ]
