@@ -1,16 +1,29 @@
 -- Judging one test of a file.
-use Prim.Native.Nat.{ℕ, _-_}
+use Prim.Native.Nat.{ℕ, _+_, _-_, _*_, _≤_, _<_}
 use mathlib.Core.Path.{_≡_}
-use mathlib.Core.Bool.{cond, _&&_}
+use mathlib.Core.Bool.{Bool, true, false, cond, _&&_}
 use mathlib.Core.List.{List}
 use lib.Dec.{leb}
 use lib.ListN.{length}
 use Rattle.model.specs.declared.Rule.{Rule}
 use Rattle.model.specs.Answer.{Outcome, answer, refused}
 use Rattle.model.specs.Cyclic.{cyclic}
-use Rattle.model.specs.Test.{Test, File, Bad, validCount, badCount}
+use Rattle.model.specs.Test.{Test, File, TestHolds, Bad, countBelow, validCount, badCount}
 use Rattle.reader.specs.File.{readOf}
-use Rattle.reader.specs.Held.{testOf}
+use Rattle.reader.specs.declared.Extent.{Extent}
+use Rattle.reader.specs.Scan.{rulesAt, testAt}
+use Rattle.reader.specs.Held.{testOf, Inside}
+use Rattle.judging.specs.declared.Gate.{Gate}
+use Rattle.judging.specs.declared.Gate.the-variants.{Open, Shut}
+use Rattle.judging.specs.declared.Judged.{Judged}
+use Rattle.judging.specs.declared.Judged.the-variants.{Counts}
+use Rattle.judging.specs.declared.Judged.the-variants as Judged
+use Rattle.judging.specs.declared.Decided.{Decided}
+use Rattle.judging.specs.declared.Decided.the-variants.{As}
+use Rattle.judging.specs.declared.Decided.the-variants as Decided
+use Rattle.judging.specs.declared.Judgement.{Judgement}
+use Rattle.judging.specs.declared.Verdict.{Verdict}
+use Rattle.judging.specs.declared.Verdict.the-variants.{Holds, Fails}
 
 -- a test and the rules it is judged under
 pub record Case : Type 0 where
@@ -25,18 +38,62 @@ caseOf (answer f) k =
     (cond (leb 1 k && leb k (length (f .tests))) (answer (record { rules = f .rules; test = testOf f (k - 1) })) (refused 9 0))
 
 -- the case that a judge is given, or its refusal
-unfoldable pub judged : List ℕ → ℕ → Outcome Case
-judged s k = caseOf (readOf s) k
-
--- the judge's three numbers
-pub record Judgement : Type 0 where
-  pub valid : ℕ
-  pub bad : ℕ
-  pub shown : ℕ
+unfoldable pub caseIn : List ℕ → ℕ → Outcome Case
+caseIn s k = caseOf (readOf s) k
 
 -- the counts of valid and of bad schedules, and some bad schedule, or 0 where there is none
 pub record Judges (c : Case) (j : Judgement) : Type 0 where
   pub valid : j .valid ≡ validCount (c .rules) (c .test)
   pub bad : j .bad ≡ badCount (c .rules) (c .test)
   pub shown : (j .bad ≡ 0 → ⊥) → Bad (c .rules) (c .test) (j .shown)
+  pub none : j .bad ≡ 0 → j .shown ≡ 0
+
+-- the verdict alone: holds, or fails with a bad schedule
+unfoldable pub Decides : Case → Verdict → Type 0
+Decides c Holds = TestHolds (c .rules) (c .test)
+Decides c (Fails s) = Bad (c .rules) (c .test) s
+
+-- ---- what the routines give
+
+-- the case that stands at an extent of a file
+abbrev pub caseAt : List Rule → List ℕ → Extent → Case
+caseAt rules s e = record { rules = rules; test = testAt s e }
+
+-- a test of an accepted file, by its place, or the refusal
+unfoldable pub Gates : List ℕ → ℕ → Gate → Type 0
+Gates s k (Shut number place) = caseIn s k ≡ refused number place
+Gates s k (Open rules found) =
+    (caseIn s k ≡ answer (caseAt (rulesAt s rules) s found)) × (rules ≤ 32) × (6 * rules ≤ length s) × Inside s found
+
+-- the judge: the refusal, or numbers that judge the case
+unfoldable pub Judging : Outcome Case → Judged → Type 0
+Judging (refused number place) r = r ≡ Judged.Refused number place
+Judging (answer c) r = (j : Judgement) × (r ≡ Counts j) × Judges c j
+
+-- the verdict alone: the refusal, or a verdict that decides the case
+unfoldable pub Deciding : Outcome Case → Decided → Type 0
+Deciding (refused number place) r = r ≡ Decided.Refused number place
+Deciding (answer c) r = (v : Verdict) × (r ≡ As v) × Decides c v
+
+-- ---- the code's steps
+
+-- a verdict on the numbers below n: none is bad, or a bad one
+unfoldable pub Finds : (ℕ → Bool) → ℕ → Verdict → Type 0
+Finds p n Holds = (s : ℕ) → s < n → p s ≡ false
+Finds p n (Fails s) = (s < n) × (p s ≡ true)
+
+-- one more schedule in the counts
+unfoldable pub tallied : Judgement → ℕ → Bool → Bool → Judgement
+tallied j s v c =
+    cond v
+    (cond c
+    (record { valid = j .valid + 1; bad = j .bad; shown = j .shown })
+    (record { valid = j .valid + 1; bad = j .bad + 1; shown = s }))
+    j
+
+-- the counts over the schedules below n
+pub record Tallies (v b : ℕ → Bool) (n : ℕ) (j : Judgement) : Type 0 where
+  pub valid : j .valid ≡ countBelow v n
+  pub bad : j .bad ≡ countBelow b n
+  pub shown : (j .bad ≡ 0 → ⊥) → (j .shown < n) × (b (j .shown) ≡ true)
   pub none : j .bad ≡ 0 → j .shown ≡ 0

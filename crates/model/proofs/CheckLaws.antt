@@ -8,11 +8,11 @@ use native.Mathlib.Omega.{arith}
 use lib.Dec.{eqb, leb}
 use borrow.Author.Tests.{leb-true, leb-false, le-leb, lt-leb, eqb-true, eq-eqb, not-true}
 use Rattle.relation.proofs.ListLaws.{or-cases, or-left, or-right, and-left, and-right, and-intro, allBelow-true, allBelow-intro, all-true, all-intro}
+use Rattle.relation.proofs.MaskLaws.{implies, implied}
 use Rattle.model.specs.declared.Check.{Check}
 use Rattle.model.specs.declared.Check.the-variants.{Range, Pair, Pointer}
 use Rattle.model.specs.Disk.{empty, firstOf, secondOf, blockAt}
 use Rattle.model.specs.Check.{RangeHolds, Holds, Consistent, rangeHolds, holds, consistent}
-use Rattle.model.proofs.ScheduleLaws.{implies, implied}
 
 not-false-intro : (b : Bool) → b ≡ false → not b ≡ true
 not-false-intro b e = rw e

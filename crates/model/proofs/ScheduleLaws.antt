@@ -6,20 +6,12 @@ use Prim.Native.Nat.{ℕ, _<_}
 use lib.ListN.{length}
 use Rattle.relation.specs.Lists.{allBelow}
 use Rattle.relation.proofs.ListLaws.{allBelow-true, allBelow-intro}
+use Rattle.relation.proofs.MaskLaws.{implies, implied}
 use Rattle.model.specs.declared.Rule.{Rule}
 use Rattle.model.specs.declared.Write.{Write}
 use Rattle.model.specs.Rules.{DependsOn, dependsOn}
 use Rattle.model.specs.Schedule.{flagged, labelAt, Valid, valid}
 use Rattle.model.proofs.RuleLaws.{dependsOn-true, true-dependsOn}
-
--- `not a || b` is an implication
-pub implies : (a b : Bool) → not a || b ≡ true → a ≡ true → b ≡ true
-implies true b h e = h
-implies false b h e = absurd (false≢true e)
-
-pub implied : (a b : Bool) → (a ≡ true → b ≡ true) → not a || b ≡ true
-implied true b h = h refl
-implied false b h = refl
 
 module _ (rules : List Rule) (ws : List Write) (s : ℕ) where
   pub valid-true : valid rules ws s ≡ true → Valid rules ws s

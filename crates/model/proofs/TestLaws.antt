@@ -97,3 +97,8 @@ unfolding badCount
 holds-count rules t h =
     none-count (bad rules t) (schedules t)
     (λ s l. not-true _ (allBelow-true (λ x. not (bad rules t x)) (schedules t) (unfold testHolds in true-testHolds rules t h) s l))
+
+pub count-ext : (p q : ℕ → Bool) (n : ℕ) → ((s : ℕ) → s < n → p s ≡ q s) → countBelow p n ≡ countBelow q n
+unfolding countBelow
+count-ext p q zero h = refl
+count-ext p q (suc n) h = rw (h n (omega arith), count-ext p q n (λ s l. h s (omega arith)))

@@ -10,9 +10,9 @@ use Rattle.reader.specs.declared.Extent.{Extent}
 use Rattle.reader.specs.declared.Scan.the-variants.{Accepted, Refused}
 use Rattle.model.specs.Answer.{Outcome, answer, refused}
 use Rattle.reader.specs.File.{readOf}
-use Rattle.reader.specs.Scan.{rulesAt, ruleField, checksPlace}
+use Rattle.reader.specs.Scan.{rulesAt, ruleField, testAt}
 use Rattle.reader.specs.Limits.{FileLimits, Limited, longest}
-use Rattle.reader.specs.Held.{Tells, Inside}
+use Rattle.reader.specs.Held.{Tells, Inside, testOf}
 use Rattle.reader.proofs.PrefixLaws.{limited}
 
 pub refused-limits : (s : List ℕ) (number place : ℕ) → readOf s ≡ refused number place → (1 ≤ number) × (number ≤ 7) × (place ≤ longest)
@@ -67,3 +67,7 @@ module _ (s : List ℕ) (wanted : ℕ) where
     pub accepted-long : 6 * rules ≤ length s
     unfolding Tells
     accepted-long = t .4
+
+    pub accepted-test : wanted < tests → testOf accepted-file wanted ≡ testAt s found
+    unfolding Tells accepted-file
+    accepted-test h = t .5 h .0

@@ -4,7 +4,7 @@ use model::Rule;
 use model::Write;
 ghost use mathlib.Core.Path.{_≡_};
 ghost use mathlib.Core.Bool.{true};
-ghost use Prim.Native.Nat.{ℕ, _+_, _*_, _<_, _≤_};
+ghost use Prim.Native.Nat.{ℕ, _+_, _-_, _*_, _<_, _≤_};
 ghost use lib.Dec.{eqb, ltb, leb};
 ghost use lib.ListN.{length, getD};
 ghost use Rattle.reader.specs.Scan.{counted, testFrom, found, advanced, ended, scanOf, ruleField, writeField, checkField};
@@ -448,4 +448,14 @@ pub fn check_at(s: &[u8], at: usize) -> Check
     let b = at + 3;
     let e = b + body_length(tag);
     read_check(tag, &s[b..e])
+}
+
+// Test numbers count from 1; the reader's from 0.
+pub fn from_zero(test: u64) -> usize
+    ensures { λ r. ⌜ r ≡ test - 1 ⌝ }
+{
+    if test < 1 {
+        return 0;
+    }
+    (test - 1) as usize
 }

@@ -4,3 +4,4 @@ pub mod TransitiveLaws
 pub mod FiniteLaws
 pub mod Steps
 pub mod Cases
+pub mod MaskLaws

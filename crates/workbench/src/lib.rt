@@ -21,16 +21,6 @@ pub extern "C" fn pelzhondy_read(file: &[u8]) -> u64
     }
 }
 
-// Test numbers count from 1; the reader's from 0.
-fn from_zero(test: u64) -> usize
-    ensures { λ r. ⌜ r ≡ test - 1 ⌝ }
-{
-    if test < 1 {
-        return 0;
-    }
-    (test - 1) as usize
-}
-
 fn pack(e: Extent) -> u64
     requires { ⌜ Packed e ⌝ }
     ensures { λ r. ⌜ r ≡ e .at + 65536 * e .initial + 16777216 * e .main + 4294967296 * e .checks ⌝ }
@@ -48,7 +38,7 @@ fn pack(e: Extent) -> u64
 pub extern "C" fn pelzhondy_locate(file: &[u8], test: u64) -> u64
     ensures { λ r. ⌜ r ≡ coded (locateAnswer (now (file .entry)) test) ⌝ }
 {
-    match reader::read(file, from_zero(test)) {
+    match reader::read(file, reader::from_zero(test)) {
         Scan::Accepted {
             rules: _,
             tests,

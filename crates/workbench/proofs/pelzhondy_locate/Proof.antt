@@ -7,7 +7,7 @@ use Rattle.workbench.proofs.pelzhondy_locate.Reads as reads
 use Rattle.workbench.proofs.pelzhondy_locate.Lts as lts
 use Rattle.model.proofs.refuse.Reads as refuse-reads
 use Rattle.reader.proofs.read.Reads as read-reads
-use Rattle.workbench.proofs.from_zero.Reads as from-zero-reads
+use Rattle.reader.proofs.from_zero.Reads as from-zero-reads
 use Rattle.workbench.proofs.pack.Reads as pack-reads
 
 -- src/lib.rt:47:30

@@ -1,0 +1,5 @@
+pub mod PartLaws
+pub mod RunLaws
+pub mod ReadLaws
+pub mod FitLaws
+pub mod BytesLaws

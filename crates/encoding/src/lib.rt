@@ -1,0 +1,1 @@
+// Theorems only: reading accepts exactly the bytes of files.

@@ -1,0 +1,164 @@
+-- From the loops' answers to the judge's: the table of rows is the rules', the disk is the test's initial one, the checks are the test's.
+use mathlib.Core.Path.{_≡_, refl, sym, ap, ap₂, subst, _∙_}
+use mathlib.Core.Bool.{Bool, true, false, cond, not, _&&_}
+use mathlib.Core.List.{List}
+use Prim.Native.Nat.{ℕ, _+_, _-_, _*_, _^_, _≤_, _<_}
+use native.Mathlib.Omega.{arith}
+use lib.Dec.{leb}
+use lib.ListN.{length, take}
+use borrow.Author.Needs.{needs}
+use borrow.Author.Tests.{le-leb, lt-leb}
+use Rattle.relation.proofs.ListLaws.{allBelow-intro}
+use Rattle.model.specs.declared.Rule.{Rule}
+use Rattle.model.specs.declared.Check.{Check}
+use Rattle.model.specs.Answer.{Outcome, answer, refused}
+use Rattle.model.specs.Cyclic.{cyclic}
+use Rattle.model.specs.Disk.{emptyDisk}
+use Rattle.model.specs.Schedule.{written, run, valid}
+use Rattle.model.specs.Check.{consistent}
+use Rattle.model.specs.Test.{Test, File, initialDisk, bad, TestHolds, testHolds, Bad, countBelow, validCount, badCount}
+use Rattle.model.proofs.TestLaws.{bad-true, testHolds-true, count-ext}
+use Rattle.reader.specs.declared.Extent.{Extent}
+use Rattle.reader.specs.declared.Scan.{Scan}
+use Rattle.reader.specs.declared.Scan.the-variants.{Accepted, Refused}
+use Rattle.reader.specs.File.{readOf}
+use Rattle.reader.specs.Scan.{rulesAt, writesAt, checksAt, mainPlace, checksPlace, testAt}
+use Rattle.reader.specs.Held.{Tells, Inside, testOf}
+use Rattle.reader.proofs.CallerLaws.{refused-read, accepted-file, accepted-read, accepted-tests, accepted-most, accepted-inside, accepted-test, accepted-at, accepted-long}
+use Rattle.rules.specs.declared.Rules.{Rules}
+use Rattle.rules.specs.Held.{rulesOf}
+use Rattle.judging.specs.declared.Gate.the-variants.{Open, Shut}
+use Rattle.judging.specs.declared.Gate.{Gate}
+use Rattle.judging.specs.declared.Judgement.{Judgement}
+use Rattle.judging.specs.declared.Verdict.{Verdict}
+use Rattle.judging.specs.declared.Verdict.the-variants.{Holds, Fails}
+use Rattle.judging.specs.declared.Judged.the-variants.{Counts}
+use Rattle.judging.specs.declared.Judged.the-variants as Judged
+use Rattle.judging.specs.declared.Decided.the-variants.{As}
+use Rattle.judging.specs.declared.Decided.the-variants as Decided
+use Rattle.judging.specs.Rows.{rowsFrom, validBy, badBy}
+use Rattle.judging.specs.Judge.{Case, caseOf, caseIn, caseAt, Judges, Decides, Gates, Judging, Deciding, Finds, Tallies}
+use Rattle.judging.proofs.RowLaws.{writes-length, valid-by}
+
+module _ (rules : List Rule) (s : List ℕ) (e : Extent) (rows base : List ℕ) (cs : List Check)
+    (er : take (e .main) rows ≡ rowsFrom rules s (mainPlace e) (e .main) (e .main))
+    (eb : base ≡ written (writesAt s (e .at) (e .initial)) emptyDisk)
+    (ec : take (e .checks) cs ≡ checksAt s (checksPlace e) (e .checks)) where
+  same-valid : (x : ℕ) → validBy rows (e .main) x ≡ valid rules (testAt s e .main) x
+  unfolding testAt
+  same-valid x = valid-by rules s (mainPlace e) (e .main) x rows er
+
+  same-bad : (x : ℕ) → badBy rows (e .main) base (writesAt s (mainPlace e) (e .main)) (take (e .checks) cs) x ≡ bad rules (testAt s e) x
+  unfolding badBy bad testAt initialDisk
+  same-bad x = rw (valid-by rules s (mainPlace e) (e .main) x rows er, ec, eb)
+
+  size : 2 ^ e .main ≡ 2 ^ length (testAt s e .main)
+  unfolding testAt
+  size = ap (λ (n : ℕ). 2 ^ n) (sym (writes-length s (mainPlace e) (e .main)))
+
+  pub judges-all : (j : Judgement)
+      → Tallies (validBy rows (e .main)) (badBy rows (e .main) base (writesAt s (mainPlace e) (e .main)) (take (e .checks) cs)) (2 ^ e .main) j
+      → Judges (caseAt rules s e) j
+  unfolding validCount badCount
+  judges-all j t =
+      record {
+        valid = t .valid ∙ count-ext _ _ (2 ^ e .main) (λ x h. same-valid x) ∙ ap (countBelow (valid rules (testAt s e .main))) size;
+        bad = t .bad ∙ count-ext _ _ (2 ^ e .main) (λ x h. same-bad x) ∙ ap (countBelow (bad rules (testAt s e))) size;
+        shown = λ n. let w = t .shown n in bad-true rules (testAt s e) (j .shown) (subst (λ (k : ℕ). j .shown < k) size (w .0)) (sym (same-bad (j .shown)) ∙ w .1);
+        none = t .none;
+      }
+
+  pub decides-all : (v : Verdict)
+      → Finds (badBy rows (e .main) base (writesAt s (mainPlace e) (e .main)) (take (e .checks) cs)) (2 ^ e .main) v
+      → Decides (caseAt rules s e) v
+  unfolding Finds Decides
+  decides-all Holds f =
+      testHolds-true rules (testAt s e)
+      (unfold testHolds in allBelow-intro (λ x. not (bad rules (testAt s e) x)) (2 ^ length (testAt s e .main))
+      (λ x h. rw (sym (same-bad x) ∙ f x (subst (λ (k : ℕ). x < k) (sym size) h))))
+  decides-all (Fails x) f = bad-true rules (testAt s e) x (subst (λ (k : ℕ). x < k) size (f .0)) (sym (same-bad x) ∙ f .1)
+
+-- ---- the refusals, outcome by outcome
+
+-- the case of an accepted file whose rules are cyclic, or not
+abbrev fromFile : ℕ → Bool → ℕ → ℕ → List ℕ → File → Outcome Case
+fromFile k b rules tests s f =
+    cond b (refused 8 0) (cond (leb 1 k && leb k tests) (answer (record { rules = rulesAt s rules; test = testOf f (k - 1) })) (refused 9 0))
+
+case-file : (s : List ℕ) (k rules tests : ℕ) (rs : List Rule) (b : Bool) (f : File) → readOf s ≡ answer f → f .rules ≡ rulesAt s rules → length (f .tests) ≡ tests
+    → rs ≡ rulesAt s rules → b ≡ cyclic rs → caseIn s k ≡ fromFile k b rules tests s f
+unfolding caseIn caseOf
+case-file s k rules tests rs b f h a n q p = rw (h, a, n, p, q)
+
+module _ (s : List ℕ) (k w : ℕ) (x : Scan) (z : w ≡ k - 1) (t : Tells s w (readOf s) x) where
+  pub shut-reading : (number place : ℕ) → x ≡ Refused number place → Gates s k (Shut number place)
+  unfolding Gates caseIn caseOf
+  shut-reading number place e = rw (refused-read s w number place (rw e at t))
+
+  module _ (rules tests : ℕ) (found : Extent) (e : x ≡ Accepted rules tests found) where
+    pub rules-most : rules ≤ 32
+    rules-most = accepted-most s w rules tests found (rw e at t) .0
+
+    pub rules-inside : 6 * rules ≤ length s
+    rules-inside = accepted-long s w rules tests found (rw e at t)
+
+    module _ (r : Rules) (b : Bool) (q : rulesOf r ≡ rulesAt s rules) (p : b ≡ cyclic (rulesOf r)) where
+      -- what the file gives, once its rules are known
+      reads : caseIn s k ≡ fromFile k b rules tests s (accepted-file s w rules tests found (rw e at t))
+      reads =
+          let h = rw e at t in
+          case-file s k rules tests (rulesOf r) b (accepted-file s w rules tests found h) (accepted-read s w rules tests found h) (accepted-at s w rules tests found h) (accepted-tests s w rules tests found h) q p
+
+      pub shut-cyclic : b ≡ true → Gates s k (Shut 8 0)
+      unfolding Gates
+      shut-cyclic h = reads ∙ rw h
+
+      pub shut-zero : b ≡ false → k < 1 → Gates s k (Shut 9 0)
+      unfolding Gates
+      shut-zero h l = reads ∙ rw (h, lt-leb 1 k l)
+
+      pub shut-none : b ≡ false → 1 ≤ k → tests < k → Gates s k (Shut 9 0)
+      unfolding Gates
+      shut-none h l m = reads ∙ rw (h, le-leb 1 k l, lt-leb k tests m)
+
+      pub gate-open : b ≡ false → 1 ≤ k → k ≤ tests → Gates s k (Open rules found)
+      unfolding Gates
+      gate-open h l m =
+          let i : w < tests = omega arith in
+          let a = accepted-test s w rules tests found (rw e at t) i in
+          (reads ∙ rw (h, le-leb 1 k l, le-leb k tests m, ← z, a), rules-most, rules-inside, accepted-inside s w rules tests found (rw e at t) i)
+
+-- ---- from the gate to the answers
+
+module _ (s : List ℕ) (k : ℕ) (g : Gate) (t : Gates s k g) where
+  pub judging-shut : (number place : ℕ) → g ≡ Shut number place → Judging (caseIn s k) (Judged.Refused number place)
+  unfolding Gates Judging
+  judging-shut number place e = let h : caseIn s k ≡ refused number place = rw e at t in rw h
+
+  pub deciding-shut : (number place : ℕ) → g ≡ Shut number place → Deciding (caseIn s k) (Decided.Refused number place)
+  unfolding Gates Deciding
+  deciding-shut number place e = let h : caseIn s k ≡ refused number place = rw e at t in rw h
+
+  module _ (rules : ℕ) (found : Extent) (e : g ≡ Open rules found) where
+    opened : (caseIn s k ≡ answer (caseAt (rulesAt s rules) s found)) × (rules ≤ 32) × (6 * rules ≤ length s) × Inside s found
+    unfolding Gates
+    opened = rw e at t
+
+    pub open-rules : rules ≤ 32
+    open-rules = opened .1
+
+    pub open-long : 6 * rules ≤ length s
+    open-long = opened .2
+
+    pub open-inside : Inside s found
+    open-inside = opened .3
+
+    pub judging-open : (r : Rules) (j : Judgement) → rulesOf r ≡ rulesAt s rules → Judges (caseAt (rulesOf r) s found) j → Judging (caseIn s k) (Counts j)
+    unfolding Judging
+    judging-open r j q p = rw (opened .0) (j, refl, rw q at p)
+
+    pub deciding-open : (r : Rules) (v : Verdict) → rulesOf r ≡ rulesAt s rules → Decides (caseAt (rulesOf r) s found) v → Deciding (caseIn s k) (As v)
+    unfolding Deciding
+    deciding-open r v q p = rw (opened .0) (v, refl, rw q at p)
+
+pub ruleset judges = (needs, judges-all, decides-all, shut-reading, shut-cyclic, shut-zero, shut-none, gate-open, judging-shut, deciding-shut, judging-open, deciding-open)

@@ -1,0 +1,4 @@
+pub mod RowLaws
+pub mod Steps
+pub mod CountLaws
+pub mod JudgeLaws
