@@ -3,7 +3,9 @@ use mathlib.Core.Path.{_≡_, refl, sym, ap, ap₂, subst, _∙_}
 use mathlib.Core.Bool.{Bool, true, false, cond, not, _&&_}
 use mathlib.Core.List.{List}
 use Prim.Native.Nat.{ℕ, _+_, _-_, _*_, _^_, _≤_, _<_}
+use native.Mathlib.Decide.{ℕ-discrete}
 use native.Mathlib.Omega.{arith}
+use lib.Pow.{pow-mono}
 use lib.Dec.{leb}
 use lib.ListN.{length, take}
 use borrow.Author.Needs.{needs}
@@ -22,9 +24,10 @@ use Rattle.reader.specs.declared.Extent.{Extent}
 use Rattle.reader.specs.declared.Scan.{Scan}
 use Rattle.reader.specs.declared.Scan.the-variants.{Accepted, Refused}
 use Rattle.reader.specs.File.{readOf}
+use Rattle.reader.specs.Limits.{longest}
 use Rattle.reader.specs.Scan.{rulesAt, writesAt, checksAt, mainPlace, checksPlace, testAt}
 use Rattle.reader.specs.Held.{Tells, Inside, testOf}
-use Rattle.reader.proofs.CallerLaws.{refused-read, accepted-file, accepted-read, accepted-tests, accepted-most, accepted-inside, accepted-test, accepted-at, accepted-long}
+use Rattle.reader.proofs.CallerLaws.{refused-read, refused-most, accepted-file, accepted-read, accepted-tests, accepted-most, accepted-inside, accepted-test, accepted-at, accepted-long}
 use Rattle.rules.specs.declared.Rules.{Rules}
 use Rattle.rules.specs.Held.{rulesOf}
 use Rattle.judging.specs.declared.Gate.the-variants.{Open, Shut}
@@ -37,8 +40,9 @@ use Rattle.judging.specs.declared.Judged.the-variants as Judged
 use Rattle.judging.specs.declared.Decided.the-variants.{As}
 use Rattle.judging.specs.declared.Decided.the-variants as Decided
 use Rattle.judging.specs.Rows.{rowsFrom, validBy, badBy}
-use Rattle.judging.specs.Judge.{Case, caseOf, caseIn, caseAt, Judges, Decides, Gates, Judging, Deciding, Finds, Tallies}
+use Rattle.judging.specs.Judge.{Case, caseOf, caseIn, caseAt, Judges, Decides, Gates, Judging, Deciding, Few, FewDecided, Finds, Tallies}
 use Rattle.judging.proofs.RowLaws.{writes-length, valid-by}
+use Rattle.judging.proofs.CountLaws.{count-most}
 
 module _ (rules : List Rule) (s : List ℕ) (e : Extent) (rows base : List ℕ) (cs : List Check)
     (er : take (e .main) rows ≡ rowsFrom rules s (mainPlace e) (e .main) (e .main))
@@ -78,6 +82,34 @@ module _ (rules : List Rule) (s : List ℕ) (e : Extent) (rows base : List ℕ) 
       (λ x h. rw (sym (same-bad x) ∙ f x (subst (λ (k : ℕ). x < k) (sym size) h))))
   decides-all (Fails x) f = bad-true rules (testAt s e) x (subst (λ (k : ℕ). x < k) size (f .0)) (sym (same-bad x) ∙ f .1)
 
+-- ---- no number is larger than the count of schedules
+
+module _ (rules : List Rule) (s : List ℕ) (e : Extent) (i : Inside s e) where
+  schedules-most : 2 ^ length (testAt s e .main) ≤ 4096
+  unfolding testAt
+  schedules-most = rw (writes-length s (mainPlace e) (e .main)) (pow-mono {i = e .main} {j = 12} (i .main-most))
+
+  bad-most : (x : ℕ) → Bad rules (testAt s e) x → x ≤ 4096
+  unfolding Bad
+  bad-most x b = let l = b .0 in let m = schedules-most in omega arith
+
+  pub judges-few : (j : Judgement) → Judges (caseAt rules s e) j → Few (Counts j)
+  unfolding Few validCount badCount
+  judges-few j p =
+      let m = schedules-most in
+      let a = p .valid in let b = count-most (valid rules (testAt s e .main)) (2 ^ length (testAt s e .main)) in
+      let c = p .bad in let d = count-most (bad rules (testAt s e)) (2 ^ length (testAt s e .main)) in
+      (omega arith, omega arith, shown (ℕ-discrete (j .bad) 0))
+    where
+      shown : Dec (j .bad ≡ 0) → j .shown ≤ 4096
+      shown (yes z) = let n = p .none z in omega arith
+      shown (no n) = bad-most (j .shown) (p .shown n)
+
+  pub decides-few : (v : Verdict) → Decides (caseAt rules s e) v → FewDecided (As v)
+  unfolding FewDecided Decides
+  decides-few Holds p = tt
+  decides-few (Fails x) p = bad-most x p
+
 -- ---- the refusals, outcome by outcome
 
 -- the case of an accepted file whose rules are cyclic, or not
@@ -93,7 +125,11 @@ case-file s k rules tests rs b f h a n q p = rw (h, a, n, p, q)
 module _ (s : List ℕ) (k w : ℕ) (x : Scan) (z : w ≡ k - 1) (t : Tells s w (readOf s) x) where
   pub shut-reading : (number place : ℕ) → x ≡ Refused number place → Gates s k (Shut number place)
   unfolding Gates caseIn caseOf
-  shut-reading number place e = rw (refused-read s w number place (rw e at t))
+  shut-reading number place e =
+      let h = rw e at t in
+      let l = refused-most s w number place h in
+      let m = l .0 in
+      (rw (refused-read s w number place h), omega arith, l .1)
 
   module _ (rules tests : ℕ) (found : Extent) (e : x ≡ Accepted rules tests found) where
     pub rules-most : rules ≤ 32
@@ -111,15 +147,15 @@ module _ (s : List ℕ) (k w : ℕ) (x : Scan) (z : w ≡ k - 1) (t : Tells s w 
 
       pub shut-cyclic : b ≡ true → Gates s k (Shut 8 0)
       unfolding Gates
-      shut-cyclic h = reads ∙ rw h
+      shut-cyclic h = (reads ∙ rw h, omega arith, omega arith)
 
       pub shut-zero : b ≡ false → k < 1 → Gates s k (Shut 9 0)
       unfolding Gates
-      shut-zero h l = reads ∙ rw (h, lt-leb 1 k l)
+      shut-zero h l = (reads ∙ rw (h, lt-leb 1 k l), omega arith, omega arith)
 
       pub shut-none : b ≡ false → 1 ≤ k → tests < k → Gates s k (Shut 9 0)
       unfolding Gates
-      shut-none h l m = reads ∙ rw (h, le-leb 1 k l, lt-leb k tests m)
+      shut-none h l m = (reads ∙ rw (h, le-leb 1 k l, lt-leb k tests m), omega arith, omega arith)
 
       pub gate-open : b ≡ false → 1 ≤ k → k ≤ tests → Gates s k (Open rules found)
       unfolding Gates
@@ -133,11 +169,19 @@ module _ (s : List ℕ) (k w : ℕ) (x : Scan) (z : w ≡ k - 1) (t : Tells s w 
 module _ (s : List ℕ) (k : ℕ) (g : Gate) (t : Gates s k g) where
   pub judging-shut : (number place : ℕ) → g ≡ Shut number place → Judging (caseIn s k) (Judged.Refused number place)
   unfolding Gates Judging
-  judging-shut number place e = let h : caseIn s k ≡ refused number place = rw e at t in rw h
+  judging-shut number place e = let h : (caseIn s k ≡ refused number place) × (number ≤ 9) × (place ≤ longest) = rw e at t in rw (h .0)
+
+  pub few-shut : (number place : ℕ) → g ≡ Shut number place → Few (Judged.Refused number place)
+  unfolding Gates Few
+  few-shut number place e = let h : (caseIn s k ≡ refused number place) × (number ≤ 9) × (place ≤ longest) = rw e at t in (h .1, h .2)
+
+  pub few-decided-shut : (number place : ℕ) → g ≡ Shut number place → FewDecided (Decided.Refused number place)
+  unfolding Gates FewDecided
+  few-decided-shut number place e = let h : (caseIn s k ≡ refused number place) × (number ≤ 9) × (place ≤ longest) = rw e at t in (h .1, h .2)
 
   pub deciding-shut : (number place : ℕ) → g ≡ Shut number place → Deciding (caseIn s k) (Decided.Refused number place)
   unfolding Gates Deciding
-  deciding-shut number place e = let h : caseIn s k ≡ refused number place = rw e at t in rw h
+  deciding-shut number place e = let h : (caseIn s k ≡ refused number place) × (number ≤ 9) × (place ≤ longest) = rw e at t in rw (h .0)
 
   module _ (rules : ℕ) (found : Extent) (e : g ≡ Open rules found) where
     opened : (caseIn s k ≡ answer (caseAt (rulesAt s rules) s found)) × (rules ≤ 32) × (6 * rules ≤ length s) × Inside s found
@@ -157,8 +201,14 @@ module _ (s : List ℕ) (k : ℕ) (g : Gate) (t : Gates s k g) where
     unfolding Judging
     judging-open r j q p = rw (opened .0) (j, refl, rw q at p)
 
+    pub few-open : (r : Rules) (j : Judgement) → Judges (caseAt (rulesOf r) s found) j → Few (Counts j)
+    few-open r j p = judges-few (rulesOf r) s found open-inside j p
+
+    pub few-decided-open : (r : Rules) (v : Verdict) → Decides (caseAt (rulesOf r) s found) v → FewDecided (As v)
+    few-decided-open r v p = decides-few (rulesOf r) s found open-inside v p
+
     pub deciding-open : (r : Rules) (v : Verdict) → rulesOf r ≡ rulesAt s rules → Decides (caseAt (rulesOf r) s found) v → Deciding (caseIn s k) (As v)
     unfolding Deciding
     deciding-open r v q p = rw (opened .0) (v, refl, rw q at p)
 
-pub ruleset judges = (needs, judges-all, decides-all, shut-reading, shut-cyclic, shut-zero, shut-none, gate-open, judging-shut, deciding-shut, judging-open, deciding-open)
+pub ruleset judges = (needs, judges-all, decides-all, shut-reading, shut-cyclic, shut-zero, shut-none, gate-open, judging-shut, deciding-shut, judging-open, deciding-open, few-shut, few-decided-shut, few-open, few-decided-open)

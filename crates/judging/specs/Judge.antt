@@ -11,6 +11,7 @@ use Rattle.model.specs.Cyclic.{cyclic}
 use Rattle.model.specs.Test.{Test, File, TestHolds, Bad, countBelow, validCount, badCount}
 use Rattle.reader.specs.File.{readOf}
 use Rattle.reader.specs.declared.Extent.{Extent}
+use Rattle.reader.specs.Limits.{longest}
 use Rattle.reader.specs.Scan.{rulesAt, testAt}
 use Rattle.reader.specs.Held.{testOf, Inside}
 use Rattle.judging.specs.declared.Gate.{Gate}
@@ -61,7 +62,7 @@ caseAt rules s e = record { rules = rules; test = testAt s e }
 
 -- a test of an accepted file, by its place, or the refusal
 unfoldable pub Gates : List ℕ → ℕ → Gate → Type 0
-Gates s k (Shut number place) = caseIn s k ≡ refused number place
+Gates s k (Shut number place) = (caseIn s k ≡ refused number place) × (number ≤ 9) × (place ≤ longest)
 Gates s k (Open rules found) =
     (caseIn s k ≡ answer (caseAt (rulesAt s rules) s found)) × (rules ≤ 32) × (6 * rules ≤ length s) × Inside s found
 
@@ -74,6 +75,16 @@ Judging (answer c) r = (j : Judgement) × (r ≡ Counts j) × Judges c j
 unfoldable pub Deciding : Outcome Case → Decided → Type 0
 Deciding (refused number place) r = r ≡ Decided.Refused number place
 Deciding (answer c) r = (v : Verdict) × (r ≡ As v) × Decides c v
+
+-- a test has at most 4,096 schedules, so no number of an answer is larger
+unfoldable pub Few : Judged → Type 0
+Few (Counts j) = (j .valid ≤ 4096) × (j .bad ≤ 4096) × (j .shown ≤ 4096)
+Few (Judged.Refused number place) = (number ≤ 9) × (place ≤ longest)
+
+unfoldable pub FewDecided : Decided → Type 0
+FewDecided (As Holds) = Unit {0}
+FewDecided (As (Fails s)) = s ≤ 4096
+FewDecided (Decided.Refused number place) = (number ≤ 9) × (place ≤ longest)
 
 -- ---- the code's steps
 

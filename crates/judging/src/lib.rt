@@ -17,7 +17,7 @@ ghost use Rattle.reader.specs.Scan.{writesAt, checksAt};
 ghost use Rattle.rules.specs.Held.{rulesOf};
 ghost use Rattle.judging.specs.Rows.{rowOf, rowsFrom, covers, validBy, badBy};
 ghost use Rattle.reader.specs.Held.{Inside};
-ghost use Rattle.judging.specs.Judge.{caseAt, caseIn, Judges, Decides, Gates, Judging, Deciding, Finds, tallied, Tallies};
+ghost use Rattle.judging.specs.Judge.{caseAt, caseIn, Judges, Decides, Gates, Judging, Deciding, Few, FewDecided, Finds, tallied, Tallies};
 
 // The judge's three numbers: valid schedules, bad ones, and one of these, or 0 where there is none.
 pub struct Judgement {
@@ -314,7 +314,7 @@ pub fn admit(file: &[u8], test: u64) -> Gate
 
 // Judges test `test`, counted from 1.
 pub fn judge(file: &[u8], test: u64) -> Judged
-    ensures { λ r. ⌜ Judging (caseIn (now (file .entry)) test) r ⌝ }
+    ensures { λ r. ⌜ Judging (caseIn (now (file .entry)) test) r × Few r ⌝ }
 {
     match admit(file, test) {
         Gate::Open { rules, found } => {
@@ -326,7 +326,7 @@ pub fn judge(file: &[u8], test: u64) -> Judged
 
 // The verdict on test `test`, counted from 1.
 pub fn decide(file: &[u8], test: u64) -> Decided
-    ensures { λ r. ⌜ Deciding (caseIn (now (file .entry)) test) r ⌝ }
+    ensures { λ r. ⌜ Deciding (caseIn (now (file .entry)) test) r × FewDecided r ⌝ }
 {
     match admit(file, test) {
         Gate::Open { rules, found } => {

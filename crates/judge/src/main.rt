@@ -1,0 +1,43 @@
+// The judging program: a file on standard input, a line for each of its tests on standard output.
+// 19,456 bytes are enough: a longer file is refused as its first 19,389 bytes are.
+ghost use Prim.Native.Nat.{_+_, _≤_};
+ghost use lib.ListN.{length};
+
+// Reads until the buffer is full or the input ends, and answers how many bytes it read; one more
+// than the buffer's length if a read fails.
+fn read_input(buffer: &mut [u8]) -> usize
+    ensures { λ r. ⌜ r ≤ length (now (buffer .exit)) + 1 ⌝ }
+{
+    let mut done: usize = 0;
+    while done < buffer.len() {
+        let got = libc::read(0, &mut buffer[done..]);
+        if got < 0 {
+            return buffer.len() + 1;
+        }
+        let more = io::count(got, &buffer[done..]);
+        if more == 0 {
+            return done;
+        }
+        done += more;
+    }
+    done
+}
+
+// Judges the first n bytes of `buffer`, by way of `out`.
+fn judge_input(buffer: &[u8], n: usize, out: &mut [u8])
+    requires { ⌜ 400 ≤ length (now out) ⌝ }
+{
+    if buffer.len() < n {
+        io::write_all(2, b"judge: standard input could not be read\n");
+        return;
+    }
+    let m = printing::judge_lines(&buffer[..n], out);
+    io::write_all(1, &out[..m]);
+}
+
+fn main() {
+    let mut buffer = [0u8; 19456];
+    let mut out = [0u8; 400];
+    let n = read_input(&mut buffer);
+    judge_input(&buffer, n, &mut out);
+}

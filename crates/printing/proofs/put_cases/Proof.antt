@@ -1,0 +1,63 @@
+use Prim.Native.Nat.{_*_, _-_, _≤_}
+use mathlib.Core.Path.{_≡_}
+use lib.ListN.{length}
+use Rattle.printing.specs.Lines.{Wrote, caseLines}
+use Rattle.printing.proofs.TextLaws.{texts}
+use Rattle.printing.proofs.put_cases.Statement.{statement}
+use Rattle.printing.proofs.put_cases.Tie as tie
+use Rattle.printing.proofs.put_cases.Reads as reads
+use Rattle.printing.proofs.put_cases.Lts as lts
+use Rattle.printing.proofs.put_case.Reads as put-case-reads
+
+abbrev Inv-loop : tie.InvT-loop
+Inv-loop out₀ file tests at₀ i₀ out at i = (i ≤ tests) × (at ≤ 24 * i) × (length out ≡ length out₀) × Wrote out₀ 0 (caseLines file i) out at
+
+abbrev μ-loop : tie.MeasureT-loop
+μ-loop out₀ file tests at₀ i₀ out at i = tests - i
+
+-- src/lib.rt:110:5
+loop-holds : tie.Need-loop-holds Inv-loop μ-loop
+loop-holds c = search texts
+
+-- src/lib.rt:111:38
+add-put-case : tie.Need-add-put-case Inv-loop μ-loop
+add-put-case c = search texts
+
+-- src/lib.rt:111:9
+put-case-requires : tie.Need-put-case-requires Inv-loop μ-loop
+put-case-requires c κs = search texts
+
+-- src/lib.rt:112:9
+add-i : tie.Need-add-i Inv-loop μ-loop
+add-i c = search texts
+
+-- src/lib.rt:110:5
+loop-less : tie.Need-loop-less Inv-loop μ-loop
+loop-less c = search texts
+
+-- src/lib.rt:110:5
+loop-again : tie.Need-loop-again Inv-loop μ-loop
+loop-again c = search texts
+
+-- src/lib.rt:104:1
+same-length : tie.Need-same-length Inv-loop μ-loop
+same-length c = search texts
+
+-- src/lib.rt:104:1
+returns : tie.Need-returns Inv-loop μ-loop
+returns c = search texts
+
+pub put-cases-spec : {M : Type 1} → statement M
+put-cases-spec =
+    tie.close
+    (tie.spec
+    Inv-loop
+    μ-loop
+    loop-holds
+    add-put-case
+    put-case-requires
+    add-i
+    loop-less
+    loop-again
+    same-length
+    returns)
