@@ -1,5 +1,6 @@
 # test: the whole gate. run: the judging program on the samples. soak: many more random cases.
-.PHONY: test run soak clean
+# bench: the proved routines against Rust. samples: writes samples/*.bin anew.
+.PHONY: test run soak bench samples clean
 
 test:
 	@tools/test.sh
@@ -9,15 +10,22 @@ run:
 		echo "The judging program comes with a later landing."; \
 		exit 0; \
 	fi; \
-	rt check judge || exit 1; \
-	for file in samples/*; do \
-		[ -f "$$file" ] || continue; \
-		echo "$$file:"; \
+	mkdir -p target; \
+	echo "proving the judging program; what rt says goes to target/run.log"; \
+	rt check judge >target/run.log 2>&1 || { cat target/run.log; exit 1; }; \
+	for file in samples/*.bin; do \
+		echo "$${file##*/}:"; \
 		target/bin/judge <"$$file" || exit 1; \
 	done
 
 soak:
 	@tools/test.sh soak
+
+bench:
+	@tools/test.sh bench
+
+samples:
+	@tools/test.sh samples
 
 clean:
 	rm -rf target

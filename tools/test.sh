@@ -2,13 +2,15 @@
 # The gate: proves every crate, then tests the proved libraries against the reference.
 #   tools/test.sh         all of it
 #   tools/test.sh soak    only the differential tests, with many more cases and another seed
+#   tools/test.sh bench   the benchmark
+#   tools/test.sh samples writes the sample files anew
 # Each part runs whatever became of the ones before it. The very last line is 'N passed, M failed',
 # and the status is 0 only if M is 0.
 set -uo pipefail
 cd "$(dirname "${BASH_SOURCE[0]}")/.." || exit 1
 
 # Nothing but the libraries just proved is tested, and builds write below target/ only.
-unset PELZHONDY_STATICLIB
+unset PELZHONDY_TARGET
 export CARGO_TERM_COLOR=never CARGO_HOME="$PWD/target/cargo"
 libraries='workbench receiver'
 
@@ -85,7 +87,7 @@ static_libraries() {
 }
 
 differential_tests() {
-    part 'building the differential tests' rust build -p differential
+    part 'building the differential tests' rust build -p differential -p benchmark
     if [ "$status" -ne 0 ]; then
         failed=$((failed + 1))
         return
@@ -95,6 +97,49 @@ differential_tests() {
     add $(last_line_counts 'differential: ')
 }
 
+c_compiler() {
+    cc -std=c99 -Wall -Wextra -Wpedantic -Werror -Iinclude "$@"
+}
+
+# The routines that an archive defines.
+defined() { # LIBRARY
+    [ ! -f "target/staticlib/lib$1.a" ] ||
+        nm -g --defined-only -P "target/staticlib/lib$1.a" | sed -n 's/^\(pelzhondy_[a-z_]*\) .*/\1/p'
+}
+
+# Each header compiles by itself, and those of the libraries declare all that these define.
+check_headers() {
+    local header library routine
+    for header in include/*.h; do
+        c_compiler -fsyntax-only -x c "$header" || return 1
+    done
+    for library in $libraries; do
+        for routine in $(defined "$library"); do
+            if ! grep -q "^uint64_t $routine(" "include/pelzhondy_$library.h"; then
+                echo "pelzhondy_$library.h does not declare $routine"
+                return 1
+            fi
+        done
+    done
+}
+
+# The C host prints what it is expected to.
+check_host() {
+    c_compiler examples/receiver/host.c target/staticlib/libreceiver.a -o target/host &&
+        target/host >target/host.txt && diff examples/receiver/expected.txt target/host.txt
+}
+
+c_tests() {
+    part 'C headers' check_headers
+    add $((status == 0)) $((status != 0))
+    if [ "$(defined receiver | grep -Ec '_(open|hand_in|step|drain|get)$')" -lt 5 ]; then
+        echo 'not there yet: the C host'
+        return
+    fi
+    part 'C host' check_host
+    add $((status == 0)) $((status != 0))
+}
+
 case "${1:-}" in
 '')
     install_missing
@@ -102,18 +147,28 @@ case "${1:-}" in
     # shellcheck disable=SC2046
     add $(last_line_counts '')
     static_libraries
-    part 'tests of the reference' rust test -p reference
+    part 'tests of the reference' rust test -p reference -p fast
     # shellcheck disable=SC2046
     add $(cargo_test_counts)
     differential_tests
+    c_tests
     ;;
 soak)
     export PELZHONDY_CASES="${PELZHONDY_CASES:-100}" PELZHONDY_SEED="${PELZHONDY_SEED:-$(date +%s)}"
     static_libraries
     differential_tests
     ;;
+bench)
+    static_libraries
+    rust build -p benchmark && target/rust/release/benchmark
+    exit
+    ;;
+samples)
+    rust run -p reference --bin samples -- samples
+    exit
+    ;;
 *)
-    echo "usage: tools/test.sh [soak]" >&2
+    echo "usage: tools/test.sh [soak | bench | samples]" >&2
     exit 2
     ;;
 esac

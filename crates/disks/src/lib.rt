@@ -3,7 +3,7 @@ use model::Check;
 use model::Write;
 ghost use mathlib.Core.Path.{_≡_};
 ghost use mathlib.Core.Bool.{cond};
-ghost use Prim.Native.Nat.{_+_, _*_, _≤_};
+ghost use Prim.Native.Nat.{_+_, _*_, _<_, _≤_};
 ghost use lib.ListN.{length, take};
 ghost use Rattle.model.specs.Disk.{firstOf, secondOf};
 ghost use Rattle.model.specs.Schedule.{store, run};
@@ -53,14 +53,14 @@ fn range_holds(disk: &[u32], head: usize, tail: usize) -> bool
 }
 
 // The two numbers of a block.
-fn first_of(b: u32) -> usize
-    ensures { λ r. ⌜ r ≡ firstOf b ⌝ }
+pub fn first_of(b: u32) -> usize
+    ensures { λ r. ⌜ (r ≡ firstOf b) × (r < 65536) ⌝ }
 {
     (b / 65536) as usize
 }
 
-fn second_of(b: u32) -> usize
-    ensures { λ r. ⌜ r ≡ secondOf b ⌝ }
+pub fn second_of(b: u32) -> usize
+    ensures { λ r. ⌜ (r ≡ secondOf b) × (r < 65536) ⌝ }
 {
     (b % 65536) as usize
 }

@@ -6,7 +6,7 @@ use mathlib.Core.Option.{Option, none, some}
 use lib.Dec.{ltb}
 use lib.ListN.{length, drop}
 use Rattle.model.specs.declared.Rule.{Rule}
-use Rattle.model.specs.Answer.{Outcome, answer, refused}
+use Rattle.model.specs.Answer.{Outcome, answer, refused, coded}
 use Rattle.model.specs.Test.{Test, File}
 use Rattle.model.specs.Find.{candidatesOf, picked, chosen}
 use Rattle.reader.specs.Encode.{ruleFields}
@@ -29,17 +29,33 @@ unfoldable pub wrote : List Rule → Option ℕ → List ℕ → Found
 wrote candidates none buffer = found (refused 13 0) buffer
 wrote candidates (some m) buffer = found (answer (length (picked candidates m))) (over (ruleFields (picked candidates m)) buffer)
 
--- 10 file has rules; 12 buffer under 96 bytes; 11 over 16 candidates
+-- 11 over 16 candidates
+unfoldable pub findAmong : List Test → List ℕ → Found
+findAmong tests buffer =
+    let candidates = candidatesOf tests in
+    let choice = chosen tests candidates in
+    let done = wrote candidates choice buffer in
+    cond (ltb 16 (length candidates)) (found (refused 11 0) buffer) done
+
+-- 10 file has rules; 12 buffer under 96 bytes
 unfoldable pub findIn : Outcome File → List ℕ → Found
 findIn (refused number place) buffer = found (refused number place) buffer
 findIn (answer f) buffer =
-    let candidates = candidatesOf (f .tests) in
-    let choice = chosen (f .tests) candidates in
-    let done = wrote candidates choice buffer in
+    let done = findAmong (f .tests) buffer in
     cond (ltb 0 (length (f .rules))) (found (refused 10 0) buffer)
     (cond (ltb (length buffer) 96) (found (refused 12 0) buffer)
-    (cond (ltb 16 (length candidates)) (found (refused 11 0) buffer)
-    done))
+    done)
 
 unfoldable pub findOf : List ℕ → List ℕ → Found
 findOf s buffer = findIn (readOf s) buffer
+
+-- what a call leaves, its outcome as one number
+pub record Coded : Type 0 where
+  pub number : ℕ
+  pub buffer : List ℕ
+
+abbrev pub out : ℕ → List ℕ → Coded
+out n b = record { number = n; buffer = b }
+
+unfoldable pub foundCoded : Found → Coded
+foundCoded f = out (coded (f .outcome)) (f .buffer)

@@ -1,1 +1,290 @@
 // Finding the smallest sufficient rule set. What is right is in specs/.
+use model::Check;
+use model::Rule;
+use reader::Extent;
+use reader::Scan;
+use rules::Rules;
+ghost use mathlib.Core.Path.{_≡_};
+ghost use mathlib.Core.Bool.{cond};
+ghost use Prim.Native.Nat.{_+_, _*_, _^_, _<_, _≤_};
+ghost use lib.ListN.{length, take, set};
+ghost use lib.Seq.{sets};
+ghost use Rattle.model.specs.Schedule.{run};
+ghost use Rattle.model.specs.Check.{consistent};
+ghost use Rattle.model.specs.Find.{chosenBelow, chosen};
+ghost use Rattle.reader.specs.Encode.{ruleFields};
+ghost use Rattle.reader.specs.Scan.{writesAt, testAt};
+ghost use Rattle.reader.specs.Held.{Inside};
+ghost use Rattle.rules.specs.Held.{rulesOf};
+ghost use Rattle.judging.specs.Rows.{validBy};
+ghost use Rattle.findlaws.specs.Hit.{marks, marked};
+ghost use Rattle.candidates.specs.Kept.{testsIn};
+ghost use Rattle.finding.specs.Table.{withValid, validUnder, Grown, Sets, Bounded, spoilt, Adds, Blank, Shows, either, Lowered, Spreads, passing, better, choiceCode, ruleBlock};
+ghost use Rattle.finding.specs.Finder.{over, out, foundCoded, findAmong, findOf};
+
+// mask, with bit c set where schedule s is valid by the rows.
+fn with_valid(mask: u64, c: usize, rows: &[u64; 64], n: usize, s: u64) -> u64
+    requires { ⌜ (c < 64) × (n ≤ 64) ⌝ }
+    ensures { λ r. ⌜ r ≡ withValid (validBy (now (rows .entry)) n) c s mask ⌝ }
+{
+    if judging::is_valid(rows, n, s) {
+        return relation::with_bit(mask, c);
+    }
+    mask
+}
+
+// Bit c of each schedule's set, by the rows of candidate c.
+fn allow(allowed: &mut [u64], c: usize, rows: &[u64; 64], n: usize)
+    requires { ⌜ (length (now allowed) ≡ 4096) × ((c < 64) × (n ≤ 12)) ⌝ }
+    ensures { λ _. ⌜ Grown (withValid (validBy (now (rows .entry)) n) c) (now (allowed .entry)) (now (allowed .exit)) (2 ^ n) ⌝ }
+{
+    let total = 1usize << n;
+    let mut s: usize = 0;
+    while s < total {
+        allowed[s] = with_valid(allowed[s], c, rows, n, s as u64);
+        s += 1;
+    }
+}
+
+// Bit c of each schedule's set: whether it is valid under the rule alone.
+fn allow_rule(allowed: &mut [u64], c: usize, rule: Rule, file: &[u8], at: usize, n: usize)
+    requires { ⌜ (length (now allowed) ≡ 4096) × ((c < 64) × ((n ≤ 12) × (at + 13 * n ≤ length (now file)))) ⌝ }
+    ensures { λ _. ⌜ Grown (withValid (validUnder rule (writesAt (now (file .entry)) at n)) c) (now (allowed .entry)) (now (allowed .exit)) (2 ^ n) ⌝ }
+{
+    let mut rows = [0u64; 64];
+    judging::fill(&mut rows, candidates::one(rule), file, at, n);
+    allow(allowed, c, &rows, n);
+}
+
+// For each schedule of the n writes from `at` on the set of the candidates that leave it valid.
+fn allowed_sets(cands: Rules, file: &[u8], at: usize, n: usize) -> [u64; 4096]
+    requires { ⌜ (cands .count ≤ 16) × ((n ≤ 12) × (at + 13 * n ≤ length (now file))) ⌝ }
+    ensures { λ r. ⌜ Sets (rulesOf cands) (writesAt (now (file .entry)) at n) (2 ^ n) (cands .count) r ⌝ }
+{
+    let mut allowed = [0u64; 4096];
+    let mut c: usize = 0;
+    while c < cands.count {
+        allow_rule(&mut allowed, c, cands.items[c], file, at, n);
+        c += 1;
+    }
+    allowed
+}
+
+// Marks the set x if schedule s leaves an inconsistent disk.
+fn mark_one(
+    table: &mut [u8],
+    x: usize,
+    base: [u32; 256],
+    file: &[u8],
+    at: usize,
+    n: usize,
+    s: u64,
+    checks: [Check; 16],
+    m: usize,
+)
+    requires { ⌜ (x < length (now table)) × ((n ≤ 12) × ((at + 13 * n ≤ length (now file)) × (m ≤ 16))) ⌝ }
+    ensures { λ _. ⌜ now (table .exit) ≡ cond (consistent (take m checks) (run (writesAt (now (file .entry)) at n) s base)) (now (table .entry)) (set (now (table .entry)) x 1) ⌝ }
+{
+    if judging::leaves_consistent(base, file, at, n, s, checks, m) {
+        return;
+    }
+    table[x] = 1;
+}
+
+// Marks the sets of all inconsistent schedules of the n writes from `at` on.
+fn mark(
+    table: &mut [u8],
+    allowed: [u64; 4096],
+    base: [u32; 256],
+    file: &[u8],
+    at: usize,
+    n: usize,
+    checks: [Check; 16],
+    m: usize,
+)
+    requires { ⌜ (length (now table) ≡ 65536) × ((Bounded allowed n) × ((n ≤ 12) × ((at + 13 * n ≤ length (now file)) × (m ≤ 16)))) ⌝ }
+    ensures { λ _. ⌜ Adds (spoilt (take m checks) (writesAt (now (file .entry)) at n) base allowed (2 ^ n)) (now (table .entry)) (now (table .exit)) ⌝ }
+{
+    let total = 1usize << n;
+    let mut s: usize = 0;
+    while s < total {
+        let x = allowed[s] as usize;
+        mark_one(table, x, base, file, at, n, s as u64, checks, m);
+        s += 1;
+    }
+}
+
+// Marks the sets of all inconsistent schedules of a test.
+fn mark_test(table: &mut [u8], cands: Rules, file: &[u8], e: Extent)
+    requires { ⌜ (length (now table) ≡ 65536) × ((cands .count ≤ 16) × Inside (now file) e) ⌝ }
+    ensures { λ _. ⌜ Adds (marks (rulesOf cands) (testAt (now (file .entry)) e)) (now (table .entry)) (now (table .exit)) ⌝ }
+{
+    let at = e.at;
+    let k = e.initial;
+    let n = e.main;
+    let m = e.checks;
+    let main_at = at + 13 * k;
+    let checks_at = main_at + 13 * n;
+    let base = judging::initial_disk(file, at, k);
+    let checks = loading::file_checks(file, checks_at, m);
+    let allowed = allowed_sets(cands, file, main_at, n);
+    mark(table, allowed, base, file, main_at, n, checks, m);
+}
+
+// Marks the sets of all inconsistent schedules of all tests.
+fn mark_all(table: &mut [u8], cands: Rules, file: &[u8], tests: usize)
+    requires { ⌜ (length (now table) ≡ 65536) × ((cands .count ≤ 16) × ((length (testsIn (now file)) ≡ tests) × Blank (now table))) ⌝ }
+    ensures { λ _. ⌜ Shows (marked (rulesOf cands) (testsIn (now (file .entry)))) (now (table .exit)) 65536 ⌝ }
+{
+    let mut t: usize = tests;
+    while 0 < t {
+        t -= 1;
+        let e = candidates::extent_of(file, t);
+        mark_test(table, cands, file, e);
+    }
+}
+
+// A mark, if either is one.
+fn either(y: u8, z: u8) -> u8
+    ensures { λ r. ⌜ r ≡ either y z ⌝ }
+{
+    if y == 1 {
+        return 1;
+    }
+    z
+}
+
+// Hands the marks down from the sets with candidate b to those without.
+fn lower(table: &mut [u8], b: usize, n: usize)
+    requires { ⌜ (length (now table) ≡ 65536) × ((b < n) × (n ≤ 16)) ⌝ }
+    ensures { λ _. ⌜ Lowered b (now (table .entry)) (now (table .exit)) (2 ^ n) ⌝ }
+{
+    let total = 1usize << n;
+    let mut x: usize = 0;
+    while x < total {
+        let w = relation::with_bit(x as u64, b) as usize;
+        table[x] = either(table[x], table[w]);
+        x += 1;
+    }
+}
+
+// Hands the marks down to all parts of the marked sets of n candidates.
+fn lower_all(table: &mut [u8], n: usize)
+    requires { ⌜ (length (now table) ≡ 65536) × (n ≤ 16) ⌝ }
+    ensures { λ _. ⌜ Spreads n n (now (table .entry)) (now (table .exit)) ⌝ }
+{
+    let mut b: usize = 0;
+    while b < n {
+        lower(table, b, n);
+        b += 1;
+    }
+}
+
+// The set m in place of the best so far, if it is sufficient and has no more rules.
+fn better_of(table: &[u8; 65536], cands: Rules, m: u64, best: u64) -> u64
+    requires { ⌜ (cands .count ≤ 16) × (m < 65536) ⌝ }
+    ensures { λ r. ⌜ r ≡ better (passing (now (table .entry)) (rulesOf cands)) m best ⌝ }
+{
+    if u64::count_ones(best) < u64::count_ones(m) {
+        return best;
+    }
+    if table[m as usize] == 1 {
+        return best;
+    }
+    if rules::is_cyclic(candidates::pick(cands, m)) {
+        return best;
+    }
+    m
+}
+
+// The set with the fewest rules, of these the one with the largest number; all bits set if none is sufficient.
+fn choose(table: &[u8; 65536], cands: Rules) -> u64
+    requires { ⌜ cands .count ≤ 16 ⌝ }
+    ensures { λ r. ⌜ r ≡ choiceCode (chosenBelow (passing (now (table .entry)) (rulesOf cands)) (2 ^ cands .count)) ⌝ }
+{
+    let total = 1u64 << cands.count;
+    let mut best: u64 = 18446744073709551615;
+    let mut m: u64 = 0;
+    while m < total {
+        best = better_of(table, cands, m, best);
+        m += 1;
+    }
+    best
+}
+
+// The choice among the candidates of a file.
+fn choice(cands: Rules, file: &[u8], tests: usize) -> u64
+    requires { ⌜ (cands .count ≤ 16) × (length (testsIn (now file)) ≡ tests) ⌝ }
+    ensures { λ r. ⌜ r ≡ choiceCode (chosen (testsIn (now (file .entry))) (rulesOf cands)) ⌝ }
+{
+    let mut table = [0u8; 65536];
+    mark_all(&mut table, cands, file, tests);
+    lower_all(&mut table, cands.count);
+    choose(&table, cands)
+}
+
+// A rule's field at a place.
+fn put_rule(buffer: &mut [u8], at: usize, rule: Rule)
+    requires { ⌜ at + 6 ≤ length (now buffer) ⌝ }
+    ensures { λ _. ⌜ now (buffer .exit) ≡ sets (now (buffer .entry)) at (ruleBlock rule) ⌝ }
+{
+    buffer[at] = 3;
+    buffer[at + 1] = 0;
+    buffer[at + 2] = 3;
+    buffer[at + 3] = rule.first;
+    buffer[at + 4] = rule.predicate;
+    buffer[at + 5] = rule.second;
+}
+
+// The rules' fields at the front of a buffer.
+fn put_rules(buffer: &mut [u8], set: Rules)
+    requires { ⌜ (set .count ≤ 16) × (96 ≤ length (now buffer)) ⌝ }
+    ensures { λ _. ⌜ now (buffer .exit) ≡ over (ruleFields (rulesOf set)) (now (buffer .entry)) ⌝ }
+{
+    let mut i: usize = 0;
+    while i < set.count {
+        put_rule(buffer, 6 * i, set.items[i]);
+        i += 1;
+    }
+}
+
+// Finds rules for the tests of a file without rules: 11, 13, or how many rules stand in the buffer.
+fn find_among(file: &[u8], tests: usize, buffer: &mut [u8]) -> u64
+    requires { ⌜ (length (testsIn (now file)) ≡ tests) × (96 ≤ length (now buffer)) ⌝ }
+    ensures { λ r. ⌜ out r (now (buffer .exit)) ≡ foundCoded (findAmong (testsIn (now (file .entry))) (now (buffer .entry))) ⌝ }
+{
+    let cands = candidates::collect(file, tests);
+    if 16 < cands.count {
+        return model::refuse(11, 0);
+    }
+    let best = choice(cands, file, tests);
+    if best == 18446744073709551615 {
+        return model::refuse(13, 0);
+    }
+    let set = candidates::pick(cands, best);
+    put_rules(buffer, set);
+    set.count as u64
+}
+
+// Finds the smallest rule set under which all tests of a file hold, writes its rules as fields to
+// the front of the buffer, and answers how many; or the refusal.
+pub fn find(file: &[u8], buffer: &mut [u8]) -> u64
+    ensures { λ r. ⌜ out r (now (buffer .exit)) ≡ foundCoded (findOf (now (file .entry)) (now (buffer .entry))) ⌝ }
+{
+    match reader::read(file, 0) {
+        Scan::Accepted {
+            rules,
+            tests,
+            found: _,
+        } => {
+            if 0 < rules {
+                return model::refuse(10, 0);
+            }
+            if buffer.len() < 96 {
+                return model::refuse(12, 0);
+            }
+            find_among(file, tests, buffer)
+        }
+        Scan::Refused { number, place } => model::refuse(number as u64, place as u64),
+    }
+}

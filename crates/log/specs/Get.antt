@@ -6,7 +6,7 @@ use mathlib.Core.List.{List}
 use mathlib.Core.Option.{Option, none, some}
 use lib.Dec.{eqb, ltb}
 use lib.ListN.{length}
-use Rattle.model.specs.Answer.{Outcome, answer, refused}
+use Rattle.model.specs.Answer.{Outcome, answer, refused, refusal}
 use Rattle.model.specs.Disk.{empty, firstOf, secondOf}
 use Rattle.reader.specs.Bytes.{blockIn}
 
@@ -39,3 +39,11 @@ getOf disk key =
 unfoldable pub valueCode : Option ℕ → ℕ
 valueCode none = 65536
 valueCode (some v) = v
+
+-- get's answer in one number
+unfoldable pub getCode : Outcome (Option ℕ) → ℕ
+getCode (answer v) = valueCode v
+getCode (refused number place) = refusal number place
+
+unfoldable pub getAnswer : List ℕ → ℕ → ℕ
+getAnswer disk key = getCode (getOf disk key)

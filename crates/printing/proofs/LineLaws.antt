@@ -9,8 +9,10 @@ use lib.ListN.{length}
 use borrow.Author.Needs.{needs}
 use borrow.Author.Tests.{eq-eqb, ne-eqb}
 use Rattle.printing.specs.Decimal.{decimal}
-use Rattle.printing.specs.Lines.{Wrote, refusedLine, testLine, refusedText, holdsText, failsText}
-use Rattle.printing.proofs.WriteLaws.{wrote-then, decimal-most}
+use Rattle.writing.specs.Writing.{Wrote}
+use Rattle.printing.specs.Lines.{refusedLine, testLine, refusedText, holdsText, failsText}
+use Rattle.writing.proofs.WroteLaws.{wrote-then}
+use Rattle.printing.proofs.WriteLaws.{decimal-most}
 
 pub number-fits : (n at size : ℕ) → n < 100000 → at + 5 ≤ size → at + length (decimal n) ≤ size
 number-fits n at size h l = let m = decimal-most 4 n h in omega arith

@@ -26,8 +26,9 @@ use Rattle.judging.specs.declared.Judged.{Judged}
 use Rattle.judging.specs.declared.Judged.the-variants.{Counts}
 use Rattle.judging.specs.declared.Judged.the-variants as Judged
 use Rattle.judging.specs.Judge.{Case, caseOf, caseIn, Judges, Judging, Few}
-use Rattle.printing.specs.Lines.{Wrote, refusedLine, testLine, lines, textOf, programText, lineOf, caseLines}
-use Rattle.printing.proofs.WriteLaws.{wrote-then, wrote-none}
+use Rattle.writing.specs.Writing.{Wrote}
+use Rattle.printing.specs.Lines.{refusedLine, testLine, lines, textOf, programText, lineOf, caseLines}
+use Rattle.writing.proofs.WroteLaws.{wrote-then, wrote-none}
 
 -- ---- one test
 

@@ -1,9 +1,9 @@
--- Bytes written one behind the other, and the digits of a number.
+-- The digits of a number, and a text byte by byte.
 use mathlib.Core.Path.{_≡_, refl, sym, ap, _∙_}
 use mathlib.Core.Bool.{Bool, true, false, cond}
 use mathlib.Core.List.{List, [], _∷_, _++_}
 use Prim.Native.Nat.{ℕ, zero, suc, _+_, _*_, _/_, _%_, _^_, _≤_, _<_}
-use native.Mathlib.Nat.{add-zero, add-suc, pow-suc}
+use native.Mathlib.Nat.{pow-suc}
 use native.Mathlib.Numerals.{add-one}
 use native.Mathlib.Omega.{arith}
 use lib.Dec.{ltb}
@@ -12,26 +12,8 @@ use lib.Seq.{sets, take-suc, take-all, take-length}
 use borrow.Author.Needs.{needs}
 use borrow.Author.Tests.{lt-ltb, le-ltb, ltb-false, ltb-true}
 use Rattle.printing.specs.Decimal.{decimalWith, decimal}
-use Rattle.printing.specs.Lines.{Wrote}
-
-sets-append : (l : List ℕ) (i : ℕ) (vs ws : List ℕ) → sets l i (vs ++ ws) ≡ sets (sets l i vs) (i + length vs) ws
-sets-append l i [] ws = rw add-zero
-sets-append l i (v ∷ vs) ws =
-    sets-append (set l i v) (suc i) vs ws
-    ∙ ap (λ (k : ℕ). sets (sets (set l i v) (suc i) vs) k ws) (omega arith)
-
--- one text behind another
-pub wrote-then : (l : List ℕ) (at : ℕ) (a : List ℕ) (l₁ : List ℕ) (r₁ : ℕ) (b l₂ : List ℕ) (r₂ : ℕ)
-    → Wrote l at a l₁ r₁ → Wrote l₁ r₁ b l₂ r₂ → Wrote l at (a ++ b) l₂ r₂
-wrote-then l at a l₁ r₁ b l₂ r₂ p q =
-    record {
-      buffer = q .buffer ∙ rw (p .buffer, p .place) (sym (sets-append l at a b));
-      place = q .place ∙ rw (p .place, length-append a b) (omega arith);
-      size = q .size ∙ p .size;
-    }
-
-pub wrote-none : (l : List ℕ) (at : ℕ) → Wrote l at [] l at
-wrote-none l at = record { buffer = refl; place = omega arith; size = refl }
+use Rattle.writing.specs.Writing.{Wrote}
+use Rattle.writing.proofs.WroteLaws.{wrote-then}
 
 -- ---- digits
 

@@ -1,11 +1,9 @@
 -- What the judging program prints for a file.
-use Prim.Native.Nat.{ℕ, zero, suc, _+_}
-use mathlib.Core.Path.{_≡_}
+use Prim.Native.Nat.{ℕ, zero, suc}
 use mathlib.Core.Bool.{cond}
 use mathlib.Core.List.{List, [], _∷_, _++_}
 use lib.Dec.{eqb}
 use lib.ListN.{length}
-use lib.Seq.{sets}
 use Rattle.model.specs.Answer.{Outcome, answer, refused}
 use Rattle.model.specs.Cyclic.{cyclic}
 use Rattle.model.specs.Test.{File, validCount, badCount}
@@ -58,12 +56,6 @@ unfoldable pub programText : List ℕ → List ℕ
 programText s = textOf (readOf s)
 
 -- ---- the code's steps
-
--- bytes written at a place, and where they end
-pub record Wrote (before : List ℕ) (at : ℕ) (bytes after : List ℕ) (next : ℕ) : Type 0 where
-  pub buffer : after ≡ sets before at bytes
-  pub place : next ≡ at + length bytes
-  pub size : length after ≡ length before
 
 -- the line of a case that the judge was given
 unfoldable pub lineOf : ℕ → Outcome Case → List ℕ

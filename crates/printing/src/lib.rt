@@ -2,22 +2,14 @@
 use judging::Judged;
 use reader::Scan;
 ghost use mathlib.Core.Path.{_≡_};
-ghost use mathlib.Core.List.{_∷_, []};
 ghost use mathlib.Core.Bool.{cond};
 ghost use Prim.Native.Nat.{_+_, _*_, _<_, _≤_};
 ghost use lib.Dec.{eqb};
 ghost use lib.ListN.{length};
 ghost use Rattle.judging.specs.Judge.{caseIn};
+ghost use Rattle.writing.specs.Writing.{Wrote};
 ghost use Rattle.printing.specs.Decimal.{decimal};
-ghost use Rattle.printing.specs.Lines.{refusedLine, testLine, lineOf, caseLines, programText, Wrote, holdsText, failsText, refusedText};
-
-fn put(out: &mut [u8], at: usize, b: u8) -> usize
-    requires { ⌜ at < length (now out) ⌝ }
-    ensures { λ r. ⌜ Wrote (now (out .entry)) at (b ∷ []) (now (out .exit)) r ⌝ }
-{
-    out[at] = b;
-    at + 1
-}
+ghost use Rattle.printing.specs.Lines.{refusedLine, testLine, lineOf, caseLines, programText, holdsText, failsText, refusedText};
 
 // A number in decimal.
 fn put_decimal(out: &mut [u8], at: usize, n: u64) -> usize
@@ -25,10 +17,10 @@ fn put_decimal(out: &mut [u8], at: usize, n: u64) -> usize
     ensures { λ r. ⌜ Wrote (now (out .entry)) at (decimal n) (now (out .exit)) r ⌝ }
 {
     if n < 10 {
-        return put(out, at, (48 + n) as u8);
+        return writing::put(out, at, (48 + n) as u8);
     }
     let next = put_decimal(out, at, n / 10);
-    put(out, next, (48 + n % 10) as u8)
+    writing::put(out, next, (48 + n % 10) as u8)
 }
 
 fn put_text(out: &mut [u8], at: usize, text: &[u8]) -> usize
@@ -57,11 +49,11 @@ fn put_refused(out: &mut [u8], at: usize, number: u64, place: u64) -> usize
     ensures { λ r. ⌜ Wrote (now (out .entry)) at (refusedLine number place) (now (out .exit)) r × (r ≤ at + 20) ⌝ }
 {
     let a = put_text(out, at, b"refused");
-    let b = put(out, a, 32);
+    let b = writing::put(out, a, 32);
     let c = put_number(out, b, number);
-    let d = put(out, c, 32);
+    let d = writing::put(out, c, 32);
     let e = put_number(out, d, place);
-    put(out, e, 10)
+    writing::put(out, e, 10)
 }
 
 fn put_verdict(out: &mut [u8], at: usize, bad: u64) -> usize
@@ -80,13 +72,13 @@ fn put_line(out: &mut [u8], at: usize, k: u64, valid: u64, bad: u64) -> usize
     ensures { λ r. ⌜ Wrote (now (out .entry)) at (testLine k valid bad) (now (out .exit)) r × (r ≤ at + 24) ⌝ }
 {
     let a = put_number(out, at, k);
-    let b = put(out, a, 32);
+    let b = writing::put(out, a, 32);
     let c = put_number(out, b, valid);
-    let d = put(out, c, 32);
+    let d = writing::put(out, c, 32);
     let e = put_number(out, d, bad);
-    let f = put(out, e, 32);
+    let f = writing::put(out, e, 32);
     let g = put_verdict(out, f, bad);
-    put(out, g, 10)
+    writing::put(out, g, 10)
 }
 
 // The line of test k.

@@ -59,7 +59,7 @@ fn wide(x: u8) -> usize
 }
 
 // Two bytes, big-endian.
-fn half_at(s: &[u8], i: usize) -> usize
+pub fn half_at(s: &[u8], i: usize) -> usize
     requires { ⌜ i + 1 < length (now s) ⌝ }
     ensures { λ r. ⌜ (r ≡ half (now (s .entry)) i) × (r < 65536) ⌝ }
 {
@@ -357,7 +357,7 @@ pub fn read(s: &[u8], wanted: usize) -> Scan
 }
 
 // Four bytes, big-endian.
-fn word_at(s: &[u8], i: usize) -> u32
+pub fn word_at(s: &[u8], i: usize) -> u32
     requires { ⌜ i + 3 < length (now s) ⌝ }
     ensures { λ r. ⌜ r ≡ word (now (s .entry)) i ⌝ }
 {

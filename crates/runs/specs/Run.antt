@@ -74,27 +74,28 @@ unfoldable pub isRefused : Outcome ℕ → Bool
 isRefused (answer n) = false
 isRefused (refused number place) = true
 
--- a buffer of another length, or an unsound state
-abbrev pub StrangeState : Lent → Type 0
-StrangeState own = ⊥
-StrangeState (other s) = (length s ≡ stateSize → ⊥) ⊎ (Sound s → ⊥)
+-- a buffer of another length
+abbrev pub Wrong : ℕ → Lent → Type 0
+Wrong size own = ⊥
+Wrong size (other x) = length x ≡ size → ⊥
 
-abbrev pub StrangeDisk : Lent → Type 0
-StrangeDisk own = ⊥
-StrangeDisk (other d) = length d ≡ 1024 → ⊥
+-- an unsound state
+abbrev pub Unsound : Lent → Type 0
+Unsound own = ⊥
+Unsound (other x) = Sound x → ⊥
 
 -- the run's own
 abbrev pub Own : Lent → Type 0
 Own own = Unit {0}
 Own (other b) = ⊥
 
--- a call of a run's list: hand-ins of writes of the right widths, steps and drains given the run's own, calls that are lent a strange buffer in place of either,
+-- a call of a run's list: hand-ins of writes of the right widths, steps and drains given the run's own, calls that are lent a buffer of another length or an unsound state in place of either,
 -- and refused openings
 unfoldable pub Listed : Call → Type 0
 Listed (opening file s) = (mine : List ℕ) (disk : List ℕ) → length mine ≡ stateSize → isRefused (openOf file (lentTo s mine) disk .outcome) ≡ true
-Listed (handIn w s) = WriteFits w × (Own s ⊎ StrangeState s)
-Listed (step s d) = (Own s × Own d) ⊎ (StrangeState s ⊎ StrangeDisk d)
-Listed (drain s d) = (Own s × Own d) ⊎ (StrangeState s ⊎ StrangeDisk d)
+Listed (handIn w s) = WriteFits w × (Own s ⊎ (Wrong stateSize s ⊎ Unsound s))
+Listed (step s d) = (Own s × Own d) ⊎ ((Wrong stateSize s ⊎ Unsound s) ⊎ Wrong 1024 d)
+Listed (drain s d) = (Own s × Own d) ⊎ ((Wrong stateSize s ⊎ Unsound s) ⊎ Wrong 1024 d)
 
 -- the run and its book at one moment
 pub record Moment : Type 0 where

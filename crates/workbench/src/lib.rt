@@ -9,6 +9,8 @@ ghost use mathlib.Core.Path.{_≡_};
 ghost use Prim.Native.Nat.{_+_, _*_, _≤_};
 ghost use Rattle.model.specs.Answer.{coded};
 ghost use Rattle.judging.specs.Judge.{caseIn, FewDecided};
+ghost use Rattle.finding.specs.Finder.{out, foundCoded, findOf};
+ghost use Rattle.tracing.specs.Traced.{traceOut, traceAnswer};
 ghost use Rattle.workbench.specs.Printed.{printed, printedOf};
 ghost use Rattle.workbench.specs.Judged.{judgementCode, verdictCode, JudgeAnswer, VerdictAnswer};
 ghost use Rattle.workbench.specs.File.{readAnswer, locateAnswer, cyclicAnswer, Packed};
@@ -134,4 +136,22 @@ pub extern "C" fn pelzhondy_judge_lines(file: &[u8], out: &mut [u8]) -> u64
         return model::refuse(12, 0);
     }
     printing::judge_lines(file, out) as u64
+}
+
+// The smallest rule set under which all tests of a file hold: its rules as fields at the front of
+// `buffer`, and how many. Refused by reading, 10, 11, 12.
+#[no_mangle]
+pub extern "C" fn pelzhondy_find(file: &[u8], buffer: &mut [u8]) -> u64
+    ensures { λ r. ⌜ out r (now (buffer .exit)) ≡ foundCoded (findOf (now (file .entry)) (now (buffer .entry))) ⌝ }
+{
+    finding::find(file, buffer)
+}
+
+// The test of two programs of puts, 4 bytes each (key 2, value 2), with a range check at 0, at the
+// front of `buffer`, and how many bytes that is. 19, 6, 20, 12.
+#[no_mangle]
+pub extern "C" fn pelzhondy_trace(initial: &[u8], main: &[u8], buffer: &mut [u8]) -> u64
+    ensures { λ r. ⌜ traceOut r (now (buffer .exit)) ≡ traceAnswer (now (initial .entry)) (now (main .entry)) (now (buffer .entry)) ⌝ }
+{
+    tracing::trace(initial, main, buffer)
 }

@@ -8,9 +8,9 @@ use reference::random::Random;
 use reference::writes::{Rule, PREDICATES};
 
 use crate::answer;
+use crate::calls;
 use crate::harness::{require, same_answer, Outcome, Run, Suite};
 use crate::lent::Lent;
-use crate::library;
 
 pub fn suites() -> Vec<Suite> {
     let suite = |name, run| Suite { name, run };
@@ -28,7 +28,7 @@ pub fn suites() -> Vec<Suite> {
 fn same_answer_for(random: &mut Random, file: &[u8]) -> Outcome {
     let lent = Lent::new(random, file);
     let expected = answer::of(read(file).map(|file| cyclic(&file.rules) as u64));
-    same_answer("cyclic", file, expected, library::cyclic(&lent))?;
+    same_answer("cyclic", file, expected, calls::cyclic(&lent))?;
     lent.unchanged("file")
 }
 

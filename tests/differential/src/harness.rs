@@ -61,17 +61,31 @@ pub fn hexadecimal(bytes: &[u8]) -> String {
     text
 }
 
+/// What a call was given, by name.
+pub type Inputs<'a> = &'a [(&'a str, &'a [u8])];
+
+/// Fails with that call.
+pub fn fail(call: &str, inputs: Inputs, expected: String, got: String) -> Outcome {
+    let shown = |&(name, bytes): &(&str, &[u8])| (name.to_string(), hexadecimal(bytes));
+    Err(Failure {
+        call: call.to_string(),
+        inputs: inputs.iter().map(shown).collect(),
+        expected,
+        got,
+    })
+}
+
 /// Fails unless the library's answer is the expected one.
-pub fn same_answer(call: &str, file: &[u8], expected: u64, got: u64) -> Outcome {
+pub fn same_answer_on(call: &str, inputs: Inputs, expected: u64, got: u64) -> Outcome {
     if expected == got {
         return Ok(());
     }
-    Err(Failure {
-        call: call.to_string(),
-        inputs: vec![("file".to_string(), hexadecimal(file))],
-        expected: answer::show(expected),
-        got: answer::show(got),
-    })
+    fail(call, inputs, answer::show(expected), answer::show(got))
+}
+
+/// Likewise, of a call that is given a file.
+pub fn same_answer(call: &str, file: &[u8], expected: u64, got: u64) -> Outcome {
+    same_answer_on(call, &[("file", file)], expected, got)
 }
 
 /// Fails with a statement about the suite itself.
@@ -79,12 +93,7 @@ pub fn require(condition: bool, expected: &str, got: String) -> Outcome {
     if condition {
         return Ok(());
     }
-    Err(Failure {
-        call: "the suite itself".to_string(),
-        inputs: Vec::new(),
-        expected: expected.to_string(),
-        got,
-    })
+    fail("the suite itself", &[], expected.to_string(), got)
 }
 
 fn seed_of(base: u64, name: &str) -> u64 {

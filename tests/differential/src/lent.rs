@@ -2,7 +2,7 @@
 
 use reference::random::Random;
 
-use crate::harness::{Failure, Outcome};
+use crate::harness::{fail, hexadecimal, Outcome};
 
 const MARGIN: usize = 32;
 
@@ -37,6 +37,11 @@ impl Lent {
         self.bytes[self.from..].as_ptr()
     }
 
+    /// For a call that may write.
+    pub fn buffer(&mut self) -> *mut u8 {
+        self.bytes[self.from..].as_mut_ptr()
+    }
+
     pub fn len(&self) -> usize {
         self.length
     }
@@ -48,15 +53,39 @@ impl Lent {
 
     /// Fails if the call changed any byte, lent or beside it.
     pub fn unchanged(&self, name: &str) -> Outcome {
-        if self.bytes == self.before {
+        self.compare(name, &self.before)
+    }
+
+    /// Fails unless the call left `expected`, and all bytes beside it as they were. That is then
+    /// what is lent to the next call.
+    pub fn became(&mut self, name: &str, expected: &[u8]) -> Outcome {
+        let mut after = self.before.clone();
+        after[self.from..self.from + self.length].copy_from_slice(expected);
+        self.compare(name, &after)?;
+        self.before = after;
+        Ok(())
+    }
+
+    fn compare(&self, name: &str, expected: &[u8]) -> Outcome {
+        if self.bytes == expected {
             return Ok(());
         }
-        Err(Failure {
-            call: format!("a call lent {name}"),
-            inputs: vec![(name.to_string(), crate::harness::hexadecimal(&self.before))],
-            expected: "its bytes and those beside it unchanged".to_string(),
-            got: crate::harness::hexadecimal(&self.bytes),
-        })
+        let changed = (0..expected.len())
+            .filter(|&i| self.bytes[i] != expected[i])
+            .map(|i| i as i64 - self.from as i64);
+        fail(
+            &format!(
+                "a call lent {name} of {} bytes, {MARGIN} bytes on each side",
+                self.length
+            ),
+            &[(name, &self.before)],
+            hexadecimal(expected),
+            format!(
+                "{}, different at {:?}",
+                hexadecimal(&self.bytes),
+                changed.collect::<Vec<i64>>()
+            ),
+        )
     }
 }
 

@@ -8,9 +8,9 @@ use reference::random::Random;
 use reference::refusal::Refusal;
 
 use crate::answer;
+use crate::calls;
 use crate::harness::{same_answer, Outcome, Run, Suite};
 use crate::lent::Lent;
-use crate::library;
 
 pub fn suites() -> Vec<Suite> {
     let suite = |name, run| Suite { name, run };
@@ -35,7 +35,7 @@ fn same_place(lent: &Lent, test: u64) -> Outcome {
     let file = lent.content();
     let expected = answer::of(located(file, test));
     let call = format!("locate test {test}");
-    same_answer(&call, file, expected, library::locate(lent, test))
+    same_answer(&call, file, expected, calls::locate(lent, test))
 }
 
 /// All numbers from 0 to one above the tests that a file can have, and some far off.

@@ -7,9 +7,9 @@ use reference::random::Random;
 use reference::refusal::Refusal;
 
 use crate::answer;
+use crate::calls;
 use crate::harness::{require, same_answer, Outcome, Run, Suite};
 use crate::lent::Lent;
-use crate::library;
 
 pub fn suites() -> Vec<Suite> {
     let suite = |name, run| Suite { name, run };
@@ -52,7 +52,7 @@ fn expected_reading(file: &[u8]) -> u64 {
 
 fn same_reading(random: &mut Random, file: &[u8]) -> Outcome {
     let lent = Lent::new(random, file);
-    let got = library::read(&lent);
+    let got = calls::read(&lent);
     same_answer("read", file, expected_reading(file), got)?;
     lent.unchanged("file")
 }
@@ -160,7 +160,7 @@ fn at_limit(run: &mut Run) -> Outcome {
 fn same_reading_cut(lent: &mut Lent, length: usize) -> Outcome {
     lent.cut(length);
     let file = lent.content();
-    same_answer("read", file, expected_reading(file), library::read(lent))
+    same_answer("read", file, expected_reading(file), calls::read(lent))
 }
 
 fn cut_everywhere(run: &mut Run, files: u64, make: fn(&mut Random) -> File) -> Outcome {

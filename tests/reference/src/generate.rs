@@ -140,15 +140,17 @@ pub fn test(random: &mut Random, palette: &Palette) -> Test {
     test_of(random, palette, initial, main, checks)
 }
 
+/// A program of puts.
+pub fn puts(random: &mut Random, count: usize) -> Vec<Block> {
+    let put = |_| Block {
+        first: random.below(3) as u16,
+        second: random.between(1, 99) as u16,
+    };
+    (0..count).map(put).collect()
+}
+
 /// A test of the reading log.
 pub fn log_test(random: &mut Random) -> Test {
-    let puts = |random: &mut Random, count: usize| -> Vec<Block> {
-        let put = |random: &mut Random| Block {
-            first: random.below(3) as u16,
-            second: random.between(1, 99) as u16,
-        };
-        (0..count).map(|_| put(random)).collect()
-    };
     let (before, after) = (random.below(4), random.below(4));
     let initial = puts(random, before);
     let main = puts(random, after);

@@ -5,6 +5,7 @@
 pub mod book;
 pub mod cache;
 pub mod checks;
+pub mod crashes;
 pub mod cyclic;
 pub mod damage;
 pub mod file;
@@ -17,6 +18,7 @@ pub mod program;
 pub mod random;
 pub mod refusal;
 pub mod ring;
+pub mod samples;
 pub mod schedule;
 pub mod writes;
 

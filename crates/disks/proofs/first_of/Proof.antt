@@ -1,3 +1,4 @@
+use native.Mathlib.Omega.{arith}
 use Rattle.model.specs.Disk.{firstOf}
 use mathlib.Core.Path.{refl}
 use borrow.Author.Needs.{needs}
@@ -13,7 +14,7 @@ cast-result c = search needs
 -- src/lib.rt:56:1
 returns : tie.Need-returns
 unfolding firstOf
-returns c = refl
+returns c = (refl, omega arith)
 
 pub first-of-spec : {M : Type 1} → statement M
 first-of-spec = tie.close (tie.spec cast-result returns)

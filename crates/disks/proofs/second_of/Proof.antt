@@ -1,3 +1,4 @@
+use native.Mathlib.Omega.{arith}
 use Rattle.model.specs.Disk.{secondOf}
 use mathlib.Core.Path.{refl}
 use borrow.Author.Needs.{needs}
@@ -13,7 +14,7 @@ cast-result c = search needs
 -- src/lib.rt:62:1
 returns : tie.Need-returns
 unfolding secondOf
-returns c = refl
+returns c = (refl, omega arith)
 
 pub second-of-spec : {M : Type 1} → statement M
 second-of-spec = tie.close (tie.spec cast-result returns)

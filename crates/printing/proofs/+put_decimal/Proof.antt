@@ -5,7 +5,7 @@ use borrow.Fn.PlainCycle.{Measures, is, falls, and}
 use Rattle.printing.proofs.put_decimal.Reads as put-decimal
 use Rattle.printing.proofs.put_decimal.Kinds as put-decimal-kinds
 use Rattle.printing.proofs.+put_decimal.Lts-put_decimal as put-decimal-lts
-use Rattle.printing.proofs.put.Reads as put-reads
+use Rattle.writing.proofs.put.Reads as put-reads
 use Rattle.printing.proofs.+put_decimal.{statement}
 use Rattle.printing.proofs.+put_decimal.Tie.{close}
 

@@ -1,7 +1,8 @@
 use Prim.Native.Nat.{_*_, _-_, _≤_}
 use mathlib.Core.Path.{_≡_}
 use lib.ListN.{length}
-use Rattle.printing.specs.Lines.{Wrote, caseLines}
+use Rattle.writing.specs.Writing.{Wrote}
+use Rattle.printing.specs.Lines.{caseLines}
 use Rattle.printing.proofs.TextLaws.{texts}
 use Rattle.printing.proofs.put_cases.Statement.{statement}
 use Rattle.printing.proofs.put_cases.Tie as tie

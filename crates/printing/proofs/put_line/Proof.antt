@@ -5,7 +5,7 @@ use Rattle.printing.proofs.put_line.Statement.{statement}
 use Rattle.printing.proofs.put_line.Tie as tie
 use Rattle.printing.proofs.put_line.Reads as reads
 use Rattle.printing.proofs.put_line.Lts as lts
-use Rattle.printing.proofs.put.Reads as put-reads
+use Rattle.writing.proofs.put.Reads as put-reads
 use Rattle.printing.proofs.put_number.Reads as put-number-reads
 use Rattle.printing.proofs.put_verdict.Reads as put-verdict-reads
 

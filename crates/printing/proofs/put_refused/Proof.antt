@@ -5,7 +5,7 @@ use Rattle.printing.proofs.put_refused.Statement.{statement}
 use Rattle.printing.proofs.put_refused.Tie as tie
 use Rattle.printing.proofs.put_refused.Reads as reads
 use Rattle.printing.proofs.put_refused.Lts as lts
-use Rattle.printing.proofs.put.Reads as put-reads
+use Rattle.writing.proofs.put.Reads as put-reads
 use Rattle.printing.proofs.put_number.Reads as put-number-reads
 use Rattle.printing.proofs.put_text.Reads as put-text-reads
 

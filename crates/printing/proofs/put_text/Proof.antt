@@ -1,7 +1,7 @@
 use Prim.Native.Nat.{_+_, _-_, _≤_}
 use mathlib.Core.Path.{_≡_}
 use lib.ListN.{length, take}
-use Rattle.printing.specs.Lines.{Wrote}
+use Rattle.writing.specs.Writing.{Wrote}
 use Rattle.printing.proofs.WriteLaws.{writes}
 use Rattle.printing.proofs.put_text.Statement.{statement}
 use Rattle.printing.proofs.put_text.Tie as tie

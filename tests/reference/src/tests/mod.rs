@@ -6,4 +6,5 @@ mod finding;
 mod log;
 mod reading;
 mod runs;
+mod samples;
 mod soundness;

@@ -3,6 +3,7 @@
 use crate::book::{Book, Call};
 use crate::cache::{self, drain, hand_in, open, sound, step, DISK, STATE};
 use crate::checks::consistent;
+use crate::crashes::acyclic_rules;
 use crate::file::File;
 use crate::generate::{self, Palette};
 use crate::judge::judge_test;
@@ -82,23 +83,13 @@ impl Run {
     }
 }
 
-fn acyclic_rules(random: &mut Random, palette: &Palette) -> Vec<Rule> {
-    loop {
-        let count = random.below(5);
-        let rules = generate::rules_of(random, palette, count);
-        if !crate::cyclic::cyclic(&rules) {
-            return rules;
-        }
-    }
-}
-
 #[test]
 fn random_runs() {
     let (mut accepted, mut refused) = (0, 0);
     for seed in 0..400 {
         let mut random = Random::new(seed);
         let palette = Palette::small(&mut random);
-        let rules = acyclic_rules(&mut random, &palette);
+        let rules = acyclic_rules(&mut random, &palette, 4);
         let mut run = Run::new(&rules, &disk_from(&random.bytes(DISK)));
         for _ in 0..random.below(60) {
             let call = match random.below(8) {
@@ -141,7 +132,7 @@ fn tests_that_hold_stay_consistent() {
     for seed in 0..2000 {
         let mut random = Random::new(seed);
         let palette = Palette::small(&mut random);
-        let rules = acyclic_rules(&mut random, &palette);
+        let rules = acyclic_rules(&mut random, &palette, 4);
         let test = generate::test(&mut random, &palette);
         if test.main.len() < 2 || judge_test(&rules, &test).bad > 0 {
             continue;

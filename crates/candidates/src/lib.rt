@@ -1,0 +1,243 @@
+// The candidates of a file, sorted, and the sets of them.
+use model::Rule;
+use model::Write;
+use reader::Extent;
+use reader::Scan;
+use rules::Rules;
+ghost use mathlib.Core.Path.{_≡_};
+ghost use mathlib.Core.Bool.{cond};
+ghost use mathlib.Core.List.{[], _∷_, _++_};
+ghost use Prim.Native.Nat.{_+_, _*_, _<_, _≤_};
+ghost use lib.ListN.{length, getD, take, drop};
+ghost use Rattle.relation.specs.Bits.{bit};
+ghost use Rattle.model.specs.Rules.{label, labelOf};
+ghost use Rattle.model.specs.Find.{before, pairing, inserted, fromWrite, fromTrace, candidatesOf, picked};
+ghost use Rattle.reader.specs.Scan.{writesAt, testAt};
+ghost use Rattle.reader.specs.Held.{noTest, Inside};
+ghost use Rattle.rules.specs.Held.{rulesOf};
+ghost use Rattle.candidates.specs.Kept.{placeOf, paired, testsIn, Keeps, Follows};
+
+// One rule alone.
+pub fn one(rule: Rule) -> Rules
+    ensures { λ r. ⌜ (rulesOf r ≡ rule ∷ []) × (r .count ≡ 1) ⌝ }
+{
+    let items = [rule; 32];
+    Rules { items, count: 1 }
+}
+
+// A rule behind those held.
+fn push(c: Rules, rule: Rule) -> Rules
+    requires { ⌜ c .count < 32 ⌝ }
+    ensures { λ r. ⌜ (rulesOf r ≡ rulesOf c ++ (rule ∷ [])) × (r .count ≡ c .count + 1) ⌝ }
+{
+    let mut items = c.items;
+    let n = c.count;
+    items[n] = rule;
+    Rules {
+        items,
+        count: n + 1,
+    }
+}
+
+// Whether a comes before b: by first name, second name, predicate.
+fn comes_before(a: Rule, b: Rule) -> bool
+    ensures { λ r. ⌜ r ≡ before a b ⌝ }
+{
+    if a.first < b.first {
+        return true;
+    }
+    if a.first != b.first {
+        return false;
+    }
+    if a.second < b.second {
+        return true;
+    }
+    if a.second != b.second {
+        return false;
+    }
+    a.predicate < b.predicate
+}
+
+// How many of the rules held, from the front on, come before a rule.
+fn place(c: Rules, rule: Rule) -> usize
+    requires { ⌜ c .count ≤ 32 ⌝ }
+    ensures { λ r. ⌜ (r ≡ placeOf rule (rulesOf c)) × (r ≤ c .count) ⌝ }
+{
+    let mut k: usize = 0;
+    while k < c.count {
+        if !comes_before(c.items[k], rule) {
+            return k;
+        }
+        k += 1;
+    }
+    k
+}
+
+// A rule put behind the first k.
+fn splice(c: Rules, k: usize, rule: Rule) -> Rules
+    requires { ⌜ (c .count < 32) × (k ≤ c .count) ⌝ }
+    ensures { λ r. ⌜ (rulesOf r ≡ take k (rulesOf c) ++ (rule ∷ drop k (rulesOf c))) × (r .count ≡ c .count + 1) ⌝ }
+{
+    let items = c.items;
+    let mut out = push(Rules { items, count: k }, rule);
+    let mut i: usize = k;
+    while i < c.count {
+        out = push(out, c.items[i]);
+        i += 1;
+    }
+    out
+}
+
+// A rule put in its place, once. Past 16 rules nothing more is kept.
+fn insert(c: Rules, rule: Rule) -> Rules
+    requires { ⌜ c .count ≤ 17 ⌝ }
+    ensures { λ r. ⌜ (r .count ≤ 17) × Follows (inserted rule) c r ⌝ }
+{
+    if 16 < c.count {
+        return c;
+    }
+    let k = place(c, rule);
+    if c.count <= k {
+        return splice(c, k, rule);
+    }
+    if comes_before(rule, c.items[k]) {
+        return splice(c, k, rule);
+    }
+    c
+}
+
+// The one rule that matches the labels (n, t) and (m, u).
+fn pairing(n: u8, t: u32, m: u8, u: u32) -> Rule
+    ensures { λ r. ⌜ r ≡ pairing (label n t) (label m u) ⌝ }
+{
+    if t == u {
+        return Rule {
+            first: n,
+            predicate: 0,
+            second: m,
+        };
+    }
+    if u < t {
+        return Rule {
+            first: n,
+            predicate: 1,
+            second: m,
+        };
+    }
+    Rule {
+        first: n,
+        predicate: 2,
+        second: m,
+    }
+}
+
+// The rule from write i, labelled (name, epoch), to write j, if that is another.
+fn with_pair(c: Rules, i: usize, j: usize, name: u8, epoch: u32, w: Write) -> Rules
+    requires { ⌜ c .count ≤ 17 ⌝ }
+    ensures { λ r. ⌜ (r .count ≤ 17) × Follows (paired i j (label name epoch) (labelOf w)) c r ⌝ }
+{
+    if i == j {
+        return c;
+    }
+    insert(c, pairing(name, epoch, w.name, w.epoch))
+}
+
+// The candidates from write i to the n writes from `at` on.
+fn from_write(c: Rules, file: &[u8], at: usize, n: usize, i: usize) -> Rules
+    requires { ⌜ (c .count ≤ 17) × ((n ≤ 64) × ((i < n) × (at + 13 * n ≤ length (now file)))) ⌝ }
+    ensures { λ r. ⌜ (r .count ≤ 17) × Follows (fromWrite (writesAt (now (file .entry)) at n) i n) c r ⌝ }
+{
+    let w = reader::write_at(file, at + 13 * i);
+    let mut out = c;
+    let mut j: usize = 0;
+    while j < n {
+        let v = reader::write_at(file, at + 13 * j);
+        out = with_pair(out, i, j, w.name, w.epoch, v);
+        j += 1;
+    }
+    out
+}
+
+// The candidates of the n writes from `at` on.
+fn from_trace(c: Rules, file: &[u8], at: usize, n: usize) -> Rules
+    requires { ⌜ (c .count ≤ 17) × ((n ≤ 64) × (at + 13 * n ≤ length (now file))) ⌝ }
+    ensures { λ r. ⌜ (r .count ≤ 17) × Follows (fromTrace (writesAt (now (file .entry)) at n) n) c r ⌝ }
+{
+    let mut out = c;
+    let mut i: usize = 0;
+    while i < n {
+        out = from_write(out, file, at, n, i);
+        i += 1;
+    }
+    out
+}
+
+// Where test t of a file, counted from 0, stands.
+pub fn extent_of(file: &[u8], t: usize) -> Extent
+    requires { ⌜ t < length (testsIn (now file)) ⌝ }
+    ensures { λ r. ⌜ (getD (testsIn (now (file .entry))) t noTest ≡ testAt (now (file .entry)) r) × Inside (now (file .entry)) r ⌝ }
+{
+    match reader::read(file, t) {
+        Scan::Accepted {
+            rules: _,
+            tests: _,
+            found,
+        } => found,
+        Scan::Refused {
+            number: _,
+            place: _,
+        } => Extent {
+            at: 0,
+            initial: 0,
+            main: 0,
+            checks: 0,
+        },
+    }
+}
+
+// The candidates of a file's tests; more than 16 if there are more than 16.
+pub fn collect(file: &[u8], tests: usize) -> Rules
+    requires { ⌜ length (testsIn (now file)) ≡ tests ⌝ }
+    ensures { λ r. ⌜ Keeps (candidatesOf (testsIn (now (file .entry)))) r ⌝ }
+{
+    let items = [Rule {
+        first: 0,
+        predicate: 0,
+        second: 0,
+    }; 32];
+    let mut out = Rules { items, count: 0 };
+    let mut t: usize = tests;
+    while 0 < t {
+        t -= 1;
+        let e = extent_of(file, t);
+        let at = e.at + 13 * e.initial;
+        out = from_trace(out, file, at, e.main);
+    }
+    out
+}
+
+// A rule behind those held, if bit i of m is set.
+fn keep(c: Rules, m: u64, i: usize, rule: Rule) -> Rules
+    requires { ⌜ (c .count < 32) × (i < 64) ⌝ }
+    ensures { λ r. ⌜ (rulesOf r ≡ rulesOf c ++ cond (bit m i) (rule ∷ []) []) × (r .count ≤ c .count + 1) ⌝ }
+{
+    if relation::has_bit(m, i) {
+        return push(c, rule);
+    }
+    c
+}
+
+// The set of a number.
+pub fn pick(c: Rules, m: u64) -> Rules
+    requires { ⌜ c .count ≤ 32 ⌝ }
+    ensures { λ r. ⌜ (rulesOf r ≡ picked (rulesOf c) m) × (r .count ≤ c .count) ⌝ }
+{
+    let items = c.items;
+    let mut out = Rules { items, count: 0 };
+    let mut i: usize = 0;
+    while i < c.count {
+        out = keep(out, m, i, c.items[i]);
+        i += 1;
+    }
+    out
+}

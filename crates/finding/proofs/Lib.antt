@@ -1,0 +1,5 @@
+pub mod SetLaws
+pub mod MarkLaws
+pub mod ChoiceLaws
+pub mod FoundLaws
+pub mod Steps

@@ -1,0 +1,23 @@
+-- `finding::mark_one` meets its contract. By the callee's answer.
+use Rattle.finding.proofs.Steps.{marking}
+use Rattle.finding.proofs.mark_one.Statement.{statement}
+use Rattle.finding.proofs.mark_one.Tie as tie
+
+leaves-consistent-requires : tie.Need-leaves-consistent-requires
+leaves-consistent-requires c κs = search marking
+
+returns : tie.Need-returns
+returns c = search marking
+
+slice-write-table : tie.Need-slice-write-table
+slice-write-table c = search marking
+
+same-length : tie.Need-same-length
+same-length c = search marking
+
+returns-2 : tie.Need-returns-2
+returns-2 c = search marking
+
+pub mark-one-spec : {M : Type 1} → statement M
+mark-one-spec =
+    tie.close (tie.spec leaves-consistent-requires returns slice-write-table same-length returns-2)

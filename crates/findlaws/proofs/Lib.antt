@@ -1,0 +1,6 @@
+pub mod OrderLaws
+pub mod CandidateLaws
+pub mod CutLaws
+pub mod ChosenLaws
+pub mod PickedLaws
+pub mod HitLaws

@@ -1,0 +1,22 @@
+use Rattle.log.proofs.Steps.{gets}
+use borrow.Author.Needs.{needs}
+use Rattle.log.proofs.block_at.Statement.{statement}
+use Rattle.log.proofs.block_at.Tie as tie
+use Rattle.log.proofs.block_at.Reads as reads
+use Rattle.log.proofs.block_at.Lts as lts
+use Rattle.reader.proofs.word_at.Reads as word-at-reads
+
+-- src/lib.rt:13:27
+mul-word-at : tie.Need-mul-word-at
+mul-word-at c = search needs
+
+-- src/lib.rt:13:5
+word-at-requires : tie.Need-word-at-requires
+word-at-requires c κs = search needs
+
+-- src/lib.rt:9:1
+returns : tie.Need-returns
+returns c = search gets
+
+pub block-at-spec : {M : Type 1} → statement M
+block-at-spec = tie.close (tie.spec mul-word-at word-at-requires returns)

@@ -1,0 +1,4 @@
+pub mod Steps
+pub mod HandSteps
+pub mod OpenSteps
+pub mod KeptLaws

@@ -1,0 +1,48 @@
+-- `receiver::pelzhondy_drain` meets its contract: a refusal, or the drain of a sound state.
+use Rattle.cache.specs.Calls.{drainOf}
+use Rattle.receiver.proofs.Steps.{calling, clean}
+use Rattle.receiver.proofs.pelzhondy_drain.Statement.{statement}
+use Rattle.receiver.proofs.pelzhondy_drain.Tie as tie
+
+fault-requires : tie.Need-fault-requires
+fault-requires c κs = search calling
+
+refuse-requires : tie.Need-refuse-requires
+refuse-requires c κs = search calling
+
+same-length : tie.Need-same-length
+same-length c = search calling
+
+same-length-2 : tie.Need-same-length-2
+same-length-2 c = search calling
+
+returns : tie.Need-returns
+unfolding drainOf
+returns c = search calling
+
+drain-sound-requires : tie.Need-drain-sound-requires
+drain-sound-requires c κs = clean _ _ _ (c .before .before .before .fault .ensures .0) (c .before .before .if1 .left)
+
+same-length-3 : tie.Need-same-length-3
+same-length-3 c = search calling
+
+same-length-4 : tie.Need-same-length-4
+same-length-4 c = search calling
+
+returns-2 : tie.Need-returns-2
+unfolding drainOf
+returns-2 c = search calling
+
+pub pelzhondy-drain-spec : {M : Type 1} → statement M
+pelzhondy-drain-spec =
+    tie.close
+    (tie.spec
+    fault-requires
+    refuse-requires
+    same-length
+    same-length-2
+    returns
+    drain-sound-requires
+    same-length-3
+    same-length-4
+    returns-2)

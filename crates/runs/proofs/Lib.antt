@@ -1,0 +1,5 @@
+pub mod LayoutLaws
+pub mod BookLaws
+pub mod DiskLaws
+pub mod StepLaws
+pub mod RunLaws

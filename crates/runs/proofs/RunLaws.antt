@@ -1,0 +1,545 @@
+-- Demand 3: each call of a run keeps the state and the disk those of the book, so every moment is safe and every call gives what the book says.
+use mathlib.Core.Path.{_≡_, refl, sym, ap, subst, _∙_}
+use mathlib.Core.Logic.{_≢_, _⊎_, inl, inr, ⊎-elim}
+use mathlib.Core.Bool.{Bool, true, false, cond, not, false≢true, true≢false}
+use mathlib.Core.List.{List, [], _∷_, _++_, List·Memᴰ, List·Memᴰ·head, List·Memᴰ·tail, List·Memᴰ·not-nil, List·Memᴰ·cases-cons, List·Memᴰ·append-cases}
+use Prim.Native.Nat.{ℕ, zero, suc, _+_, _-_, _≤_, _<_}
+use native.Mathlib.Decide.{ℕ-discrete, decLt}
+use native.Mathlib.Numerals.{add-one}
+use native.Mathlib.Omega.{arith}
+use lib.Dec.{eqb, leb, ltb}
+use lib.ListN.{length, getD}
+use borrow.Author.Tests.{eq-eqb, ne-eqb, leb-true, leb-false, ltb-true, ltb-false, eqb-true, eqb-false, not-false, not-true}
+use Rattle.relation.specs.Lists.{tabulate}
+use Rattle.relation.proofs.ListLaws.{mem-index, length-tabulate, getD-tabulate}
+use Rattle.relation.specs.Transitive.{Plus}
+use Rattle.model.specs.declared.Write.{Write}
+use Rattle.model.specs.declared.Rule.{Rule}
+use Rattle.model.specs.Answer.{Outcome, answer, refused}
+use Rattle.model.specs.Cyclic.{Cyclic, cyclic}
+use Rattle.model.specs.Test.{File, countBelow}
+use Rattle.model.proofs.TestLaws.{count-none, none-count}
+use Rattle.reader.specs.File.{readOf}
+use Rattle.reader.specs.Encode.{WriteFits}
+use Rattle.reader.proofs.CallerLaws.{holding-limits}
+use Rattle.rules.proofs.CyclicLaws.{true-cyclic}
+use Rattle.cache.specs.Needs.{Needs, NeedsRing, Earliest, needsRing, ready}
+use Rattle.cache.specs.State as State
+use Rattle.cache.specs.State.{stateSize, rulesIn, writesIn, storedIn, acceptedCount, handed, storedOn}
+use Rattle.cache.specs.Sound.{Sound, sound}
+use Rattle.cache.specs.Calls.{Held, Left, left, Late, late, openWith, openOf, handInOf, checked, stepped as stepOn, stepOf, waiting, stepsOf, drained as drainOn, drainOf}
+use Rattle.cache.proofs.NeedsLaws.{late-true, true-late, needsRing-true, true-needsRing}
+use Rattle.soundness.proofs.SoundLaws.{sound-true, true-sound}
+use Rattle.runs.specs.Book.{Book, accepted, flagAt, waitingIn, appended, flagging, stepped, steppedBy, applied, Event, opened, handedIn, stepMade, drainMade, entered, noted}
+use Rattle.runs.specs.Run.{Call, opening, handIn, step, drain, Lent, own, other, Wrong, Unsound, Own, Listed, lentTo, keptBy, stateLent, diskLent, called, kept, eventOf, isRefused, next, within, Moment, moments}
+use Rattle.runs.specs.Theorem.{Safe, WrongLength, UnsoundLent, Gives, wrong-length, unsound, full, ring, taken, stored, idle, unopened, Answers, Made, now, later, begun, Demand3}
+use Rattle.runs.specs.Theorem as Theorem
+use Rattle.runs.proofs.LayoutLaws.{stateOf, length-state, state-rules, state-writes, state-accepted, state-flags, handed-state, opened-state, length-flagging, flag-here, flag-else, count-one-more}
+use Rattle.runs.proofs.BookLaws.{Fine, length-accepted, needs-left, ready-earliest, none-ready, fine-stepped, fine-appended, fine-sound}
+use Rattle.runs.proofs.DiskLaws.{valid-book, consistent-left, length-applied}
+use Rattle.runs.proofs.StepLaws.{late-ext, carried, step-book, fine-steps, steps-book, waiting-book, drain-book}
+
+-- ---- the invariant: the bytes and the disk are those of the book
+
+-- the moment of a book
+abbrev at : List Rule → List ℕ → Book → Moment
+at rules disk b = record { held = record { state = stateOf rules b; disk = applied b disk }; book = b }
+
+record Mirrors (rules : List Rule) (disk : List ℕ) (m : Moment) : Type 0 where
+  fine : Fine rules (m .book)
+  same : m ≡ at rules disk (m .book)
+
+-- what is shown of every call: it gives what the book says, and the next moment is that of the next book
+abbrev Goes : List Rule → List ℕ → Call → Moment → Type 0
+Goes rules disk c m = Answers rules c m × Mirrors rules disk (next rules c m)
+
+module _ (rules : List Rule) (disk : List ℕ) (size : length disk ≡ 1024) where
+  mirrored : (b : Book) → Fine rules b → Mirrors rules disk (at rules disk b)
+  mirrored b f = record { fine = f; same = refl }
+
+  safe : (b : Book) → Fine rules b → Safe rules disk (at rules disk b)
+  safe b f = record { left = refl; valid = valid-book rules b f; consistent = consistent-left rules b disk f size }
+
+  -- ---- a step of the run's own
+
+  step-gives : (b : Book) → Fine rules b → (k : ℕ) → ready rules (accepted b) (flagAt b) ≡ k → Gives rules b (step own own) (answer k)
+  step-gives b f zero e = idle (λ i h. none-ready rules (accepted b) (flagAt b) (f .ringless) e i (subst (λ (n : ℕ). i < n) (sym (length-accepted b)) h))
+  step-gives b f (suc i) e = stored (ready-earliest rules (accepted b) (flagAt b) i e)
+
+  -- a call from its outcome and the next book
+  goes : (c : Call) (b next-book : Book) (o : Outcome ℕ) → called c (at rules disk b .held) .outcome ≡ o → next rules c (at rules disk b) ≡ at rules disk next-book
+      → Fine rules next-book → Gives rules b c o → ((i : ℕ) → c ≡ step own own → o ≡ answer i → next-book ≡ flagging i b)
+      → (c ≡ drain own own → (i : ℕ) → i < length b → flagAt next-book i ≡ true) → Goes rules disk c (at rules disk b)
+  goes c b next-book o eo en f g one all = (
+    record {
+      gives = subst (Gives rules b c) (sym eo) g;
+      one = λ i e q. ap (λ (m : Moment). m .book) en ∙ one i e (sym eo ∙ q);
+      all = λ e i h. subst (λ (m : Moment). flagAt (m .book) i ≡ true) (sym en) (all e i h);
+    },
+    subst (Mirrors rules disk) (sym en) (mirrored next-book f),
+  )
+
+  -- the next moment of a call on the run's own whose outcome and leavings are known
+  step-next : (b : Book) (l : Left) (k : ℕ) → stepOf (stateOf rules b) (applied b disk) ≡ l → l .outcome ≡ answer k
+      → next rules (step own own) (at rules disk b) ≡ record { held = record { state = l .state; disk = l .disk }; book = stepped rules b }
+  unfolding next kept called noted entered isRefused
+  step-next b l k e o = rw (e, o)
+
+  drain-next : (b : Book) (l : Left) (k : ℕ) → drainOf (stateOf rules b) (applied b disk) ≡ l → l .outcome ≡ answer k
+      → next rules (drain own own) (at rules disk b) ≡ record { held = record { state = l .state; disk = l .disk }; book = steppedBy rules (waitingIn b) b }
+  unfolding next kept called noted entered isRefused
+  drain-next b l k e o = rw (e, o)
+
+  not-drain : step own own ≡ drain own own → ⊥
+  not-drain e = let z : _≡_ {A = ℕ} 0 1 = cc in omega arith
+
+  not-step : drain own own ≡ step own own → ⊥
+  not-step e = let z : _≡_ {A = ℕ} 0 1 = cc in omega arith
+
+  stepped-is : (b : Book) (i : ℕ) → ready rules (accepted b) (flagAt b) ≡ i → stepped rules b ≡ flagging i b
+  unfolding stepped
+  stepped-is b i e = ap (λ (n : ℕ). flagging n b) e
+
+  same-answer : (i j : ℕ) → answer i ≡ answer j → i ≡ j
+  same-answer i j e = cc
+
+  step-own : (b : Book) → Fine rules b → Goes rules disk (step own own) (at rules disk b)
+  step-own b f =
+      let k = ready rules (accepted b) (flagAt b) in
+      let e = step-book rules disk size b f in
+      goes (step own own) b (stepped rules b) (answer k) (unfold called in ap (λ (l : Left). l .outcome) e) (step-next b _ k e refl)
+      (fine-stepped rules b f) (step-gives b f k refl)
+      (λ i c q. stepped-is b i (same-answer k i q))
+      (λ c. absurd (not-drain c))
+
+  -- ---- a drain of the run's own
+
+  waiting-less : (b : Book) (i : ℕ) → i < length b → flagAt b i ≡ false → waitingIn b ≡ waitingIn (flagging (suc i) b) + 1
+  unfolding waitingIn
+  waiting-less b i h e =
+      rw (length-flagging b (suc i))
+      (count-one-more (λ x. not (flagAt (flagging (suc i) b) x)) (λ x. not (flagAt b x)) i (length b) h (rw (flag-here b i h)) (rw e) (λ j n. ap not (sym (flag-else b i j n))))
+
+  none-waits : (b : Book) → waitingIn b ≡ 0 → (i : ℕ) → i < length b → flagAt b i ≡ true
+  unfolding waitingIn
+  none-waits b e i h = not-false (flagAt b i) (count-none (λ x. not (flagAt b x)) (length b) e i h)
+
+  waits-none : (b : Book) → ((i : ℕ) → i < length b → flagAt b i ≡ true) → waitingIn b ≡ 0
+  unfolding waitingIn
+  waits-none b h = none-count (λ x. not (flagAt b x)) (length b) (λ i l. rw (h i l))
+
+  length-stepped : (b : Book) → length (stepped rules b) ≡ length b
+  unfolding stepped
+  length-stepped b = length-flagging b (ready rules (accepted b) (flagAt b))
+
+  -- a step leaves one waiting write less
+  one-less : (n : ℕ) (b : Book) → Fine rules b → waitingIn b ≤ suc n → waitingIn (stepped rules b) ≤ n
+  one-less n b f l = go (ready rules (accepted b) (flagAt b)) refl
+    where
+      go : (k : ℕ) → ready rules (accepted b) (flagAt b) ≡ k → waitingIn (stepped rules b) ≤ n
+      go zero e =
+          let z : stepped rules b ≡ b = stepped-is b 0 e ∙ unfold flagging in refl in
+          let w = waits-none b (λ i h. none-ready rules (accepted b) (flagAt b) (f .ringless) e i (subst (λ (x : ℕ). i < x) (sym (length-accepted b)) h)) in
+          rw z (omega arith)
+      go (suc i) e =
+          let w = ready-earliest rules (accepted b) (flagAt b) i e in
+          let h : i < length b = subst (λ (x : ℕ). i < x) (length-accepted b) (w .accepted) in
+          let c = waiting-less b i h (w .waits) in
+          rw (stepped-is b (suc i) e) (omega arith)
+
+  all-stored : (n : ℕ) (b : Book) → Fine rules b → waitingIn b ≤ n → (i : ℕ) → i < length b → flagAt (steppedBy rules n b) i ≡ true
+  unfolding steppedBy
+  all-stored zero b f l i h = none-waits b (omega arith) i h
+  all-stored (suc n) b f l i h = all-stored n (stepped rules b) (fine-stepped rules b f) (one-less n b f l) i (rw (length-stepped b) h)
+
+  drain-own : (b : Book) → Fine rules b → Goes rules disk (drain own own) (at rules disk b)
+  drain-own b f =
+      let k = waitingIn b in
+      let e = drain-book rules disk size b f in
+      goes (drain own own) b (steppedBy rules k b) (answer k) (unfold called in ap (λ (l : Left). l .outcome) e) (drain-next b _ k e refl)
+      (fine-steps rules disk size k b f) Theorem.drained
+      (λ i c. absurd (not-step c))
+      (λ c. all-stored k b f (omega arith))
+
+  -- ---- refused calls
+
+  -- a refused call that leaves the run's own as it was
+  goes-refused : (c : Call) (b : Book) (number place : ℕ) → Fine rules b → called c (at rules disk b .held) .outcome ≡ refused number place
+      → keptBy (stateLent c) (stateOf rules b) (called c (at rules disk b .held) .state) ≡ stateOf rules b
+      → keptBy (diskLent c) (applied b disk) (called c (at rules disk b .held) .disk) ≡ applied b disk
+      → Gives rules b c (refused number place) → (c ≡ drain own own → ⊥) → Goes rules disk c (at rules disk b)
+  goes-refused c b number place f eo es ed g nd =
+      goes c b b (refused number place) eo (unfold next kept noted isRefused in rw (eo, es, ed)) f g
+      (λ i e q. absurd (let z : _≡_ {A = ℕ} 0 1 = cc in omega arith))
+      (λ e. absurd (nd e))
+
+  -- ---- a hand-in to the run's own
+
+  -- what hand-in gives, by the book
+  handed-by : Book → Write → Left
+  handed-by b w =
+      cond (leb 64 (length b)) (left (refused 16 0) (stateOf rules b) (applied b disk))
+      (cond (late rules (accepted b) (flagAt b) w) (left (refused 17 0) (stateOf rules b) (applied b disk))
+      (cond (needsRing rules (accepted b ++ (w ∷ []))) (left (refused 18 0) (stateOf rules b) (applied b disk))
+      (left (answer (length b + 1)) (handed (stateOf rules b) w) (applied b disk))))
+
+  hand-book : (b : Book) (w : Write) → Fine rules b → handInOf w (stateOf rules b) (applied b disk) ≡ handed-by b w
+  unfolding handInOf handed-by
+  hand-book b w f =
+      rw (
+        eq-eqb (length (stateOf rules b)) stateSize (length-state rules b (f .rules-most) (f .most)),
+        true-sound (stateOf rules b) (fine-sound rules b f),
+        state-accepted rules b (f .rules-most),
+        state-rules rules b (f .rules-most),
+        state-writes rules b (f .rules-most) (f .fits),
+        late-ext rules (accepted b) (storedIn (stateOf rules b)) (flagAt b) (λ i h. state-flags rules b (f .rules-most) i (subst (λ (n : ℕ). i < n) (length-accepted b) h)) w,
+      )
+
+  hand-refused : (b : Book) (w : Write) (number : ℕ) → Fine rules b → handInOf w (stateOf rules b) (applied b disk) ≡ left (refused number 0) (stateOf rules b) (applied b disk)
+      → Gives rules b (handIn w own) (refused number 0) → Goes rules disk (handIn w own) (at rules disk b)
+  hand-refused b w number f e g =
+      goes-refused (handIn w own) b number 0 f (unfold called in ap (λ (l : Left). l .outcome) e) (unfold called in ap (λ (l : Left). l .state) e)
+      (unfold called in ap (λ (l : Left). l .disk) e) g (λ c. let z : _≡_ {A = ℕ} 0 1 = cc in omega arith)
+
+  hand-next : (b : Book) (w : Write) (s : List ℕ) (k : ℕ) → handInOf w (stateOf rules b) (applied b disk) ≡ left (answer k) s (applied b disk)
+      → next rules (handIn w own) (at rules disk b) ≡ record { held = record { state = s; disk = applied b disk }; book = appended b w }
+  unfolding next kept called noted entered isRefused
+  hand-next b w s k e = rw e
+
+  applied-appended : (b : Book) (w : Write) (d : List ℕ) → applied (appended b w) d ≡ applied b d
+  unfolding applied appended
+  applied-appended [] w d = refl
+  applied-appended (e ∷ b) w d = applied-appended b w (cond (e .flag) (storedOn d (e .write)) d)
+
+  hand-taken : (b : Book) (w : Write) → Fine rules b → WriteFits w → length b < 64 → (Late rules (accepted b) (flagAt b) w → ⊥) → (NeedsRing rules (accepted b ++ (w ∷ [])) → ⊥)
+      → handInOf w (stateOf rules b) (applied b disk) ≡ left (answer (length b + 1)) (handed (stateOf rules b) w) (applied b disk) → Goes rules disk (handIn w own) (at rules disk b)
+  hand-taken b w f fw h nl nr e =
+      goes (handIn w own) b (appended b w) (answer (suc (length b))) (unfold called in ap (λ (l : Left). l .outcome) e ∙ ap answer (add-one (length b)))
+      (hand-next b w (handed (stateOf rules b) w) (length b + 1) e ∙ place)
+      (fine-appended rules b w f h fw nl nr) (taken h nl nr)
+      (λ i c. absurd (let z : _≡_ {A = ℕ} 0 1 = cc in omega arith))
+      (λ c. absurd (let z : _≡_ {A = ℕ} 0 1 = cc in omega arith))
+    where
+      place : record { held = record { state = handed (stateOf rules b) w; disk = applied b disk }; book = appended b w } ≡ at rules disk (appended b w)
+      place = rw (handed-state rules b w (f .rules-most) h, applied-appended b w disk)
+
+  hand-own : (b : Book) (w : Write) → Fine rules b → WriteFits w → Goes rules disk (handIn w own) (at rules disk b)
+  hand-own b w f fw = go (leb 64 (length b)) (late rules (accepted b) (flagAt b) w) (needsRing rules (accepted b ++ (w ∷ []))) refl refl refl
+    where
+      go : (x y z : Bool) → leb 64 (length b) ≡ x → late rules (accepted b) (flagAt b) w ≡ y → needsRing rules (accepted b ++ (w ∷ [])) ≡ z → Goes rules disk (handIn w own) (at rules disk b)
+      go true y z ex ey ez = hand-refused b w 16 f (hand-book b w f ∙ (unfold handed-by in rw ex)) (full (leb-true 64 (length b) ex))
+      go false true z ex ey ez =
+          hand-refused b w 17 f (hand-book b w f ∙ (unfold handed-by in rw (ex, ey))) (Theorem.late (leb-false 64 (length b) ex) (late-true rules (accepted b) (flagAt b) w ey))
+      go false false true ex ey ez =
+          hand-refused b w 18 f (hand-book b w f ∙ (unfold handed-by in rw (ex, ey, ez)))
+          (ring (leb-false 64 (length b) ex) (λ l. false≢true (sym ey ∙ true-late rules (accepted b) (flagAt b) w l)) (needsRing-true rules (accepted b ++ (w ∷ [])) ez))
+      go false false false ex ey ez =
+          hand-taken b w f fw (leb-false 64 (length b) ex) (λ l. false≢true (sym ey ∙ true-late rules (accepted b) (flagAt b) w l))
+          (λ r. false≢true (sym ez ∙ true-needsRing rules (accepted b ++ (w ∷ [])) r)) (hand-book b w f ∙ (unfold handed-by in rw (ex, ey, ez)))
+
+  -- ---- calls that are lent another buffer
+
+  -- a call that checks its buffers, lent one of another length
+  checked-length : (call : List ℕ → List ℕ → Left) (s d : List ℕ) → (length s ≡ stateSize → ⊥) ⊎ (length d ≡ 1024 → ⊥) → checked call s d ≡ left (refused 14 0) s d
+  unfolding checked
+  checked-length call s d (inl n) = rw (ne-eqb (length s) stateSize n)
+  checked-length call s d (inr n) = go (eqb (length s) stateSize)
+    where
+      go : (b : Bool) → cond (not b) (left (refused 14 0) s d) (cond (not (eqb (length d) 1024)) (left (refused 14 0) s d) (cond (not (sound s)) (left (refused 15 0) s d) (call s d))) ≡ left (refused 14 0) s d
+      go true = rw (ne-eqb (length d) 1024 n)
+      go false = refl
+
+  unsound-false : (s : List ℕ) → (Sound s → ⊥) → sound s ≡ false
+  unsound-false s n = go (sound s) refl
+    where
+      go : (b : Bool) → sound s ≡ b → sound s ≡ false
+      go true e = absurd (n (sound-true s e))
+      go false e = e
+
+  checked-unsound : (call : List ℕ → List ℕ → Left) (s d : List ℕ) → length s ≡ stateSize → length d ≡ 1024 → (Sound s → ⊥) → checked call s d ≡ left (refused 15 0) s d
+  unfolding checked
+  checked-unsound call s d es ed n = rw (eq-eqb (length s) stateSize es, eq-eqb (length d) 1024 ed, unsound-false s n)
+
+  -- what is kept of the run's own is what it was
+  kept-same : (l : Lent) (mine : List ℕ) → keptBy l mine (lentTo l mine) ≡ mine
+  kept-same own mine = refl
+  kept-same (other x) mine = refl
+
+  -- lent buffers of another length, as the checks see them
+  own-state : (b : Book) → Fine rules b → length (stateOf rules b) ≡ stateSize
+  own-state b f = length-state rules b (f .rules-most) (f .most)
+
+  own-disk : (b : Book) → length (applied b disk) ≡ 1024
+  own-disk b = length-applied b disk ∙ size
+
+  right-length : (n : ℕ) (l : Lent) (mine : List ℕ) → length mine ≡ n → (Wrong n l → ⊥) → length (lentTo l mine) ≡ n
+  right-length n own mine e w = e
+  right-length n (other x) mine e w = elim (ℕ-discrete (length x) n) [ yes z ↦ z | no d ↦ absurd (w d) ]
+
+  wrong-lent : (n : ℕ) (l : Lent) (mine : List ℕ) → Wrong n l → length (lentTo l mine) ≡ n → ⊥
+  wrong-lent n own mine w e = w
+  wrong-lent n (other x) mine w e = w e
+
+  decide-wrong : (n : ℕ) (l : Lent) → Wrong n l ⊎ (Wrong n l → ⊥)
+  decide-wrong n own = inr (λ w. w)
+  decide-wrong n (other x) = elim (ℕ-discrete (length x) n) [ yes z ↦ inr (λ w. w z) | no d ↦ inl d ]
+
+  unsound-lent : (l : Lent) (mine : List ℕ) → Unsound l → Sound (lentTo l mine) → ⊥
+  unsound-lent own mine u s = u
+  unsound-lent (other x) mine u s = u s
+
+  -- a step or a drain that is lent another buffer, either refused
+  module _ (c : Call) (s d : Lent) (call : List ℕ → List ℕ → Left) (b : Book) (f : Fine rules b)
+      (is : called c (at rules disk b .held) ≡ checked call (lentTo s (stateOf rules b)) (lentTo d (applied b disk)))
+      (es : stateLent c ≡ s) (ed : diskLent c ≡ d) (nd : (Wrong stateSize s ⊎ Unsound s) ⊎ Wrong 1024 d → c ≡ drain own own → ⊥)
+      (wl : Wrong stateSize s ⊎ Wrong 1024 d → WrongLength c) (lw : WrongLength c → Wrong stateSize s ⊎ Wrong 1024 d) (ul : Unsound s → UnsoundLent c) where
+    leaves : (number : ℕ) → checked call (lentTo s (stateOf rules b)) (lentTo d (applied b disk)) ≡ left (refused number 0) (lentTo s (stateOf rules b)) (lentTo d (applied b disk))
+        → Gives rules b c (refused number 0) → (Wrong stateSize s ⊎ Unsound s) ⊎ Wrong 1024 d → Goes rules disk c (at rules disk b)
+    leaves number e g w =
+        goes-refused c b number 0 f (ap (λ (l : Left). l .outcome) (is ∙ e))
+        (ap (λ (l : Lent). keptBy l (stateOf rules b) (called c (at rules disk b .held) .state)) es ∙ ap (keptBy s (stateOf rules b)) (ap (λ (l : Left). l .state) (is ∙ e)) ∙ kept-same s (stateOf rules b))
+        (ap (λ (l : Lent). keptBy l (applied b disk) (called c (at rules disk b .held) .disk)) ed ∙ ap (keptBy d (applied b disk)) (ap (λ (l : Left). l .disk) (is ∙ e)) ∙ kept-same d (applied b disk))
+        g (nd w)
+
+    checked-other : (Wrong stateSize s ⊎ Unsound s) ⊎ Wrong 1024 d → Goes rules disk c (at rules disk b)
+    checked-other w = ⊎-elim
+        (λ ws. leaves 14 (checked-length call _ _ (inl (wrong-lent stateSize s (stateOf rules b) ws))) (wrong-length (wl (inl ws))) w)
+        (λ ns. ⊎-elim
+        (λ wd. leaves 14 (checked-length call _ _ (inr (wrong-lent 1024 d (applied b disk) wd))) (wrong-length (wl (inr wd))) w)
+        (λ nd′. sounds ns nd′)
+        (decide-wrong 1024 d))
+        (decide-wrong stateSize s)
+      where
+        sounds : (Wrong stateSize s → ⊥) → (Wrong 1024 d → ⊥) → Goes rules disk c (at rules disk b)
+        sounds ns nd′ = ⊎-elim
+            (λ x. ⊎-elim (λ ws. absurd (ns ws))
+            (λ u. leaves 15
+            (checked-unsound call _ _ (right-length stateSize s (stateOf rules b) (own-state b f) ns) (right-length 1024 d (applied b disk) (own-disk b) nd′) (unsound-lent s (stateOf rules b) u))
+            (unsound (λ z. ⊎-elim ns nd′ (lw z)) (ul u)) w) x)
+            (λ wd. absurd (nd′ wd)) w
+
+  step-goes : (s d : Lent) (b : Book) → Fine rules b → Listed (step s d) → Goes rules disk (step s d) (at rules disk b)
+  unfolding Listed
+  step-goes s d b f l = ⊎-elim (λ o. both s d o) (λ w. checked-other (step s d) s d stepOn b f (unfold called stepOf in refl) refl refl
+      (λ x e. let z : _≡_ {A = ℕ} 0 1 = cc in omega arith) (λ x. x) (λ x. x) (λ u. u) w) l
+    where
+      both : (s d : Lent) → Own s × Own d → Goes rules disk (step s d) (at rules disk b)
+      both own own o = step-own b f
+      both own (other x) o = absurd (o .1)
+      both (other x) own o = absurd (o .0)
+      both (other x) (other y) o = absurd (o .0)
+
+  not-strange : (s d : Lent) → (Wrong stateSize s ⊎ Unsound s) ⊎ Wrong 1024 d → drain s d ≡ drain own own → ⊥
+  not-strange s d w e =
+      let es : s ≡ own = cc in
+      let ed : d ≡ own = cc in
+      ⊎-elim (λ x. ⊎-elim (λ y. subst (Wrong stateSize) es y) (λ y. subst Unsound es y) x) (λ x. subst (Wrong 1024) ed x) w
+
+  drain-goes : (s d : Lent) (b : Book) → Fine rules b → Listed (drain s d) → Goes rules disk (drain s d) (at rules disk b)
+  unfolding Listed
+  drain-goes s d b f l = ⊎-elim (λ o. both s d o) (λ w. checked-other (drain s d) s d drainOn b f (unfold called drainOf in refl) refl refl
+      (not-strange s d) (λ x. x) (λ x. x) (λ u. u) w) l
+    where
+      both : (s d : Lent) → Own s × Own d → Goes rules disk (drain s d) (at rules disk b)
+      both own own o = drain-own b f
+      both own (other x) o = absurd (o .1)
+      both (other x) own o = absurd (o .0)
+      both (other x) (other y) o = absurd (o .0)
+
+  -- ---- a hand-in to another state
+
+  hand-length : (w : Write) (s d : List ℕ) → (length s ≡ stateSize → ⊥) → handInOf w s d ≡ left (refused 14 0) s d
+  unfolding handInOf
+  hand-length w s d n = rw (ne-eqb (length s) stateSize n)
+
+  hand-unsound : (w : Write) (s d : List ℕ) → length s ≡ stateSize → (Sound s → ⊥) → handInOf w s d ≡ left (refused 15 0) s d
+  unfolding handInOf
+  hand-unsound w s d e n = rw (eq-eqb (length s) stateSize e, unsound-false s n)
+
+  hand-other : (w : Write) (x : List ℕ) (b : Book) → Fine rules b → Wrong stateSize (other x) ⊎ Unsound (other x) → Goes rules disk (handIn w (other x)) (at rules disk b)
+  hand-other w x b f l = elim (ℕ-discrete (length x) stateSize) [
+    | no n ↦ leaves 14 (hand-length w x (applied b disk) n) (wrong-length n)
+    | yes e ↦ ⊎-elim (λ n. absurd (n e)) (λ u. leaves 15 (hand-unsound w x (applied b disk) e u) (unsound (λ n. n e) u)) l
+  ]
+    where
+      leaves : (number : ℕ) → handInOf w x (applied b disk) ≡ left (refused number 0) x (applied b disk) → Gives rules b (handIn w (other x)) (refused number 0)
+          → Goes rules disk (handIn w (other x)) (at rules disk b)
+      leaves number e g =
+          goes-refused (handIn w (other x)) b number 0 f (unfold called in ap (λ (l : Left). l .outcome) e) refl (unfold called in ap (λ (l : Left). l .disk) e) g
+          (λ c. let z : _≡_ {A = ℕ} 0 1 = cc in omega arith)
+
+  hand-goes : (w : Write) (s : Lent) (b : Book) → Fine rules b → Listed (handIn w s) → Goes rules disk (handIn w s) (at rules disk b)
+  unfolding Listed
+  hand-goes w own b f l = hand-own b w f (l .0)
+  hand-goes w (other x) b f l = hand-other w x b f (⊎-elim (λ o. absurd o) (λ y. y) (l .1))
+
+  -- ---- a refused opening
+
+  -- what opening gives does not depend on what the buffers hold
+  opens : Bool → Outcome File → Outcome ℕ
+  opens false r = refused 14 0
+  opens true (refused number place) = refused number place
+  opens true (answer g) = cond (ltb 0 (length (g .tests))) (refused 22 0) (cond (cyclic (g .rules)) (refused 8 0) (answer 0))
+
+  opens-is : (file s d : List ℕ) → openOf file s d .outcome ≡ opens (eqb (length s) stateSize) (readOf file)
+  unfolding openOf opens
+  opens-is file s d = go (eqb (length s) stateSize) (readOf file)
+    where
+      two : (x y : Bool) (g : File) → cond x (left (refused 22 0) s d) (cond y (left (refused 8 0) s d) (left (answer 0) (State.opened (g .rules)) d)) .outcome ≡ cond x (refused 22 0) (cond y (refused 8 0) (answer 0))
+      two true y g = refl
+      two false true g = refl
+      two false false g = refl
+
+      go : (e : Bool) (r : Outcome File) → cond e (openWith r s d) (left (refused 14 0) s d) .outcome ≡ opens e r
+      go false r = refl
+      go true (refused number place) = unfold openWith in refl
+      go true (answer g) = unfold openWith in two (ltb 0 (length (g .tests))) (cyclic (g .rules)) g
+
+  -- a refused opening leaves its state, and every opening its disk
+  opens-leaves : (file s d : List ℕ) → isRefused (openOf file s d .outcome) ≡ true → (openOf file s d .state ≡ s) × (openOf file s d .disk ≡ d)
+  unfolding openOf isRefused
+  opens-leaves file s d = go (eqb (length s) stateSize) (readOf file)
+    where
+      two : (x y : Bool) (g : File) → isRefused (cond x (left (refused 22 0) s d) (cond y (left (refused 8 0) s d) (left (answer 0) (State.opened (g .rules)) d)) .outcome) ≡ true
+          → (cond x (left (refused 22 0) s d) (cond y (left (refused 8 0) s d) (left (answer 0) (State.opened (g .rules)) d)) .state ≡ s)
+          × (cond x (left (refused 22 0) s d) (cond y (left (refused 8 0) s d) (left (answer 0) (State.opened (g .rules)) d)) .disk ≡ d)
+      two true y g h = (refl, refl)
+      two false true g h = (refl, refl)
+      two false false g h = absurd (false≢true h)
+
+      go : (e : Bool) (r : Outcome File) → isRefused (cond e (openWith r s d) (left (refused 14 0) s d) .outcome) ≡ true
+          → (cond e (openWith r s d) (left (refused 14 0) s d) .state ≡ s) × (cond e (openWith r s d) (left (refused 14 0) s d) .disk ≡ d)
+      go false r h = (refl, refl)
+      go true (refused number place) h = unfold openWith in (refl, refl)
+      go true (answer g) h = unfold openWith in two (ltb 0 (length (g .tests))) (cyclic (g .rules)) g h
+
+  is-refused : (o : Outcome ℕ) → isRefused o ≡ true → (number : ℕ) × (place : ℕ) × (o ≡ refused number place)
+  unfolding isRefused
+  is-refused (answer n) h = absurd (false≢true h)
+  is-refused (refused number place) h = (number, place, refl)
+
+  lent-length : (l : Lent) (x y : List ℕ) → length x ≡ length y → length (lentTo l x) ≡ length (lentTo l y)
+  lent-length own x y e = e
+  lent-length (other z) x y e = refl
+
+  open-goes : (file : List ℕ) (s : Lent) (b : Book) → Fine rules b → Listed (opening file s) → Goes rules disk (opening file s) (at rules disk b)
+  unfolding Listed
+  open-goes file s b f l =
+      let h = l (stateOf rules b) (applied b disk) (own-state b f) in
+      let r = is-refused _ h in
+      let k = opens-leaves file (lentTo s (stateOf rules b)) (applied b disk) h in
+      goes-refused (opening file s) b (r .0) (r .1) f (unfold called in r .2)
+      (unfold called in ap (keptBy s (stateOf rules b)) (k .0) ∙ kept-same s (stateOf rules b))
+      (unfold called in k .1)
+      (unopened (λ mine d e. opens-is file (lentTo s mine) d
+      ∙ ap (λ (n : ℕ). opens (eqb n stateSize) (readOf file)) (lent-length s mine (stateOf rules b) (e ∙ sym (own-state b f)))
+      ∙ sym (opens-is file (lentTo s (stateOf rules b)) (applied b disk)) ∙ r .2))
+      (λ c. let z : _≡_ {A = ℕ} 0 1 = cc in omega arith)
+
+  -- ---- every call, every list
+
+  call-goes : (c : Call) (b : Book) → Fine rules b → Listed c → Goes rules disk c (at rules disk b)
+  call-goes (opening file s) b f l = open-goes file s b f l
+  call-goes (handIn w s) b f l = hand-goes w s b f l
+  call-goes (step s d) b f l = step-goes s d b f l
+  call-goes (drain s d) b f l = drain-goes s d b f l
+
+  call-goes-on : (c : Call) (m : Moment) → Mirrors rules disk m → Listed c → Goes rules disk c m
+  call-goes-on c m k l = subst (Goes rules disk c) (sym (k .same)) (call-goes c (m .book) (k .fine) l)
+
+  safe-on : (m : Moment) → Mirrors rules disk m → Safe rules disk m
+  safe-on m k = subst (Safe rules disk) (sym (k .same)) (safe (m .book) (k .fine))
+
+  -- the moments inside a drain are those of its steps
+  within-safe : (c : Call) (b : Book) → Fine rules b → (m : Moment) → List·Memᴰ m (within rules c (at rules disk b)) → Safe rules disk m
+  unfolding within
+  within-safe (opening file s) b f m h = absurd (List·Memᴰ·not-nil h)
+  within-safe (handIn w s) b f m h = absurd (List·Memᴰ·not-nil h)
+  within-safe (step s d) b f m h = absurd (List·Memᴰ·not-nil h)
+  within-safe (drain own own) b f m h =
+      let i = mem-index h (at rules disk b) in
+      let n = length-tabulate (λ k. inside k) (waiting (stateOf rules b)) in
+      let l = i .1 in
+      let e : m ≡ at rules disk (steppedBy rules (i .0) b) = sym (i .2) ∙ getD-tabulate (λ k. inside k) (waiting (stateOf rules b)) (i .0) (at rules disk b) (omega arith) ∙ same (i .0) in
+      subst (Safe rules disk) (sym e) (safe (steppedBy rules (i .0) b) (fine-steps rules disk size (i .0) b f))
+    where
+      inside : ℕ → Moment
+      inside k = record { held = stepsOf k (at rules disk b .held); book = steppedBy rules k b }
+
+      same : (k : ℕ) → inside k ≡ at rules disk (steppedBy rules k b)
+      same k = rw (steps-book rules disk size k b f)
+  within-safe (drain own (other d)) b f m h = absurd (List·Memᴰ·not-nil h)
+  within-safe (drain (other s) d) b f m h = absurd (List·Memᴰ·not-nil h)
+
+  within-safe-on : (c : Call) (n : Moment) → Mirrors rules disk n → (m : Moment) → List·Memᴰ m (within rules c n) → Safe rules disk m
+  within-safe-on c n k m h = within-safe c (n .book) (k .fine) m (subst (λ (x : Moment). List·Memᴰ m (within rules c x)) (k .same) h)
+
+  moments-safe : (cs : List Call) (n : Moment) → Mirrors rules disk n → ((c : Call) → List·Memᴰ c cs → Listed c)
+      → (m : Moment) → List·Memᴰ m (moments rules cs n) → Safe rules disk m
+  unfolding moments
+  moments-safe [] n k l m h = ⊎-elim (λ (e : m ≡ n). subst (Safe rules disk) (sym e) (safe-on n k)) (λ i. absurd (List·Memᴰ·not-nil i)) (List·Memᴰ·cases-cons h)
+  moments-safe (c ∷ cs) n k l m h = ⊎-elim
+      (λ (e : m ≡ n). subst (Safe rules disk) (sym e) (safe-on n k))
+      (λ i. ⊎-elim
+      (λ j. within-safe-on c n k m j)
+      (λ j. moments-safe cs (next rules c n) (call-goes-on c n k (l c (List·Memᴰ·head refl)) .1) (λ d x. l d (List·Memᴰ·tail x)) m j)
+      (List·Memᴰ·append-cases (within rules c n) i))
+      (List·Memᴰ·cases-cons h)
+
+  made-answers : (cs : List Call) (n : Moment) → Mirrors rules disk n → ((c : Call) → List·Memᴰ c cs → Listed c)
+      → (c : Call) (m : Moment) → Made rules cs n c m → Answers rules c m
+  made-answers cs n k l c m now = call-goes-on c n k (l c (List·Memᴰ·head refl)) .0
+  made-answers (d ∷ cs) n k l c m (later x) =
+      made-answers cs (next rules d n) (call-goes-on d n k (l d (List·Memᴰ·head refl)) .1) (λ e y. l e (List·Memᴰ·tail y)) c m x
+
+-- ---- the start
+
+-- an accepted opening's file has no tests and no cyclic rules, and its state is the rules' bytes
+open-accepted : (file s d : List ℕ) (g : File) → readOf file ≡ answer g → openOf file s d .outcome ≡ answer 0
+    → (cyclic (g .rules) ≡ false) × (openOf file s d .state ≡ State.opened (g .rules))
+unfolding openOf
+open-accepted file s d g e o = go (eqb (length s) stateSize) (readOf file) e o
+  where
+    two : (x y : Bool) → cyclic (g .rules) ≡ y → cond x (left (refused 22 0) s d) (cond y (left (refused 8 0) s d) (left (answer 0) (State.opened (g .rules)) d)) .outcome ≡ answer 0
+        → (cyclic (g .rules) ≡ false) × (cond x (left (refused 22 0) s d) (cond y (left (refused 8 0) s d) (left (answer 0) (State.opened (g .rules)) d)) .state ≡ State.opened (g .rules))
+    two true y q h = absurd (let z : _≡_ {A = ℕ} 0 1 = cc in omega arith)
+    two false true q h = absurd (let z : _≡_ {A = ℕ} 0 1 = cc in omega arith)
+    two false false q h = (q, refl)
+
+    go : (b : Bool) (r : Outcome File) → r ≡ answer g → cond b (openWith r s d) (left (refused 14 0) s d) .outcome ≡ answer 0
+        → (cyclic (g .rules) ≡ false) × (cond b (openWith r s d) (left (refused 14 0) s d) .state ≡ State.opened (g .rules))
+    go false r q h = absurd (let z : _≡_ {A = ℕ} 0 1 = cc in omega arith)
+    go true r q h = rw q (unfold openWith in two (ltb 0 (length (g .tests))) (cyclic (g .rules)) refl (rw (q, openWith) at h))
+
+fine-start : (file : List ℕ) (g : File) → readOf file ≡ answer g → cyclic (g .rules) ≡ false → Fine (g .rules) []
+fine-start file g e c =
+    let l = holding-limits file g e .0 in
+    record {
+      known = l .known;
+      acyclic = λ x. false≢true (sym c ∙ true-cyclic (g .rules) x);
+      rules-most = l .rules;
+      most = omega arith;
+      fits = λ j h. absurd (omega arith);
+      closed = λ i j p. absurd (false≢true (unfold flagAt in p));
+      ringless = λ r. unfold NeedsRing in absurd (no-needs (r .1));
+    }
+  where
+    no-needs : {i j : ℕ} → Plus (Needs (g .rules) []) i j → ⊥
+    no-needs (Plus.one n) = let h = needs-left (g .rules) [] _ _ n in omega arith
+    no-needs (Plus.more n p) = let h = needs-left (g .rules) [] _ _ n in omega arith
+
+begun-at : (rules : List Rule) (disk s : List ℕ) → s ≡ stateOf rules [] → begun s disk ≡ at rules disk []
+unfolding applied
+begun-at rules disk s e = rw e
+
+-- demand 3
+pub demand3 : Demand3
+unfolding Demand3
+demand3 file state disk g calls e o size listed =
+    let a = open-accepted file state disk g e o in
+    let f = fine-start file g e (a .0) in
+    let s : openOf file state disk .state ≡ stateOf (g .rules) [] = a .1 ∙ opened-state (g .rules) (f .rules-most) in
+    let k : Mirrors (g .rules) disk (begun (openOf file state disk .state) disk) = record { fine = f; same = begun-at (g .rules) disk (openOf file state disk .state) s } in (
+      moments-safe (g .rules) disk size calls (begun (openOf file state disk .state) disk) k listed,
+      made-answers (g .rules) disk size calls (begun (openOf file state disk .state) disk) k listed,
+    )

@@ -1,0 +1,97 @@
+-- The claim about whole runs: demand 3.
+use Prim.Native.Nat.{ℕ, suc, _≤_, _<_}
+use mathlib.Core.Path.{_≡_}
+use mathlib.Core.Logic.{_⊎_}
+use mathlib.Core.Bool.{Bool, true}
+use mathlib.Core.List.{List, [], _∷_, _++_, List·Memᴰ}
+use lib.ListN.{length}
+use Rattle.model.specs.declared.Write.{Write}
+use Rattle.model.specs.declared.Rule.{Rule}
+use Rattle.model.specs.Answer.{Outcome, answer, refused}
+use Rattle.model.specs.Rules.{DependsOn}
+use Rattle.model.specs.Schedule.{labelAt, Valid}
+use Rattle.model.specs.Check.{Consistent}
+use Rattle.model.specs.Test.{Test, File, initialDisk, TestHolds}
+use Rattle.reader.specs.Bytes.{blocksOf}
+use Rattle.reader.specs.File.{readOf}
+use Rattle.cache.specs.Needs.{Earliest, NeedsRing}
+use Rattle.cache.specs.State.{stateSize}
+use Rattle.cache.specs.Calls.{Held, Left, Late, openOf}
+use Rattle.runs.specs.Book.{Book, accepted, flagAt, flagging, waitingIn, applied, scheduleOf, Begins}
+use Rattle.runs.specs.Run.{Call, opening, handIn, step, drain, Lent, own, other, Wrong, Unsound, Listed, lentTo, called, next, Moment, moments}
+
+-- ---- what is claimed of every moment
+
+-- no stored write depends on a write of a trace beyond those accepted by then
+unfoldable pub NoneBeyond : List Rule → Book → List Write → Type 0
+NoneBeyond rules b trace =
+    (i j : ℕ) → i < length b → flagAt b i ≡ true → length b ≤ j → j < length trace → DependsOn rules (labelAt trace i) (labelAt trace j) → ⊥
+
+-- wherever the supply is cut: the disk left is the disk at opening with the book's stored writes applied in the order they came;
+-- these are a valid schedule of the accepted writes; and the disk left is consistent, if the disk at opening is a test's initial disk,
+-- the accepted writes begin its main trace, the test holds under the opened rules, and no stored write depends on a main write beyond
+pub record Safe (rules : List Rule) (disk : List ℕ) (m : Moment) : Type 0 where
+  pub left : m .held .disk ≡ applied (m .book) disk
+  pub valid : Valid rules (accepted (m .book)) (scheduleOf (m .book))
+  pub consistent : (t : Test) → blocksOf disk ≡ initialDisk t → Begins (accepted (m .book)) (t .main) → TestHolds rules t
+      → NoneBeyond rules (m .book) (t .main) → Consistent (t .checks) (blocksOf (m .held .disk))
+
+-- ---- what is claimed of every call
+
+-- a buffer of another length is lent
+abbrev pub WrongLength : Call → Type 0
+WrongLength (opening file s) = ⊥
+WrongLength (handIn w s) = Wrong stateSize s
+WrongLength (step s d) = Wrong stateSize s ⊎ Wrong 1024 d
+WrongLength (drain s d) = Wrong stateSize s ⊎ Wrong 1024 d
+
+-- an unsound state is lent
+abbrev pub UnsoundLent : Call → Type 0
+UnsoundLent (opening file s) = ⊥
+UnsoundLent (handIn w s) = Unsound s
+UnsoundLent (step s d) = Unsound s
+UnsoundLent (drain s d) = Unsound s
+
+-- what a call of the list gives, by the book and the buffers it is lent: the refusals of document 01's list, in their order, or the answer
+pub data Gives (rules : List Rule) (b : Book) : Call → Outcome ℕ → Type 0 where
+  wrong-length : {c : Call} → WrongLength c → Gives rules b c (refused 14 0)
+  unsound : {c : Call} → (WrongLength c → ⊥) → UnsoundLent c → Gives rules b c (refused 15 0)
+  full : {w : Write} → 64 ≤ length b → Gives rules b (handIn w own) (refused 16 0)
+  late : {w : Write} → length b < 64 → Late rules (accepted b) (flagAt b) w → Gives rules b (handIn w own) (refused 17 0)
+  ring : {w : Write} → length b < 64 → (Late rules (accepted b) (flagAt b) w → ⊥) → NeedsRing rules (accepted b ++ (w ∷ []))
+      → Gives rules b (handIn w own) (refused 18 0)
+  taken : {w : Write} → length b < 64 → (Late rules (accepted b) (flagAt b) w → ⊥) → (NeedsRing rules (accepted b ++ (w ∷ [])) → ⊥)
+      → Gives rules b (handIn w own) (answer (suc (length b)))
+  stored : {i : ℕ} → Earliest rules (accepted b) (flagAt b) i → Gives rules b (step own own) (answer (suc i))
+  idle : ((i : ℕ) → i < length b → flagAt b i ≡ true) → Gives rules b (step own own) (answer 0)
+  drained : Gives rules b (drain own own) (answer (waitingIn b))
+  unopened : {file : List ℕ} {s : Lent} {number place : ℕ}
+      → ((mine disk : List ℕ) → length mine ≡ stateSize → openOf file (lentTo s mine) disk .outcome ≡ refused number place)
+      → Gives rules b (opening file s) (refused number place)
+
+-- a call gives that; a step stores the one write whose place it answers, none if it answers 0; after a drain nothing waits
+pub record Answers (rules : List Rule) (c : Call) (m : Moment) : Type 0 where
+  pub gives : Gives rules (m .book) c (called c (m .held) .outcome)
+  pub one : (i : ℕ) → c ≡ step own own → called c (m .held) .outcome ≡ answer i → next rules c m .book ≡ flagging i (m .book)
+  pub all : c ≡ drain own own → (i : ℕ) → i < length (m .book) → flagAt (next rules c m .book) i ≡ true
+
+-- call c is made at moment m of a run
+pub data Made (rules : List Rule) : List Call → Moment → Call → Moment → Type 0 where
+  now : {c : Call} {cs : List Call} {m : Moment} → Made rules (c ∷ cs) m c m
+  later : {d c : Call} {cs : List Call} {m n : Moment} → Made rules cs (next rules d m) c n → Made rules (d ∷ cs) m c n
+
+-- ---- the claim
+
+-- the run begins with the state that an opening leaves, and an empty book
+abbrev pub begun : List ℕ → List ℕ → Moment
+begun state disk = record { held = record { state = state; disk = disk }; book = [] }
+
+-- for every list of calls, from the state that any accepted opening leaves and any disk of 1,024 bytes:
+-- every moment at which the supply can be cut is safe, and every call gives what the book says
+unfoldable pub Demand3 : Type 0
+Demand3 =
+    (file state disk : List ℕ) (f : File) (calls : List Call)
+    → readOf file ≡ answer f → openOf file state disk .outcome ≡ answer 0 → length disk ≡ 1024
+    → ((c : Call) → List·Memᴰ c calls → Listed c)
+    → ((m : Moment) → List·Memᴰ m (moments (f .rules) calls (begun (openOf file state disk .state) disk)) → Safe (f .rules) disk m)
+    × ((c : Call) (m : Moment) → Made (f .rules) calls (begun (openOf file state disk .state) disk) c m → Answers (f .rules) c m)

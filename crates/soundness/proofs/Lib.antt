@@ -1,0 +1,4 @@
+pub mod Steps
+pub mod PartSteps
+pub mod SoundSteps
+pub mod SoundLaws

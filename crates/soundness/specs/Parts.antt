@@ -1,0 +1,40 @@
+-- What the parts of the code compute.
+use Prim.Native.Nat.{ℕ, _+_}
+use mathlib.Core.Bool.{Bool, not, _&&_, _||_}
+use mathlib.Core.List.{List}
+use lib.Bits.{bitAnd}
+use lib.Dec.{eqb, leb}
+use lib.ListN.{getD}
+use Rattle.relation.specs.Bits.{bit}
+use Rattle.relation.specs.Lists.{allBelow}
+use Rattle.model.specs.declared.Rule.{Rule}
+use Rattle.model.specs.declared.Write.{Write}
+use Rattle.model.specs.Rules.{labelOf, dependsOn}
+use Rattle.reader.specs.Bytes.{byte}
+use Rattle.cache.specs.Needs.{needsRing, met}
+use Rattle.cache.specs.State.{acceptedCount, writeBase, flagIn, writesIn, storedIn}
+
+-- w needs v, which was accepted earlier or not
+unfoldable pub needsOf : List Rule → Write → Write → Bool → Bool
+needsOf rules w v earlier = dependsOn rules (labelOf w) (labelOf v) || earlier && eqb (v .address) (w .address)
+
+-- the last two bytes of write i's place are a flag and zero
+unfoldable pub flagFits : List ℕ → ℕ → Bool
+flagFits s i = leb (flagIn s i) 1 && eqb (byte s (writeBase i + 11)) 0
+
+-- all members of a row are in a mask
+abbrev pub partOf : ℕ → ℕ → Bool
+partOf row mask = eqb (bitAnd row mask) row
+
+-- the row of i, where i is in a mask, is part of the mask
+unfoldable pub covered : ℕ → ℕ → ℕ → Bool
+covered row mask i = not (bit mask i) || partOf row mask
+
+abbrev pub coveredAt : List ℕ → ℕ → ℕ → Bool
+coveredAt rows mask i = covered (getD rows i 0) mask i
+
+-- stored writes need only stored ones, and there is no ring of needs
+unfoldable pub needsHold : List Rule → List ℕ → Bool
+needsHold rules s =
+    allBelow (λ i. not (storedIn s i) || met rules (writesIn s) (storedIn s) i) (acceptedCount s)
+    && not (needsRing rules (writesIn s))

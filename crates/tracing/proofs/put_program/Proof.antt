@@ -1,0 +1,90 @@
+use Prim.Native.Nat.{_+_, _-_, _*_, _≤_}
+use mathlib.Core.Path.{_≡_}
+use lib.ListN.{length}
+use Rattle.writing.specs.Writing.{Wrote}
+use Rattle.tracing.specs.Traced.{programFields}
+use Rattle.tracing.proofs.Steps.{traces}
+use Rattle.tracing.proofs.put_program.Statement.{statement}
+use Rattle.tracing.proofs.put_program.Tie as tie
+use Rattle.tracing.proofs.put_program.Reads as reads
+use Rattle.tracing.proofs.put_program.Lts as lts
+use Rattle.reader.proofs.word_at.Reads as word-at-reads
+use Rattle.tracing.proofs.put_put.Reads as put-put-reads
+
+abbrev Inv-loop : tie.InvT-loop
+Inv-loop out₀ from tag program n tail epoch at₀ i₀ out at i = (i ≤ n) × (length out ≡ length out₀) × (at ≡ from + 26 * i) × Wrote out₀ from (programFields tag tail epoch program i) out at
+
+abbrev μ-loop : tie.MeasureT-loop
+μ-loop out₀ from tag program n tail epoch at₀ i₀ out at i = n - i
+
+-- src/lib.rt:55:5
+loop-holds : tie.Need-loop-holds Inv-loop μ-loop
+loop-holds c = search traces
+
+-- src/lib.rt:56:42
+mul-word-at : tie.Need-mul-word-at Inv-loop μ-loop
+mul-word-at c = search traces
+
+-- src/lib.rt:56:13
+word-at-requires : tie.Need-word-at-requires Inv-loop μ-loop
+word-at-requires c κs = search traces
+
+-- src/lib.rt:57:44
+cast-put-put : tie.Need-cast-put-put Inv-loop μ-loop
+cast-put-put c = search traces
+
+-- src/lib.rt:57:36
+add-put-put : tie.Need-add-put-put Inv-loop μ-loop
+add-put-put c = search traces
+
+-- src/lib.rt:57:63
+cast-put-put-2 : tie.Need-cast-put-put-2 Inv-loop μ-loop
+cast-put-put-2 c = search traces
+
+-- src/lib.rt:57:54
+add-put-put-2 : tie.Need-add-put-put-2 Inv-loop μ-loop
+add-put-put-2 c = search traces
+
+-- src/lib.rt:57:9
+put-put-requires : tie.Need-put-put-requires Inv-loop μ-loop
+put-put-requires c κs = search traces
+
+-- src/lib.rt:58:9
+add-i : tie.Need-add-i Inv-loop μ-loop
+add-i c = search traces
+
+-- src/lib.rt:55:5
+loop-less : tie.Need-loop-less Inv-loop μ-loop
+loop-less c = search traces
+
+-- src/lib.rt:55:5
+loop-again : tie.Need-loop-again Inv-loop μ-loop
+loop-again c = search traces
+
+-- src/lib.rt:49:1
+same-length : tie.Need-same-length Inv-loop μ-loop
+same-length c = search traces
+
+-- src/lib.rt:49:1
+returns : tie.Need-returns Inv-loop μ-loop
+returns c = search traces
+
+pub put-program-spec : {M : Type 1} → statement M
+put-program-spec =
+    tie.close
+    (tie.spec
+    Inv-loop
+    μ-loop
+    loop-holds
+    mul-word-at
+    word-at-requires
+    cast-put-put
+    add-put-put
+    cast-put-put-2
+    add-put-put-2
+    put-put-requires
+    add-i
+    loop-less
+    loop-again
+    same-length
+    returns)

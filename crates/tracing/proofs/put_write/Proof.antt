@@ -1,0 +1,76 @@
+use native.Mathlib.Omega.{arith}
+use Rattle.tracing.proofs.Steps.{write-wrote}
+use borrow.Author.Needs.{needs}
+use Rattle.tracing.proofs.put_write.Statement.{statement}
+use Rattle.tracing.proofs.put_write.Tie as tie
+use Rattle.tracing.proofs.put_write.Reads as reads
+use Rattle.tracing.proofs.put_write.Lts as lts
+use Rattle.writing.proofs.put.Reads as put-reads
+use Rattle.writing.proofs.put_word.Reads as put-word-reads
+
+-- src/lib.rt:18:9
+put-requires : tie.Need-put-requires
+put-requires c κs = search needs
+
+-- src/lib.rt:19:9
+put-requires-2 : tie.Need-put-requires-2
+put-requires-2 c κs = search needs
+
+-- src/lib.rt:20:9
+put-requires-3 : tie.Need-put-requires-3
+put-requires-3 c κs = search needs
+
+-- src/lib.rt:21:9
+put-requires-4 : tie.Need-put-requires-4
+put-requires-4 c κs = search needs
+
+-- src/lib.rt:22:9
+put-requires-5 : tie.Need-put-requires-5
+put-requires-5 c κs = search needs
+
+-- src/lib.rt:23:9
+put-word-requires : tie.Need-put-word-requires
+put-word-requires c κs = search needs
+
+-- src/lib.rt:24:5
+put-word-requires-2 : tie.Need-put-word-requires-2
+put-word-requires-2 c κs = search needs
+
+-- src/lib.rt:14:1
+same-length : tie.Need-same-length
+same-length c = search needs
+
+-- src/lib.rt:14:1
+returns : tie.Need-returns
+returns c =
+    let w =
+    write-wrote _ _ _ _ _ _ _ _ _ _ _ _ _ _ _ _ _ _
+    (c .before .before .before .before .before .before .before .before .before .before .before .before .before .before .before .before .before .before .before .before .before .before .before .before .before .before .put .ensures)
+    (c .before .before .before .before .before .before .before .before .before .before .before .before .before .before .before .before .before .before .before .before .before .before .put2 .ensures)
+    (c .before .before .before .before .before .before .before .before .before .before .before .before .before .before .before .before .before .before .put3 .ensures)
+    (c .before .before .before .before .before .before .before .before .before .before .before .before .before .before .put4 .ensures)
+    (c .before .before .before .before .before .before .before .before .before .before .put5 .ensures)
+    (c .before .before .before .before .before .before .put-word .ensures)
+    (c .before .before .put-word2 .ensures) in
+    let f0 = c .before .before .before .before .before .before .before .before .before .before .before .before .before .before .before .before .before .before .before .before .before .before .before .before .before .before .put .ensures .place in
+    let f1 = c .before .before .before .before .before .before .before .before .before .before .before .before .before .before .before .before .before .before .before .before .before .before .put2 .ensures .place in
+    let f2 = c .before .before .before .before .before .before .before .before .before .before .before .before .before .before .before .before .before .before .put3 .ensures .place in
+    let f3 = c .before .before .before .before .before .before .before .before .before .before .before .before .before .before .put4 .ensures .place in
+    let f4 = c .before .before .before .before .before .before .before .before .before .before .put5 .ensures .place in
+    let f5 = c .before .before .before .before .before .before .put-word .ensures .place in
+    let f6 = c .before .before .put-word2 .ensures .place in
+    (w, omega arith)
+
+pub put-write-spec : {M : Type 1} → statement M
+put-write-spec =
+    tie.close
+    (tie.spec
+    put-requires
+    put-requires-2
+    put-requires-3
+    put-requires-4
+    put-requires-5
+    put-word-requires
+    put-word-requires-2
+    same-length
+    returns)

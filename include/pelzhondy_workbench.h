@@ -1,0 +1,104 @@
+/*
+ * The tester's interface: reading test files, judging tests, finding rules, and traces of the
+ * reading log. Link target/staticlib/libworkbench.a. See pelzhondy_answer.h for answers, refusals
+ * and buffers, and document 01 for the format of a file: at most 32 rules and 16 tests, in a test at
+ * most 64 initial writes, 12 main writes and 16 checks. `file` is only read.
+ *
+ * "By reading" stands for the refusals 1 to 7, at the offset of the field at fault. A file may have
+ * any length: one of over 19,376 bytes is refused, by what stands in it.
+ */
+#ifndef PELZHONDY_WORKBENCH_H
+#define PELZHONDY_WORKBENCH_H
+
+#include "pelzhondy_answer.h"
+
+#ifdef __cplusplus
+extern "C" {
+#endif
+
+/* The least buffers of judge_lines and of find. */
+#define PELZHONDY_LINES_BYTES 400
+#define PELZHONDY_RULES_BYTES 96
+
+/*
+ * Reads a file. Answers the number of its rules + 256 * the number of its tests. Refused by reading.
+ */
+uint64_t pelzhondy_read(const uint8_t *file, size_t file_length);
+
+/*
+ * Locates a test, counted from 1. Answers the offset of its first field + 2^16 * its initial writes
+ * + 2^24 * its main writes + 2^32 * its checks. Refused by reading; 9 if there is no such test.
+ */
+uint64_t pelzhondy_locate(const uint8_t *file, size_t file_length, uint64_t test);
+
+/*
+ * Answers 1 if the file's rules are cyclic, else 0. Refused by reading.
+ */
+uint64_t pelzhondy_cyclic(const uint8_t *file, size_t file_length);
+
+/*
+ * Judges a test, counted from 1, over all its crash schedules. Answers the number of valid schedules
+ * + 2^21 * the number of bad ones, which are valid and leave an inconsistent disk + 2^42 * the number
+ * of some bad schedule, or 0 where there is none; the three functions below take it apart. Bit i - 1
+ * of a schedule's number is set if main write i is stored. Refused, in this order: by reading; 8; 9.
+ */
+uint64_t pelzhondy_judge(const uint8_t *file, size_t file_length, uint64_t test);
+
+static inline uint32_t pelzhondy_judged_valid(uint64_t answer)
+{
+    return (uint32_t)(answer & UINT32_C(0x1FFFFF));
+}
+
+static inline uint32_t pelzhondy_judged_bad(uint64_t answer)
+{
+    return (uint32_t)(answer >> 21) & UINT32_C(0x1FFFFF);
+}
+
+/* Some bad schedule, if there is one: 0 may be one, so ask for the count of bad ones first. */
+static inline uint32_t pelzhondy_judged_schedule(uint64_t answer)
+{
+    return (uint32_t)(answer >> 42) & UINT32_C(0x1FFFFF);
+}
+
+/*
+ * Answers 0 if the test holds, or 1 + the number of some bad schedule, as soon as there is one.
+ * Refused as judge is.
+ */
+uint64_t pelzhondy_verdict(const uint8_t *file, size_t file_length, uint64_t test);
+
+/*
+ * Writes what the judging program prints for the file: a line for each test, its number, the valid
+ * and the bad schedules, `holds` or `fails`; or one line, `refused`, number, place, for a file that
+ * reading refuses or whose rules are cyclic. Each line ends with a line feed; no byte 0 follows.
+ * Answers the length written, at most 400, and leaves the rest of the buffer. Refused only by 12, if
+ * the buffer has fewer than 400 bytes.
+ */
+uint64_t pelzhondy_judge_lines(const uint8_t *file, size_t file_length,
+                               uint8_t *buffer, size_t buffer_length);
+
+/*
+ * Finds the fewest rules under which all tests of the file hold, and which are not cyclic. Writes a
+ * field of six bytes for each (03 00 03, name, predicate, name), and leaves the rest of the buffer.
+ * Answers the number of rules, at most 16. Refused, in this order: by reading; 10 if the file has
+ * rules; 12 if the buffer has fewer than 96 bytes; 11 if over 16 rules match two different main
+ * writes of a test; 13 if no acyclic set of any rules does it.
+ */
+uint64_t pelzhondy_find(const uint8_t *file, size_t file_length,
+                        uint8_t *buffer, size_t buffer_length);
+
+/*
+ * Writes the test of a reading log, after the initial puts and during the main ones, with a range
+ * check at 0. A program of puts is a row of keys and values, two bytes each, big-endian. Answers the
+ * length written, 26 for each put and 7, and leaves the rest of the buffer. Refused, in this order:
+ * 19 if a program's length is not a multiple of 4; 6, at place 0, if there are over 32 initial or 6
+ * main puts; 20 if one is of (0,0); 12 if the buffer is too short.
+ */
+uint64_t pelzhondy_trace(const uint8_t *initial_puts, size_t initial_length,
+                         const uint8_t *main_puts, size_t main_length,
+                         uint8_t *buffer, size_t buffer_length);
+
+#ifdef __cplusplus
+}
+#endif
+
+#endif

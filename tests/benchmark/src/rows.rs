@@ -1,0 +1,205 @@
+// The rows of the table: a proved routine and its counterpart, ready to be called again and again.
+
+use reference::samples::log_rules;
+use reference::writes::Write;
+
+use crate::inputs::{self, Load};
+use crate::measure::Call;
+
+pub struct Row {
+    pub routine: &'static str,
+    pub input: &'static str,
+    pub proved: Call,
+    pub rust: Call,
+}
+
+/// Rows of routines that the libraries have, or the name of one that they have not.
+pub enum Part {
+    Missing(&'static str),
+    Rows(Vec<Row>),
+}
+
+pub fn parts() -> Vec<Part> {
+    fn part<F>(name: &'static str, routine: Option<F>, rows: fn(F) -> Vec<Row>) -> Part {
+        routine.map_or(Part::Missing(name), |routine| Part::Rows(rows(routine)))
+    }
+    vec![
+        part("judge", library::JUDGE, judge),
+        part("verdict", library::VERDICT, verdict),
+        part("find", library::FIND, find),
+        part("hand-in", library::HAND_IN, hand_in),
+        part("step", library::STEP, step),
+        part("drain", library::DRAIN, drain),
+        part("get", library::GET, get),
+    ]
+}
+
+type OnTest = unsafe extern "C" fn(*const u8, usize, u64) -> u64;
+type OnFile = unsafe extern "C" fn(*const u8, usize, *mut u8, usize) -> u64;
+type OnState = unsafe extern "C" fn(*mut u8, usize, *mut u8, usize) -> u64;
+type HandIn = unsafe extern "C" fn(*mut u8, usize, u8, u8, u32, u16, u16) -> u64;
+type Get = unsafe extern "C" fn(*const u8, usize, u16) -> u64;
+
+fn on_tests(
+    routine: &'static str,
+    proved: OnTest,
+    rust: fn(&[u8], u64) -> u64,
+    compared: fn(u64) -> u64,
+) -> Vec<Row> {
+    let row = |input, file: Vec<u8>| {
+        let same = file.clone();
+        Row {
+            routine,
+            input,
+            proved: Box::new(move || compared(unsafe { proved(file.as_ptr(), file.len(), 1) })),
+            rust: Box::new(move || compared(rust(&same, 1))),
+        }
+    };
+    vec![
+        row("log of 6 puts, its rules", inputs::log_file(&log_rules())),
+        row("log of 6 puts, no rules", inputs::log_file(&[])),
+        row("12 writes, 16 checks, many rules", inputs::dense_file()),
+    ]
+}
+
+fn judge(proved: OnTest) -> Vec<Row> {
+    // Which bad schedule is shown is left free.
+    on_tests("judge", proved, fast::judge::judge, |answer| {
+        answer % (1 << 42)
+    })
+}
+
+fn verdict(proved: OnTest) -> Vec<Row> {
+    on_tests("verdict", proved, fast::judge::verdict, |answer| {
+        answer.min(1)
+    })
+}
+
+fn find(proved: OnFile) -> Vec<Row> {
+    let file = inputs::hopeless_file();
+    let same = file.clone();
+    let mut buffer = [0; 96];
+    vec![Row {
+        routine: "find",
+        input: "16 candidates, 16 tests of 12 writes, none does",
+        proved: Box::new(move || unsafe {
+            proved(file.as_ptr(), file.len(), buffer.as_mut_ptr(), buffer.len())
+        }),
+        rust: Box::new(move || fast::find::find(&same, &mut buffer)),
+    }]
+}
+
+/// A call on a state and an empty disk, which are put back before it.
+fn on_state(before: &[u8], mut call: impl FnMut(&mut [u8], &mut [u8]) -> u64 + 'static) -> Call {
+    let before = before.to_vec();
+    let (mut state, mut disk) = (before.clone(), vec![0; 1024]);
+    Box::new(move || {
+        state.copy_from_slice(&before);
+        call(&mut state, &mut disk)
+    })
+}
+
+fn on_states(
+    routine: &'static str,
+    inputs: [(&'static str, Vec<u8>); 2],
+    proved: OnState,
+    rust: fn(&mut [u8], &mut [u8]) -> u64,
+) -> Vec<Row> {
+    let row = |(input, state): (&'static str, Vec<u8>)| Row {
+        routine,
+        input,
+        proved: on_state(&state, move |state, disk| unsafe {
+            proved(
+                state.as_mut_ptr(),
+                state.len(),
+                disk.as_mut_ptr(),
+                disk.len(),
+            )
+        }),
+        rust: on_state(&state, rust),
+    };
+    inputs.map(row).into()
+}
+
+fn step(proved: OnState) -> Vec<Row> {
+    let half = |load: &Load| inputs::state_of(load, 64, 32);
+    let inputs = [
+        (
+            "64 writes, half stored, the log's rules",
+            half(&inputs::log_load()),
+        ),
+        (
+            "64 writes, half stored, 32 rules",
+            half(&inputs::dense_load()),
+        ),
+    ];
+    on_states("step", inputs, proved, fast::cache::step)
+}
+
+fn drain(proved: OnState) -> Vec<Row> {
+    let full = |load: &Load| inputs::state_of(load, 64, 0);
+    let inputs = [
+        ("64 writes, the log's rules", full(&inputs::log_load())),
+        ("64 writes, 32 rules", full(&inputs::dense_load())),
+    ];
+    let mut rows = on_states("drain", inputs.clone(), proved, fast::cache::drain);
+    rows.extend(on_states(
+        "drain, Rust by 64 calls of step",
+        inputs,
+        proved,
+        |state, disk| {
+            (0..64)
+                .filter(|_| fast::cache::step(state, disk) != 0)
+                .count() as u64
+        },
+    ));
+    rows
+}
+
+fn hand_in(proved: HandIn) -> Vec<Row> {
+    let row = |input, load: &Load| {
+        let state = inputs::state_of(load, 63, 0);
+        let Write {
+            address,
+            name,
+            epoch,
+            block,
+        } = load.writes[63];
+        Row {
+            routine: "hand-in",
+            input,
+            proved: on_state(&state, move |state, _| unsafe {
+                let (first, second) = (block.first, block.second);
+                proved(
+                    state.as_mut_ptr(),
+                    state.len(),
+                    address,
+                    name,
+                    epoch,
+                    first,
+                    second,
+                )
+            }),
+            rust: on_state(&state, move |state, _| {
+                let block = u32::from_be_bytes(block.to_bytes());
+                fast::cache::hand_in(state, address, name, epoch, block)
+            }),
+        }
+    };
+    vec![
+        row("the 64th write, the log's rules", &inputs::log_load()),
+        row("the 64th write, 32 rules", &inputs::dense_load()),
+    ]
+}
+
+fn get(proved: Get) -> Vec<Row> {
+    const KEY: u16 = 7;
+    let disk = inputs::full_log();
+    let same = disk.clone();
+    vec![Row {
+        routine: "get",
+        input: "log of 255 blocks, another key",
+        proved: Box::new(move || unsafe { proved(disk.as_ptr(), disk.len(), KEY) }),
+        rust: Box::new(move || fast::log::get(&same, KEY)),
+    }]
+}

@@ -1,0 +1,119 @@
+// What the judging program prints for a file, written to a buffer.
+
+use reference::crashes;
+use reference::damage;
+use reference::file::MOST_TESTS;
+use reference::generate;
+use reference::program;
+use reference::random::Random;
+use reference::refusal;
+
+use crate::answer;
+use crate::calls;
+use crate::harness::{same_answer_on, Outcome, Run, Suite};
+use crate::lent::Lent;
+
+/// The least buffer that is accepted.
+const LEAST: usize = 400;
+
+pub fn suites() -> Vec<Suite> {
+    let suite = |name, run| Suite { name, run };
+    vec![
+        suite("lines: writes that meet, rules that match", telling_files),
+        suite("lines: random files", random_files),
+        suite("lines: 16 tests of 12 main writes", most_tests),
+        suite("lines: damaged and cyclic files", refused_files),
+        suite("lines: short files, over-long files", other_files),
+        suite("lines: 12, every buffer too short", short_buffers),
+    ]
+}
+
+/// Into a buffer of this length: the text at its start and the rest as it was, or 12 alone.
+fn same_lines_in(random: &mut Random, file: &[u8], length: usize) -> Outcome {
+    let lent = Lent::new(random, file);
+    let content = random.bytes(length);
+    let mut out = Lent::new(random, &content);
+    let mut after = content;
+    let expected = if length < LEAST {
+        Err(refusal::plain(refusal::BUFFER_TOO_SHORT))
+    } else {
+        let text = program::output(file);
+        after[..text.len()].copy_from_slice(text.as_bytes());
+        Ok(text.len() as u64)
+    };
+    let got = calls::judge_lines(&lent, &mut out);
+    let call = format!("judge_lines into {length} bytes");
+    same_answer_on(&call, &[("file", file)], answer::of(expected), got)?;
+    lent.unchanged("file")?;
+    out.became("out", &after)
+}
+
+fn same_lines(random: &mut Random, file: &[u8]) -> Outcome {
+    for length in [0, LEAST - 1, LEAST, 4096] {
+        same_lines_in(random, file, length)?;
+    }
+    Ok(())
+}
+
+fn each(run: &mut Run, cases: u64, make: fn(&mut Random) -> Vec<u8>) -> Outcome {
+    for _ in 0..run.times(cases) {
+        let mut random = run.next_case();
+        let bytes = make(&mut random);
+        same_lines(&mut random, &bytes)?;
+    }
+    Ok(())
+}
+
+fn telling_files(run: &mut Run) -> Outcome {
+    each(run, 1_500, |random| crashes::file(random).to_bytes())
+}
+
+fn random_files(run: &mut Run) -> Outcome {
+    each(run, 500, |random| generate::file(random).to_bytes())
+}
+
+/// The longest texts: 16 lines, with counts of four digits where there are no rules.
+fn most_tests(run: &mut Run) -> Outcome {
+    each(run, 4, |random| {
+        let mut file = crashes::file(random);
+        file.rules.truncate(random.below(3));
+        file.tests.clear();
+        let palette = generate::Palette::small(random);
+        while file.tests.len() < MOST_TESTS {
+            file.tests.push(crashes::test(random, &palette, 12));
+        }
+        file.to_bytes()
+    })
+}
+
+fn refused_files(run: &mut Run) -> Outcome {
+    each(run, 3_000, |random| {
+        if random.one_in(4) {
+            let mut file = crashes::file(random);
+            file.rules = generate::nearly_cyclic_rules(random);
+            return file.to_bytes();
+        }
+        damage::any(random).bytes
+    })
+}
+
+fn other_files(run: &mut Run) -> Outcome {
+    each(run, 300, damage::over_long)?;
+    each(run, 300, |random| {
+        let length = random.below(4);
+        random.bytes(length)
+    })
+}
+
+/// Refused before anything of the file is looked at.
+fn short_buffers(run: &mut Run) -> Outcome {
+    for length in 0..LEAST + 20 {
+        let mut random = run.next_case();
+        let bytes = match random.below(3) {
+            0 => damage::any(&mut random).bytes,
+            _ => generate::small_file(&mut random).to_bytes(),
+        };
+        same_lines_in(&mut random, &bytes, length)?;
+    }
+    Ok(())
+}

@@ -1,0 +1,186 @@
+// Tests whose verdict hangs on the rules and on each write: writes that meet at an address, rules
+// that match, checks that hold at the start and that a crash can break.
+
+use crate::checks::Check;
+use crate::cyclic::cyclic;
+use crate::file::{File, Test, MOST_CHECKS, MOST_MAIN, MOST_RULES};
+use crate::generate::{self, Palette};
+use crate::log;
+use crate::random::Random;
+use crate::samples::log_rules;
+use crate::writes::{Block, Predicate, Rule, Write, PREDICATES};
+
+/// Up to `most` rules that are not cyclic.
+pub fn acyclic_rules(random: &mut Random, palette: &Palette, most: usize) -> Vec<Rule> {
+    let mut rules = Vec::new();
+    for _ in 0..random.between(0, most) {
+        rules.push(generate::rule(random, palette));
+        if cyclic(&rules) {
+            rules.pop();
+        }
+    }
+    rules
+}
+
+/// As many rules as a file can have: these, and others that name nothing of the palette, in any
+/// order, so that one which matters is often the last.
+pub fn padded(random: &mut Random, palette: &Palette, rules: &[Rule]) -> Vec<Rule> {
+    let unused: Vec<u8> = (0..=255).filter(|n| !palette.names.contains(n)).collect();
+    let mut all = rules.to_vec();
+    while all.len() < MOST_RULES {
+        let i = random.below(unused.len() - 1);
+        all.push(Rule {
+            name: unused[i],
+            predicate: random.pick(&PREDICATES),
+            second: unused[random.between(i + 1, unused.len() - 1)],
+        });
+    }
+    random.shuffle(&mut all);
+    let matters = |rule: &Rule| palette.names.contains(&rule.name);
+    if random.one_in(2) {
+        if let Some(i) = all.iter().position(matters) {
+            all.swap(i, MOST_RULES - 1);
+        }
+    }
+    all
+}
+
+/// A check about where writes of the test go and what they leave there.
+fn check_of(random: &mut Random, palette: &Palette, test: &Test) -> Check {
+    let writes: Vec<&Write> = test.initial.iter().chain(&test.main).collect();
+    if writes.is_empty() || random.one_in(5) {
+        return generate::check(random, palette);
+    }
+    let (one, two) = (random.pick(&writes), random.pick(&writes));
+    match random.below(4) {
+        0 => Check::Range { at: one.address },
+        1 => Check::Pointer { at: one.address },
+        _ => Check::Pair {
+            a: one.address,
+            v: one.block,
+            b: two.address,
+            w: two.block,
+        },
+    }
+}
+
+/// Checks for a test that has its writes: of those that are drawn, the ones that hold at the start
+/// or, in few of the tests, any.
+fn add_checks(random: &mut Random, palette: &Palette, test: &mut Test, drawn: usize) {
+    let start = test.initial_disk();
+    let any = random.one_in(8);
+    for _ in 0..drawn {
+        let check = check_of(random, palette, test);
+        if test.checks.len() < MOST_CHECKS && (any || check.holds(&start)) {
+            test.checks.push(check);
+        }
+    }
+}
+
+/// A test with this number of main writes.
+pub fn test(random: &mut Random, palette: &Palette, main: usize) -> Test {
+    let initial = random.below(8);
+    let mut test = generate::test_of(random, palette, initial, main, 0);
+    let drawn = match random.below(8) {
+        0 => random.between(8, 40),
+        _ => random.between(1, 5),
+    };
+    add_checks(random, palette, &mut test, drawn);
+    test
+}
+
+/// A number of main writes: each occurs, the large ones rarely.
+pub fn main_count(random: &mut Random) -> usize {
+    if random.one_in(16) {
+        random.between(0, MOST_MAIN)
+    } else {
+        random.between(1, 7)
+    }
+}
+
+/// Rules that are not cyclic and a few tests.
+pub fn file(random: &mut Random) -> File {
+    let palette = Palette::small(random);
+    let most = if random.one_in(8) { 32 } else { 6 };
+    let rules = acyclic_rules(random, &palette, most);
+    let mut tests = Vec::new();
+    for _ in 0..random.between(1, 3) {
+        let main = main_count(random);
+        tests.push(test(random, &palette, main));
+    }
+    File { rules, tests }
+}
+
+/// A log under its rules, some of them, or these and another one.
+pub fn log_file(random: &mut Random) -> File {
+    let (before, after) = (random.below(4), random.between(1, log::MOST_MAIN_PUTS));
+    let initial = generate::puts(random, before);
+    let main = generate::puts(random, after);
+    let mut rules = log_rules().to_vec();
+    if random.one_in(2) {
+        rules.remove(random.below(2));
+    }
+    if random.one_in(2) {
+        let palette = Palette {
+            names: vec![log::LOG, log::SUPERBLOCK],
+            ..Palette::small(random)
+        };
+        rules.push(generate::rule(random, &palette));
+        if cyclic(&rules) {
+            rules.pop();
+        }
+    }
+    random.shuffle(&mut rules);
+    File {
+        rules,
+        tests: vec![log::test_of(&initial, &main)],
+    }
+}
+
+/// Main writes of rising epochs to one address, each depending on those before it, so that the
+/// valid schedules are the starts of the trace; and one of these, the last in half of the cases,
+/// leaves the only block that the check objects to. With it the number of that schedule.
+pub fn chain(random: &mut Random) -> (File, u64) {
+    let (name, address, other) = (random.byte(), random.byte(), random.byte());
+    let from = random.number() as u32 >> 1;
+    let count = random.between(1, MOST_MAIN);
+    let main: Vec<Write> = (0..count)
+        .map(|i| Write {
+            address,
+            name,
+            epoch: from + i as u32,
+            block: Block {
+                first: i as u16,
+                second: 1,
+            },
+        })
+        .collect();
+    let bad = if random.one_in(2) {
+        count
+    } else {
+        random.between(1, count)
+    };
+    // No write leaves (65535, 65535) anywhere.
+    let never = Block {
+        first: u16::MAX,
+        second: u16::MAX,
+    };
+    let file = File {
+        rules: vec![Rule {
+            name,
+            predicate: Predicate::Greater,
+            second: name,
+        }],
+        tests: vec![Test {
+            initial: vec![],
+            checks: vec![Check::Pair {
+                a: address,
+                v: main[bad - 1].block,
+                b: other,
+                w: never,
+            }],
+            main,
+        }],
+    };
+    (file, (1 << bad) - 1)
+}

@@ -1,0 +1,154 @@
+// The sample files: what a tester would write, and what goes wrong with one.
+
+use crate::checks::Check;
+use crate::file::{File, Test};
+use crate::log;
+use crate::writes::{Block, Predicate, Rule, Write};
+
+use Predicate::{Equal, Greater, Less};
+
+pub struct Sample {
+    pub name: &'static str,
+    pub bytes: Vec<u8>,
+}
+
+fn block(first: u16, second: u16) -> Block {
+    Block { first, second }
+}
+
+fn rule(name: u8, predicate: Predicate, second: u8) -> Rule {
+    Rule {
+        name,
+        predicate,
+        second,
+    }
+}
+
+fn write(address: u8, name: u8, epoch: u32, block: Block) -> Write {
+    Write {
+        address,
+        name,
+        epoch,
+        block,
+    }
+}
+
+/// The log's rules: a superblock after its log block, and after the earlier superblocks.
+pub fn log_rules() -> [Rule; 2] {
+    [
+        rule(log::SUPERBLOCK, Equal, log::LOG),
+        rule(log::SUPERBLOCK, Greater, log::SUPERBLOCK),
+    ]
+}
+
+/// Test K of the bench sheet.
+pub fn test_k() -> Test {
+    log::test_of(&[block(0, 42)], &[block(1, 81), block(2, 37)])
+}
+
+/// One ignition of a lorry with a trailer: six wheels, after two readings that are there.
+fn rig() -> Test {
+    let wheels = [(0, 830), (1, 825), (2, 910), (3, 905), (4, 899), (5, 640)];
+    let puts: Vec<Block> = wheels.map(|(wheel, kpa)| block(wheel, kpa)).to_vec();
+    log::test_of(&[block(0, 835), block(1, 828)], &puts)
+}
+
+const SETTING: u8 = 10;
+const MARK: u8 = 11;
+
+/// A setting in two blocks, 20 and 21, and a mark at 22 that it is complete: with the mark there,
+/// both are.
+fn setting() -> Test {
+    let (old, new, complete) = (block(1, 1), block(2, 2), block(0, 1));
+    let complete_has = |b| Check::Pair {
+        a: 22,
+        v: complete,
+        b,
+        w: new,
+    };
+    Test {
+        initial: vec![write(20, SETTING, 0, old), write(21, SETTING, 0, old)],
+        main: vec![
+            write(20, SETTING, 1, new),
+            write(21, SETTING, 1, new),
+            write(22, MARK, 1, complete),
+        ],
+        checks: vec![complete_has(20), complete_has(21)],
+    }
+}
+
+const RECORD: u8 = 30;
+const DIRECTORY: u8 = 31;
+
+/// Directory blocks 40 and 41 with pointers to records at 100 and 101, each moved once.
+fn directory() -> Test {
+    let points_to = |record| block(0, record);
+    Test {
+        initial: vec![
+            write(100, RECORD, 0, block(7, 1)),
+            write(40, DIRECTORY, 0, points_to(100)),
+        ],
+        main: vec![
+            write(101, RECORD, 1, block(7, 2)),
+            write(41, DIRECTORY, 1, points_to(101)),
+            write(102, RECORD, 2, block(7, 3)),
+            write(40, DIRECTORY, 2, points_to(102)),
+        ],
+        checks: vec![Check::Pointer { at: 40 }, Check::Pointer { at: 41 }],
+    }
+}
+
+/// A log whose superblock promises a block that was never written: bad before anything is stored.
+fn worn() -> Test {
+    Test {
+        initial: vec![write(0, log::SUPERBLOCK, 0, block(1, 2))],
+        main: vec![write(1, log::LOG, 0, block(0, 42))],
+        checks: vec![Check::Range { at: 0 }],
+    }
+}
+
+fn file(rules: &[Rule], tests: &[Test]) -> Vec<u8> {
+    let file = File {
+        rules: rules.to_vec(),
+        tests: tests.to_vec(),
+    };
+    file.to_bytes()
+}
+
+pub fn samples() -> Vec<Sample> {
+    let sample = |name, bytes| Sample { name, bytes };
+    let both = log_rules();
+    let setting_rule = rule(MARK, Equal, SETTING);
+    let directory_rule = rule(DIRECTORY, Equal, RECORD);
+    let all_rules = [both[0], both[1], setting_rule, directory_rule];
+    let all_tests = [
+        test_k(),
+        rig(),
+        setting(),
+        directory(),
+        worn(),
+        Test::default(),
+    ];
+    let k1 = file(&both, &[test_k()]);
+    let mut swapped = test_k().fields();
+    swapped.swap(0, 2);
+    vec![
+        sample("k1.bin", k1.clone()),
+        sample("k2.bin", file(&[], &[test_k()])),
+        sample("k3.bin", file(&both[..1], &[test_k()])),
+        sample("rig.bin", file(&both, &[rig()])),
+        sample("rig-no-rules.bin", file(&[], &[rig()])),
+        sample("pair.bin", file(&[setting_rule], &[setting()])),
+        sample("pair-no-rules.bin", file(&[], &[setting()])),
+        sample("pointer.bin", file(&[directory_rule], &[directory()])),
+        sample("pointer-no-rules.bin", file(&[], &[directory()])),
+        sample("several.bin", file(&all_rules, &all_tests)),
+        sample(
+            "cyclic.bin",
+            file(&[rule(1, Greater, 2), rule(2, Less, 1)], &[test_k()]),
+        ),
+        sample("truncated.bin", k1[..60].to_vec()),
+        sample("not-ended.bin", k1[..k1.len() - 3].to_vec()),
+        sample("out-of-order.bin", crate::file::bytes_of(&swapped)),
+    ]
+}
