@@ -3,3 +3,4 @@ pub mod MarkLaws
 pub mod ChoiceLaws
 pub mod FoundLaws
 pub mod Steps
+pub mod TheoremLaws

@@ -1,2 +1,3 @@
 pub mod Finder
 pub mod Table
+pub mod Theorem

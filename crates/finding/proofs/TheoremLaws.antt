@@ -1,0 +1,120 @@
+-- The finder's answers and its 13 are right for all files: by the cases of `findOf`, and by what is chosen among the candidates.
+use mathlib.Core.Path.{_≡_, refl, sym, ap}
+use mathlib.Core.Bool.{Bool, true, false, cond, false≢true}
+use mathlib.Core.List.{List}
+use mathlib.Core.Option.{Option, none, some}
+use Prim.Native.Nat.{ℕ}
+use native.Mathlib.Omega.{arith}
+use lib.Dec.{ltb}
+use lib.ListN.{length}
+use Rattle.model.specs.declared.Rule.{Rule}
+use Rattle.model.specs.Answer.{Outcome, answer, refused}
+use Rattle.model.specs.Test.{Test, File}
+use Rattle.model.specs.Find.{Suffices, NoneSuffices, Fewest, candidatesOf, picked, chosen}
+use Rattle.reader.specs.Encode.{ruleFields}
+use Rattle.reader.specs.File.{readOf}
+use Rattle.reader.proofs.CallerLaws.{refused-limits}
+use Rattle.findlaws.proofs.ChosenLaws.{given, refused as unmet}
+use Rattle.finding.specs.Finder.{Found, found, over, wrote, findAmong, findIn, findOf}
+use Rattle.finding.specs.Theorem.{Answered, Wanting, Left}
+
+-- ---- outcomes told apart
+
+unfoldable isAnswer : Outcome ℕ → Bool
+isAnswer (answer n) = true
+isAnswer (refused number place) = false
+
+unfoldable valueOf : Outcome ℕ → ℕ
+valueOf (answer n) = n
+valueOf (refused number place) = number
+
+apart : {A : Type 0} (number place n : ℕ) → refused number place ≡ answer n → A
+unfolding isAnswer
+apart number place n e = absurd (false≢true (ap isAnswer e))
+
+-- ---- what is found among the candidates
+
+module _ (tests : List Test) (buffer : List ℕ) where
+  -- right for these tests: an answer, 13, and the buffer of a refusal
+  pub record Right (r : Found) : Type 0 where
+    pub given : (n : ℕ) → r .outcome ≡ answer n
+        → (rules : List Rule) × Suffices tests rules × Fewest tests rules × (n ≡ length rules) × (r .buffer ≡ over (ruleFields rules) buffer)
+    pub wanting : (place : ℕ) → r .outcome ≡ refused 13 place → NoneSuffices tests
+    pub left : (number place : ℕ) → r .outcome ≡ refused number place → r .buffer ≡ buffer
+
+  right-refused : (number : ℕ) → (number ≡ 13 → NoneSuffices tests) → Right (found (refused number 0) buffer)
+  right-refused number f =
+      record {
+        given = λ n e. apart number 0 n e;
+        wanting = λ place e. f (unfold valueOf in ap valueOf e);
+        left = λ m place e. refl;
+      }
+
+  right-wrote : (o : Option ℕ) → chosen tests (candidatesOf tests) ≡ o → Right (wrote (candidatesOf tests) o buffer)
+  unfolding wrote
+  right-wrote none e = right-refused 13 (λ q. unmet tests .0 e)
+  right-wrote (some m) e =
+      let (enough, chosen, fewest) = given tests m e in
+      record {
+        given = λ n q. (picked (candidatesOf tests) m, enough, fewest, unfold valueOf in sym (ap valueOf q), refl);
+        wanting = λ place q. apart 13 place (length (picked (candidatesOf tests) m)) (sym q);
+        left = λ number place q. apart number place (length (picked (candidatesOf tests) m)) (sym q);
+      }
+
+  right-cond : (b : Bool) (x y : Found) → Right x → Right y → Right (cond b x y)
+  right-cond true x y p q = p
+  right-cond false x y p q = q
+
+  other : (number : ℕ) → (number ≡ 13 → ⊥) → Right (found (refused number 0) buffer)
+  other number d = right-refused number (λ e. absurd (d e))
+
+  right-among : Right (findAmong tests buffer)
+  unfolding findAmong
+  right-among =
+      right-cond (ltb 16 (length (candidatesOf tests))) _ _ (other 11 (λ (e : 11 ≡ 13). absurd (omega arith)))
+      (right-wrote (chosen tests (candidatesOf tests)) refl)
+
+right-file : (f : File) (buffer : List ℕ) → Right (f .tests) buffer (findIn (answer f) buffer)
+unfolding findIn
+right-file f buffer =
+    right-cond (f .tests) buffer (ltb 0 (length (f .rules))) _ _ (other (f .tests) buffer 10 (λ (e : 10 ≡ 13). absurd (omega arith)))
+    (right-cond (f .tests) buffer (ltb (length buffer) 96) _ _ (other (f .tests) buffer 12 (λ (e : 12 ≡ 13). absurd (omega arith)))
+    (right-among (f .tests) buffer))
+
+-- ---- all files
+
+pub answered : Answered
+unfolding findOf
+answered s buffer n = go (readOf s) refl
+  where
+    go : (o : Outcome File) → readOf s ≡ o → findIn o buffer .outcome ≡ answer n
+        → (f : File)
+        × (rules : List Rule)
+        × (o ≡ answer f)
+        × Suffices (f .tests) rules
+        × Fewest (f .tests) rules
+        × (n ≡ length rules)
+        × (findIn o buffer .buffer ≡ over (ruleFields rules) buffer)
+    go (refused number place) e q = unfold findIn in apart number place n q
+    go (answer f) e q =
+        let (rules, enough, fewest, m, b) = right-file f buffer .given n q in
+        (f, rules, refl, enough, fewest, m, b)
+
+pub wanting : Wanting
+unfolding findOf
+wanting s buffer place = go (readOf s) refl
+  where
+    go : (o : Outcome File) → readOf s ≡ o → findIn o buffer .outcome ≡ refused 13 place → (f : File) × (o ≡ answer f) × NoneSuffices (f .tests)
+    go (refused number at) e q =
+        let h = refused-limits s number at e .1 in
+        let z : number ≡ 13 = unfold findIn valueOf in ap valueOf q in
+        absurd (omega arith)
+    go (answer f) e q = (f, refl, right-file f buffer .wanting place q)
+
+pub left : Left
+unfolding findOf
+left s buffer number place = go (readOf s)
+  where
+    go : (o : Outcome File) → findIn o buffer .outcome ≡ refused number place → findIn o buffer .buffer ≡ buffer
+    go (refused n at) q = unfold findIn in refl
+    go (answer f) q = right-file f buffer .left number place q
