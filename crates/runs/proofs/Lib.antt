@@ -3,3 +3,4 @@ pub mod BookLaws
 pub mod DiskLaws
 pub mod StepLaws
 pub mod RunLaws
+pub mod Examples
