@@ -6,14 +6,10 @@ test:
 	@tools/test.sh
 
 run:
-	@if [ ! -d crates/judge ]; then \
-		echo "The judging program comes with a later landing."; \
-		exit 0; \
-	fi; \
-	mkdir -p target; \
-	echo "proving the judging program; what rt says goes to target/run.log"; \
-	rt check judge >target/run.log 2>&1 || { cat target/run.log; exit 1; }; \
-	for file in samples/*.bin; do \
+	@mkdir -p target
+	@echo "proving the judging program; what rt says goes to target/run.log"
+	@rt check judge >target/run.log 2>&1 || { cat target/run.log; exit 1; }
+	@for file in samples/*.bin; do \
 		echo "$${file##*/}:"; \
 		target/bin/judge <"$$file" || exit 1; \
 	done

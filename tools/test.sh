@@ -130,14 +130,11 @@ check_host() {
 }
 
 c_tests() {
-    part 'C headers' check_headers
-    add $((status == 0)) $((status != 0))
-    if [ "$(defined receiver | grep -Ec '_(open|hand_in|step|drain|get)$')" -lt 5 ]; then
-        echo 'not there yet: the C host'
-        return
-    fi
-    part 'C host' check_host
-    add $((status == 0)) $((status != 0))
+    local check
+    for check in check_headers check_host; do
+        part "C: $check" "$check"
+        add $((status == 0)) $((status != 0))
+    done
 }
 
 case "${1:-}" in
@@ -154,7 +151,7 @@ case "${1:-}" in
     c_tests
     ;;
 soak)
-    export PELZHONDY_CASES="${PELZHONDY_CASES:-100}" PELZHONDY_SEED="${PELZHONDY_SEED:-$(date +%s)}"
+    export PELZHONDY_CASES="${PELZHONDY_CASES:-20}" PELZHONDY_SEED="${PELZHONDY_SEED:-$(date +%s)}"
     static_libraries
     differential_tests
     ;;

@@ -1,24 +1,15 @@
 // The judging program as a child process, with its input from a pipe or a file, and a time limit.
 
-use std::env;
 use std::io::{Read, Write};
-use std::path::{Path, PathBuf};
 use std::process::{Child, ChildStdin, Command, ExitStatus, Stdio};
 use std::sync::mpsc::{channel, Receiver};
 use std::thread::{self, JoinHandle};
 use std::time::{Duration, Instant};
 
+use crate::paths::program;
+
 /// Far longer than any run takes.
 const LIMIT: Duration = Duration::from_secs(20);
-
-/// Built by the gate before: below PELZHONDY_TARGET, or the repository's target/.
-pub fn program() -> PathBuf {
-    let target = env::var_os("PELZHONDY_TARGET").map_or_else(
-        || Path::new(env!("CARGO_MANIFEST_DIR")).join("../../target"),
-        PathBuf::from,
-    );
-    target.join("bin/judge")
-}
 
 /// What the program is given.
 pub enum Input {

@@ -17,6 +17,23 @@ pub struct Suite {
     pub run: fn(&mut Run) -> Outcome,
 }
 
+/// Suites that need the same routines or programs.
+pub struct Part {
+    pub name: &'static str,
+    pub is_there: bool,
+    pub suites: Vec<Suite>,
+}
+
+impl Part {
+    pub fn new(name: &'static str, is_there: bool, suites: Vec<Suite>) -> Part {
+        Part {
+            name,
+            is_there,
+            suites,
+        }
+    }
+}
+
 /// A case that came out wrong.
 pub struct Failure {
     pub call: String,

@@ -204,11 +204,11 @@ fn spread_files(run: &mut Run, cases: u64, make: fn(&mut Random) -> File) -> Out
 }
 
 fn telling_files(run: &mut Run) -> Outcome {
-    spread_files(run, 6_000, crashes::file)
+    spread_files(run, 12_000, crashes::file)
 }
 
 fn logs(run: &mut Run) -> Outcome {
-    spread_files(run, 500, crashes::log_file)
+    spread_files(run, 1_000, crashes::log_file)
 }
 
 fn chains(run: &mut Run) -> Outcome {
@@ -391,7 +391,7 @@ fn two_writes(one: (u8, u32), two: (u8, u32)) -> Test {
 
 fn most_main_writes(run: &mut Run) -> Outcome {
     let mut kinds = Kinds::default();
-    for _ in 0..run.times(300) {
+    for _ in 0..run.times(800) {
         let mut random = run.next_case();
         let palette = Palette::small(&mut random);
         let file = File {
@@ -432,7 +432,7 @@ fn most_rules(run: &mut Run) -> Outcome {
 
 /// Everything at its limit: rules, tests, writes and checks.
 fn full_files(run: &mut Run) -> Outcome {
-    for _ in 0..run.times(6) {
+    for _ in 0..run.times(10) {
         let mut random = run.next_case();
         let palette = Palette::small(&mut random);
         let rules = crashes::acyclic_rules(&mut random, &palette, 8);

@@ -6,6 +6,7 @@ use crate::harness::{fail, hexadecimal, Outcome};
 
 const MARGIN: usize = 32;
 
+#[derive(Clone)]
 pub struct Lent {
     bytes: Vec<u8>,
     /// All bytes as they were when last looked at.

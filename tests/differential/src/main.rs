@@ -5,46 +5,43 @@ mod answer;
 mod calls;
 mod child;
 mod cyclic;
+mod finding;
 mod harness;
 mod judging;
 mod lent;
 mod lines;
 mod locate;
+mod paths;
 mod program;
 mod reading;
+mod receiver;
+mod tracing;
 
 use std::env;
 use std::process::exit;
 
-use harness::Suite;
+use harness::{Part, Suite};
 
 const BASE_SEED: u64 = 141;
 
-/// Suites that need the same routines or programs.
-struct Part {
-    name: &'static str,
-    is_there: bool,
-    suites: Vec<Suite>,
-}
-
 /// All suites. A new module of suites joins here.
 fn parts() -> Vec<Part> {
-    use library::{CYCLIC, JUDGE, JUDGE_LINES, LOCATE, READ, VERDICT};
-    let part = |name, is_there, suites| Part {
-        name,
-        is_there,
-        suites,
-    };
+    use library::{CYCLIC, FIND, JUDGE, JUDGE_LINES, LOCATE, READ, TRACE, VERDICT};
     let judge = JUDGE.is_some() && VERDICT.is_some();
-    let program = child::program().is_file();
-    vec![
-        part("reading", READ.is_some(), reading::suites()),
+    let program = paths::program().is_file();
+    let part = Part::new;
+    let mut parts = vec![
+        part("read", READ.is_some(), reading::suites()),
         part("locate", LOCATE.is_some(), locate::suites()),
         part("cyclic", CYCLIC.is_some(), cyclic::suites()),
         part("judge, verdict", judge, judging::suites()),
         part("judge_lines", JUDGE_LINES.is_some(), lines::suites()),
         part("the judging program", program, program::suites()),
-    ]
+        part("find", FIND.is_some(), finding::suites()),
+        part("trace", TRACE.is_some(), tracing::suites()),
+    ];
+    parts.extend(receiver::parts());
+    parts
 }
 
 /// A number from the environment, or what it is if it isn't set.

@@ -3,7 +3,6 @@
 
 use std::fs;
 use std::os::unix::process::ExitStatusExt;
-use std::path::Path;
 use std::process::ExitStatus;
 use std::time::Duration;
 
@@ -18,6 +17,7 @@ use reference::writes::Rule;
 
 use crate::child::{self, Ended, Input};
 use crate::harness::{fail, hexadecimal, require, Outcome, Run, Suite};
+use crate::paths;
 
 pub fn suites() -> Vec<Suite> {
     let suite = |name, run| Suite { name, run };
@@ -126,10 +126,9 @@ fn one_byte(run: &mut Run) -> Outcome {
 
 /// The files of samples/ as they are.
 fn sample_files(run: &mut Run) -> Outcome {
-    let folder = Path::new(env!("CARGO_MANIFEST_DIR")).join("../../samples");
     for sample in samples::samples() {
         run.next_case();
-        match fs::read(folder.join(sample.name)) {
+        match fs::read(paths::samples().join(sample.name)) {
             Ok(bytes) => same_output(&bytes)?,
             Err(error) => require(false, sample.name, error.to_string())?,
         }

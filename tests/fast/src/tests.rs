@@ -71,6 +71,10 @@ fn finding() {
         for test in &mut file.tests {
             test.main.truncate(5);
         }
+        if random.one_in(2) {
+            let palette = Palette::small(&mut random);
+            file.tests = vec![crashes::guarded_test(&mut random, &palette, 5, 8)];
+        }
         if !random.one_in(20) {
             file.rules.clear();
         }

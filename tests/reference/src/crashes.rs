@@ -8,6 +8,7 @@ use crate::generate::{self, Palette};
 use crate::log;
 use crate::random::Random;
 use crate::samples::log_rules;
+use crate::schedule::dependencies;
 use crate::writes::{Block, Predicate, Rule, Write, PREDICATES};
 
 /// Up to `most` rules that are not cyclic.
@@ -183,4 +184,50 @@ pub fn chain(random: &mut Random) -> (File, u64) {
         }],
     };
     (file, (1 << bad) - 1)
+}
+
+/// A test that asks for what some acyclic rules guarantee, by a pair check for each two writes that
+/// one of them matches: rules that are enough can be found, and often all of these are needed.
+pub fn guarded_test(random: &mut Random, palette: &Palette, main: usize, most: usize) -> Test {
+    let mut addresses: Vec<u8> = (0..=255).collect();
+    random.shuffle(&mut addresses);
+    let main: Vec<Write> = (0..main)
+        .map(|i| Write {
+            address: addresses[i],
+            block: Block {
+                first: 1,
+                second: i as u16,
+            },
+            ..generate::write(random, palette)
+        })
+        .collect();
+    let mut rules = Vec::new();
+    for _ in 0..random.between(1, most) {
+        let (one, two) = (random.pick(&main), random.pick(&main));
+        let relates = |p: &&Predicate| p.relates(one.epoch, two.epoch);
+        rules.extend(PREDICATES.iter().find(relates).map(|&predicate| Rule {
+            name: one.name,
+            predicate,
+            second: two.name,
+        }));
+        if cyclic(&rules) {
+            rules.pop();
+        }
+    }
+    let mut checks = Vec::new();
+    for (i, on) in dependencies(&rules, &main).iter().enumerate() {
+        checks.extend(on.iter().map(|&j| Check::Pair {
+            a: main[i].address,
+            v: main[i].block,
+            b: main[j].address,
+            w: main[j].block,
+        }));
+    }
+    random.shuffle(&mut checks);
+    checks.truncate(MOST_CHECKS);
+    Test {
+        initial: vec![],
+        main,
+        checks,
+    }
 }

@@ -20,6 +20,7 @@ pub mod refusal;
 pub mod ring;
 pub mod samples;
 pub mod schedule;
+pub mod states;
 pub mod writes;
 
 #[cfg(test)]

@@ -37,6 +37,19 @@ pub type Disk = [Block; BLOCKS];
 
 pub const EMPTY_DISK: Disk = [EMPTY; BLOCKS];
 
+/// The disk of 1,024 bytes, block a at 4a.
+pub fn disk_from_bytes(bytes: &[u8]) -> Disk {
+    let mut disk = EMPTY_DISK;
+    for (a, block) in disk.iter_mut().enumerate() {
+        *block = Block::from_bytes(&bytes[4 * a..4 * a + 4]);
+    }
+    disk
+}
+
+pub fn disk_to_bytes(disk: &Disk) -> Vec<u8> {
+    disk.iter().flat_map(|block| block.to_bytes()).collect()
+}
+
 #[derive(Clone, Copy, Debug, PartialEq, Eq)]
 pub struct Label {
     pub name: u8,

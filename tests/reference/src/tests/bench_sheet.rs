@@ -9,7 +9,7 @@ use crate::judge::{is_bad, judge, verdict, Judgement, Verdict};
 use crate::log::{get, trace};
 use crate::program::output;
 use crate::refusal::plain;
-use crate::writes::{Block, Predicate, Rule, Write, EMPTY_DISK};
+use crate::writes::{disk_to_bytes, Block, Predicate, Rule, Write, EMPTY_DISK};
 
 use Predicate::{Equal, Greater, Less};
 
@@ -215,7 +215,7 @@ fn puts_and_the_buffer() {
 fn get_on_the_disk_of_k() {
     let test = crate::file::read(&k()).unwrap().tests.remove(0);
     let disk = crate::schedule::disk_of(&test.initial_disk(), &test.main, 15);
-    let bytes: Vec<u8> = disk.iter().flat_map(|b| b.to_bytes()).collect();
+    let bytes = disk_to_bytes(&disk);
     assert_eq!(get(&bytes, 0), Ok(Some(42)));
     assert_eq!(get(&bytes, 1), Ok(Some(81)));
     assert_eq!(get(&bytes, 2), Ok(Some(37)));

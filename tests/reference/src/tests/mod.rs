@@ -8,3 +8,4 @@ mod reading;
 mod runs;
 mod samples;
 mod soundness;
+mod states;

@@ -9,19 +9,7 @@ use crate::generate::{self, Palette};
 use crate::judge::judge_test;
 use crate::random::Random;
 use crate::schedule::{dependencies, disk_of, valid};
-use crate::writes::{Block, Disk, Rule, BLOCKS};
-
-fn disk_from(bytes: &[u8]) -> Disk {
-    let mut disk = [crate::writes::EMPTY; BLOCKS];
-    for (a, block) in disk.iter_mut().enumerate() {
-        *block = Block::from_bytes(&bytes[4 * a..4 * a + 4]);
-    }
-    disk
-}
-
-fn bytes_from(disk: &Disk) -> Vec<u8> {
-    disk.iter().flat_map(|block| block.to_bytes()).collect()
-}
+use crate::writes::{disk_from_bytes, disk_to_bytes, Disk, Rule};
 
 struct Run {
     state: Vec<u8>,
@@ -41,7 +29,7 @@ impl Run {
         assert_eq!(open(&file.to_bytes(), &mut state), Ok(()));
         Run {
             state,
-            disk: bytes_from(at_opening),
+            disk: disk_to_bytes(at_opening),
             book: Book::new(rules),
             rules: rules.to_vec(),
             at_opening: *at_opening,
@@ -78,7 +66,7 @@ impl Run {
             schedule
         ));
         let expected = disk_of(&self.at_opening, &self.book.writes, schedule);
-        assert_eq!(disk_from(&self.disk), expected);
+        assert_eq!(disk_from_bytes(&self.disk), expected);
         refused
     }
 }
@@ -90,7 +78,7 @@ fn random_runs() {
         let mut random = Random::new(seed);
         let palette = Palette::small(&mut random);
         let rules = acyclic_rules(&mut random, &palette, 4);
-        let mut run = Run::new(&rules, &disk_from(&random.bytes(DISK)));
+        let mut run = Run::new(&rules, &disk_from_bytes(&random.bytes(DISK)));
         for _ in 0..random.below(60) {
             let call = match random.below(8) {
                 0 => Call::Open,
@@ -152,7 +140,7 @@ fn tests_that_hold_stay_consistent() {
                 (0..next).any(|i| run.book.flags[i] && on[i].iter().any(|&j| j >= next));
             if !reaches_beyond {
                 assert!(
-                    consistent(&test.checks, &disk_from(&run.disk)),
+                    consistent(&test.checks, &disk_from_bytes(&run.disk)),
                     "seed {seed}"
                 );
                 held += 1;

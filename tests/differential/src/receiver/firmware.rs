@@ -1,0 +1,202 @@
+// What firmware asks of the library: that it needs next to nothing from outside, and little stack.
+
+use std::process::Command;
+
+use reference::cache::{self, DISK, STATE};
+use reference::damage::{self, Limit};
+use reference::random::Random;
+use reference::states::{self, Source};
+use reference::writes::Write;
+
+use super::stack::Stack;
+use crate::answer;
+use crate::harness::{require, same_answer_on, Outcome, Run, Suite};
+use crate::lent::Lent;
+use crate::paths;
+
+/// Bytes of stack that a call may use.
+const MOST_STACK: usize = 4096;
+
+/// What the library may need from outside.
+const NEEDED: [&str; 3] = ["memcpy", "memmove", "memset"];
+
+pub fn suites() -> Vec<Suite> {
+    let suite = |name, run| Suite { name, run };
+    vec![
+        suite("firmware: what libreceiver.a needs", needed_symbols),
+        suite("firmware: stack of open", stack_of_open),
+        suite("firmware: stack of hand-in", stack_of_hand_in),
+        suite("firmware: stack of step", stack_of_step),
+        suite("firmware: stack of drain", stack_of_drain),
+        suite("firmware: stack of get", stack_of_get),
+    ]
+}
+
+fn needed_symbols(run: &mut Run) -> Outcome {
+    run.next_case();
+    let archive = paths::target().join("staticlib/libreceiver.a");
+    let listing = Command::new("nm").args(["-u", "-P"]).arg(archive).output();
+    let listing = listing.map_or_else(|error| error.to_string().into(), |output| output.stdout);
+    let listing = String::from_utf8_lossy(&listing).into_owned();
+    // A line of a member's name ends with a colon and has no blank.
+    let symbols: Vec<&str> = listing
+        .lines()
+        .filter_map(|line| line.split_once(' ').map(|(symbol, _)| symbol))
+        .collect();
+    run.note(symbols.join(" "));
+    require(
+        !listing.is_empty() && symbols.iter().all(|symbol| NEEDED.contains(symbol)),
+        &format!("{NEEDED:?} at most"),
+        listing,
+    )
+}
+
+/// The most stack that calls of a routine have used.
+struct Deepest {
+    stack: Stack,
+    bytes: usize,
+}
+
+impl Deepest {
+    fn new() -> Deepest {
+        Deepest {
+            stack: Stack::new(),
+            bytes: 0,
+        }
+    }
+
+    /// Makes a call on the painted stack; its answer must be the reference's.
+    fn call(
+        &mut self,
+        name: &str,
+        routine: Option<*const ()>,
+        arguments: [u64; 7],
+        expected: u64,
+    ) -> Outcome {
+        let routine = routine.expect("a routine that is linked");
+        let (got, used) = unsafe { self.stack.call(routine, arguments) };
+        self.bytes = self.bytes.max(used);
+        same_answer_on(name, &[], expected, got)
+    }
+
+    fn within_limit(&self, run: &mut Run) -> Outcome {
+        let note = format!("{} bytes at most", self.bytes);
+        run.note(note.clone());
+        require(
+            self.bytes <= MOST_STACK,
+            &format!("{MOST_STACK} bytes at most"),
+            note,
+        )
+    }
+}
+
+fn slice(lent: &mut Lent) -> (u64, u64) {
+    (lent.buffer() as u64, lent.len() as u64)
+}
+
+fn stack_of_open(run: &mut Run) -> Outcome {
+    let mut deepest = Deepest::new();
+    for i in 0..run.times(300) {
+        let mut random = run.next_case();
+        let file = match i % 4 {
+            0 => damage::at_limit(&mut random, Limit::Rules),
+            1 => damage::any(&mut random).bytes,
+            _ => Source::new(&mut random).file(),
+        };
+        let expected = cache::open(&file, &mut vec![0; STATE]).map(|()| 0);
+        let mut state = Lent::new(&mut random, &[0; STATE]);
+        let mut file = Lent::new(&mut random, &file);
+        let ((state, length), (file, file_length)) = (slice(&mut state), slice(&mut file));
+        let arguments = [state, length, file, file_length, 0, 0, 0];
+        let routine = library::OPEN.map(|routine| routine as *const ());
+        deepest.call("open", routine, arguments, answer::of(expected))?;
+    }
+    deepest.within_limit(run)
+}
+
+/// Sound states of every kind, and unsound ones.
+fn any_state(random: &mut Random) -> Vec<u8> {
+    match random.below(5) {
+        0 => {
+            let clause = random.pick(&states::CLAUSES);
+            states::broken(random, clause)
+        }
+        _ => states::sound(random),
+    }
+}
+
+fn stack_of_hand_in(run: &mut Run) -> Outcome {
+    let mut deepest = Deepest::new();
+    for _ in 0..run.times(400) {
+        let mut random = run.next_case();
+        let state = any_state(&mut random);
+        let write: Write = Source::new(&mut random).write(&mut random);
+        let mut after = state.clone();
+        let expected = cache::hand_in(&mut after, &write).map(|()| after[1] as u64);
+        let mut state = Lent::new(&mut random, &state);
+        let (state, length) = slice(&mut state);
+        let arguments = [
+            state,
+            length,
+            write.address as u64,
+            write.name as u64,
+            write.epoch as u64,
+            write.block.first as u64,
+            write.block.second as u64,
+        ];
+        let routine = library::HAND_IN.map(|routine| routine as *const ());
+        deepest.call("hand-in", routine, arguments, answer::of(expected))?;
+    }
+    deepest.within_limit(run)
+}
+
+fn stack_of_storing(
+    run: &mut Run,
+    name: &str,
+    routine: Option<*const ()>,
+    expected: fn(&mut [u8], &mut [u8]) -> Result<usize, reference::refusal::Refusal>,
+) -> Outcome {
+    let mut deepest = Deepest::new();
+    for _ in 0..run.times(300) {
+        let mut random = run.next_case();
+        let state = any_state(&mut random);
+        let expected = expected(&mut state.clone(), &mut [0; DISK]);
+        let mut state = Lent::new(&mut random, &state);
+        let mut disk = Lent::new(&mut random, &[0; DISK]);
+        let ((state, length), (disk, disk_length)) = (slice(&mut state), slice(&mut disk));
+        let arguments = [state, length, disk, disk_length, 0, 0, 0];
+        let expected = answer::of(expected.map(|stored| stored as u64));
+        deepest.call(name, routine, arguments, expected)?;
+    }
+    deepest.within_limit(run)
+}
+
+fn stack_of_step(run: &mut Run) -> Outcome {
+    let routine = library::STEP.map(|routine| routine as *const ());
+    stack_of_storing(run, "step", routine, cache::step)
+}
+
+fn stack_of_drain(run: &mut Run) -> Outcome {
+    let routine = library::DRAIN.map(|routine| routine as *const ());
+    stack_of_storing(run, "drain", routine, cache::drain)
+}
+
+fn stack_of_get(run: &mut Run) -> Outcome {
+    let mut deepest = Deepest::new();
+    for i in 0..run.times(300) {
+        let mut random = run.next_case();
+        let mut disk = random.bytes(DISK);
+        if i % 2 == 0 {
+            disk[..4].copy_from_slice(&[0, 1, 1, 0]);
+        }
+        let key = random.below(3) as u16;
+        let expected = reference::log::get(&disk, key);
+        let expected = expected.map(|value| value.map_or(65_536, u64::from));
+        let mut disk = Lent::new(&mut random, &disk);
+        let (disk, length) = slice(&mut disk);
+        let routine = library::GET.map(|routine| routine as *const ());
+        let arguments = [disk, length, key as u64, 0, 0, 0, 0];
+        deepest.call("get", routine, arguments, answer::of(expected))?;
+    }
+    deepest.within_limit(run)
+}

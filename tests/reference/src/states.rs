@@ -1,0 +1,247 @@
+// States of the cache: sound ones, as runs of calls leave them, and ones that break one clause.
+
+use crate::cache::{self, Clause, DISK, STATE};
+use crate::cache::{MOST_WRITES, RULES_AT, RULE_SIZE, WRITES_AT, WRITES_END, WRITE_SIZE};
+use crate::crashes;
+use crate::file::{write_body, File, MOST_RULES};
+use crate::generate::{self, Palette};
+use crate::random::Random;
+use crate::refusal;
+use crate::writes::{Rule, Write};
+
+pub const CLAUSES: [Clause; 7] = [
+    Clause::Layout,
+    Clause::Limits,
+    Clause::KnownPredicates,
+    Clause::AcyclicRules,
+    Clause::StoredCount,
+    Clause::StoredNeedStored,
+    Clause::NoRingOfNeeds,
+];
+
+const COUNT: usize = 1;
+const STORED: usize = 2;
+const FLAG: usize = 10;
+
+/// What a run draws its rules and writes from.
+#[derive(Clone, Debug)]
+pub struct Source {
+    pub palette: Palette,
+    pub rules: Vec<Rule>,
+}
+
+impl Source {
+    /// Rules that are not cyclic, and writes that they often match; in most of the cases so many
+    /// addresses and epochs that a run can fill the state.
+    pub fn new(random: &mut Random) -> Source {
+        let mut palette = Palette::small(random);
+        if !random.one_in(4) {
+            let wide = Palette::wide(random);
+            palette.addresses.extend(wide.addresses);
+            let from = random.pick(&palette.epochs).min(u32::MAX - 40);
+            palette.epochs = (from..from + random.between(1, 40) as u32).collect();
+        }
+        let few = random.pick(&[0, 2, 6, 12]);
+        let mut rules = crashes::acyclic_rules(random, &palette, few);
+        if random.one_in(8) {
+            rules = crashes::padded(random, &palette, &rules);
+        }
+        Source { palette, rules }
+    }
+
+    pub fn write(&self, random: &mut Random) -> Write {
+        generate::write(random, &self.palette)
+    }
+
+    /// The file that a cache is opened with.
+    pub fn file(&self) -> Vec<u8> {
+        let file = File {
+            rules: self.rules.clone(),
+            tests: vec![],
+        };
+        file.to_bytes()
+    }
+
+    pub fn opened(&self) -> Vec<u8> {
+        let mut state = vec![0; STATE];
+        cache::open(&self.file(), &mut state).expect("rules that are not cyclic");
+        state
+    }
+
+    /// A state that a run leaves.
+    pub fn reached(&self, random: &mut Random) -> Vec<u8> {
+        let calls = match random.below(8) {
+            0 => random.below(4),
+            1 => 100,
+            _ => random.below(40),
+        };
+        let storing = random.pick(&[0, 1, 3, 8]);
+        self.after(random, calls, storing)
+    }
+
+    /// The state after so many calls, so many in ten of them steps.
+    fn after(&self, random: &mut Random, calls: usize, steps: usize) -> Vec<u8> {
+        let (mut state, mut disk) = (self.opened(), [0; DISK]);
+        for _ in 0..calls {
+            if random.below(10) < steps {
+                cache::step(&mut state, &mut disk).expect("a sound state");
+            } else {
+                let write = self.write(random);
+                let _ = cache::hand_in(&mut state, &write);
+            }
+        }
+        state
+    }
+}
+
+/// Any sound state.
+pub fn sound(random: &mut Random) -> Vec<u8> {
+    Source::new(random).reached(random)
+}
+
+/// Appends a write, whether or not it would be accepted.
+fn append(state: &mut [u8], write: &Write, stored: bool) {
+    let at = WRITES_AT + state[COUNT] as usize * WRITE_SIZE;
+    state[at..at + FLAG].copy_from_slice(&write_body(write));
+    state[at + FLAG] = stored as u8;
+    state[COUNT] += 1;
+    state[STORED] += stored as u8;
+}
+
+/// Puts a rule, given as its bytes, at any place among those that are there.
+fn insert_rule(random: &mut Random, state: &mut [u8], rule: [u8; 3]) {
+    let count = state[0] as usize;
+    let at = RULES_AT + random.between(0, count) * RULE_SIZE;
+    let end = RULES_AT + count * RULE_SIZE;
+    state.copy_within(at..end, at + RULE_SIZE);
+    state[at..at + RULE_SIZE].copy_from_slice(&rule);
+    state[0] += 1;
+}
+
+/// A name that no rule and no write of the state has.
+fn unused_name(random: &mut Random, state: &[u8], source: &Source) -> u8 {
+    let writes = cache::accepted(state);
+    let used = |name: u8| {
+        writes.iter().any(|write| write.name == name)
+            || source
+                .rules
+                .iter()
+                .any(|rule| rule.name == name || rule.second == name)
+    };
+    loop {
+        let name = random.byte();
+        if !used(name) {
+            return name;
+        }
+    }
+}
+
+fn nonzero(random: &mut Random) -> u8 {
+    match random.below(3) {
+        0 => 1,
+        1 => 1 << random.below(8),
+        _ => random.between(1, 255) as u8,
+    }
+}
+
+/// A state that breaks this clause and no other. None if this attempt did not make one.
+fn try_broken(random: &mut Random, clause: Clause) -> Option<Vec<u8>> {
+    let source = Source::new(random);
+    let mut state = source.reached(random);
+    let (rules, count) = (state[0] as usize, state[COUNT] as usize);
+    let rules_end = RULES_AT + rules * RULE_SIZE;
+    let used_end = WRITES_AT + count * WRITE_SIZE;
+    match clause {
+        Clause::Layout => {
+            let entry = WRITES_AT + random.below(count.max(1)) * WRITE_SIZE;
+            let place = match random.below(8) {
+                0 => 3,
+                1 if rules < MOST_RULES => random.between(rules_end, WRITES_AT - 1),
+                2 if rules < MOST_RULES => rules_end,
+                3 if count < MOST_WRITES => random.between(used_end, WRITES_END - 1),
+                4 => random.pick(&[WRITES_END, STATE - 1]),
+                5 => random.between(WRITES_END, STATE - 1),
+                6 if count > 0 => entry + FLAG + 1,
+                7 if count > 0 => {
+                    state[entry + FLAG] = random.between(2, 255) as u8;
+                    return Some(state);
+                }
+                _ => return None,
+            };
+            state[place] = nonzero(random);
+        }
+        Clause::Limits => {
+            let (at, most) = random.pick(&[(0, MOST_RULES), (COUNT, MOST_WRITES)]);
+            state = if at == COUNT {
+                let palette = Palette::wide(random);
+                let rules = vec![];
+                Source { palette, rules }.after(random, MOST_WRITES, 0)
+            } else {
+                let palette = Palette::small(random);
+                let rules = crashes::padded(random, &palette, &[]);
+                Source { palette, rules }.reached(random)
+            };
+            let over = random.between(most + 1, 255);
+            state[at] = random.pick(&[most + 1, over]) as u8;
+        }
+        Clause::KnownPredicates | Clause::AcyclicRules => {
+            if rules == MOST_RULES {
+                return None;
+            }
+            let name = unused_name(random, &state, &source);
+            let predicate = match clause {
+                Clause::AcyclicRules => 0,
+                _ => random.between(3, 255) as u8,
+            };
+            insert_rule(random, &mut state, [name, predicate, name]);
+        }
+        Clause::StoredCount => {
+            let stored = state[STORED];
+            state[STORED] = match random.below(3) {
+                0 => stored.wrapping_add(1),
+                1 => stored.wrapping_sub(1),
+                _ => stored ^ nonzero(random),
+            };
+        }
+        Clause::StoredNeedStored => {
+            if count == MOST_WRITES {
+                return None;
+            }
+            // A write stored too early, or one that a stored write depends on.
+            let write = source.write(random);
+            let late = random.one_in(2);
+            let before = state.clone();
+            match cache::hand_in(&mut state, &write) {
+                Ok(()) if !late => {
+                    state = before;
+                    append(&mut state, &write, true);
+                }
+                Err(refused) if late && refused.number == refusal::LATE => {
+                    append(&mut state, &write, false);
+                }
+                _ => return None,
+            }
+        }
+        Clause::NoRingOfNeeds => {
+            let write = source.write(random);
+            match cache::hand_in(&mut state, &write) {
+                Err(refused) if refused.number == refusal::RING_OF_NEEDS => {
+                    append(&mut state, &write, false);
+                }
+                _ => return None,
+            }
+        }
+    }
+    Some(state)
+}
+
+/// A state that breaks this clause and no other.
+pub fn broken(random: &mut Random, clause: Clause) -> Vec<u8> {
+    loop {
+        if let Some(state) = try_broken(random, clause) {
+            if cache::broken_clause(&state) == Some(clause) {
+                return state;
+            }
+        }
+    }
+}
