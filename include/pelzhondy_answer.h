@@ -41,7 +41,7 @@ enum {
     PELZHONDY_BUFFER_TOO_SHORT = 12,
     PELZHONDY_NO_SET_DOES = 13,    /* no acyclic set of rules makes all tests hold */
     PELZHONDY_NOT_1024_BYTES = 14, /* a state or a disk has another length */
-    PELZHONDY_NOT_SOUND = 15,      /* the bytes are not those of a cache's state */
+    PELZHONDY_NOT_SOUND = 15,      /* the state is not sound: pelzhondy_receiver.h says when it is */
     PELZHONDY_STATE_FULL = 16,     /* 64 writes are accepted */
     PELZHONDY_LATE = 17,           /* a stored write depends on the one handed in */
     PELZHONDY_RING_OF_NEEDS = 18,  /* with the one handed in, writes would wait for each other */

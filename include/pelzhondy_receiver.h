@@ -1,10 +1,14 @@
 /*
  * The receiver's interface: a write-back cache that stores blocks in an order which keeps the rules,
  * and the reading log's get. Link target/staticlib/libreceiver.a. It needs nothing but memcpy,
- * memmove and memset, and at most 4 KiB of stack per call.
+ * memmove and memset. A call used at most 4 KiB of stack in every case that the gate measures
+ * (tests/differential/src/receiver/firmware.rs); the bound is measured and not proved.
  *
  * A cache lives in 1,024 bytes that the caller lends, its state. Its bytes are laid out by document
- * 01, and nobody else writes to them; a state that was damaged is refused (15) and left as it is.
+ * 01, and nobody else writes to them. A state that is not sound is refused (15) and left as it is;
+ * damage that leaves the state sound cannot be seen. A state is sound if it has that layout within
+ * the limits, known predicates, acyclic rules, a stored count that equals its flags, stored writes
+ * that need only stored ones, and no ring of needs.
  * A disk is 1,024 bytes: block a, of two numbers of 16 bits, is the four bytes from 4 * a on,
  * big-endian. Step, and drain by its steps, are the only calls that store to it, one block a step.
  * That such a block is stored whole or not at all is up to the caller.

@@ -4,8 +4,14 @@
  * and buffers, and document 01 for the format of a file: at most 32 rules and 16 tests, in a test at
  * most 64 initial writes, 12 main writes and 16 checks. `file` is only read.
  *
- * "By reading" stands for the refusals 1 to 7, at the offset of the field at fault. A file may have
- * any length: one of over 19,376 bytes is refused, by what stands in it.
+ * "By reading" stands for the refusals 1 to 6, at the offset of the field at fault, and 7, at the
+ * file's length. A file may have any length: one of over 19,376 bytes is refused, by what stands in
+ * it.
+ *
+ * Nothing here uses the heap. Judge and verdict keep a few disks of 1,024 bytes and tables of 512
+ * bytes on the stack, find a table of 65,536 bytes and one of 32,768 bytes besides. What the compiled
+ * code needs beyond these is neither proved nor measured: these routines are for a host, not for
+ * firmware.
  */
 #ifndef PELZHONDY_WORKBENCH_H
 #define PELZHONDY_WORKBENCH_H
@@ -77,11 +83,14 @@ uint64_t pelzhondy_judge_lines(const uint8_t *file, size_t file_length,
                                uint8_t *buffer, size_t buffer_length);
 
 /*
- * Finds the fewest rules under which all tests of the file hold, and which are not cyclic. Writes a
- * field of six bytes for each (03 00 03, name, predicate, name), and leaves the rest of the buffer.
- * Answers the number of rules, at most 16. Refused, in this order: by reading; 10 if the file has
- * rules; 12 if the buffer has fewer than 96 bytes; 11 if over 16 rules match two different main
- * writes of a test; 13 if no acyclic set of any rules does it.
+ * Finds the fewest rules under which all tests of the file hold, and which are not cyclic. Its
+ * candidates are the rules that match an ordered pair of two different main writes of one test,
+ * sorted by first name, second name and predicate; no other rules could make a smaller set. A set's
+ * number has bit i set if candidate i, from 0, is in it, and among the smallest sets the one with the
+ * largest number is taken. Writes a field of six bytes for each rule (03 00 03, name, predicate,
+ * name), in the candidates' order, and leaves the rest of the buffer. Answers the number of rules, at
+ * most 16. Refused, in this order: by reading; 10 if the file has rules; 12 if the buffer has fewer
+ * than 96 bytes; 11 if there are over 16 candidates; 13 if no acyclic set of any rules does it.
  */
 uint64_t pelzhondy_find(const uint8_t *file, size_t file_length,
                         uint8_t *buffer, size_t buffer_length);

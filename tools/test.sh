@@ -152,10 +152,19 @@ case "${1:-}" in
     ;;
 soak)
     export PELZHONDY_CASES="${PELZHONDY_CASES:-20}" PELZHONDY_SEED="${PELZHONDY_SEED:-$(date +%s)}"
+    part 'rt check judge' rt check judge
+    [ "$status" -eq 0 ] || failed=$((failed + 1))
     static_libraries
     differential_tests
     ;;
 bench)
+    # Without the solver there is one table less.
+    if ! command -v z3 >/dev/null 2>&1; then
+        echo '== installing z3'
+        export DEBIAN_FRONTEND=noninteractive
+        apt-get update
+        apt-get install -y --no-install-recommends z3
+    fi
     static_libraries
     rust build -p benchmark && target/rust/release/benchmark
     exit

@@ -3,10 +3,11 @@ use mathlib.Core.Path.{_≡_, refl, sym, ap, subst, _∙_}
 use mathlib.Core.Bool.{Bool, true, false, cond, not}
 use mathlib.Core.List.{List, [], _∷_, _++_, append-nil}
 use Prim.Native.Nat.{ℕ, suc, _+_, _-_, _*_, _≤_, _<_}
+use native.Mathlib.Nat.{add-zero}
 use native.Mathlib.Numerals.{add-one}
 use native.Mathlib.Omega.{arith}
 use lib.ListN.{length, getD, take, drop, set, drop-of-length-le}
-use lib.Seq.{length-take-le, getD-take, take-suc, take-suc-set, take-take, drop-cons, append-snoc}
+use lib.Seq.{length-take-le, getD-take, take-suc, take-set-le, take-suc-set, take-take, drop-cons, append-snoc}
 use borrow.Author.Needs.{needs}
 use borrow.Author.Tests.{eq-eqb, ne-eqb, lt-ltb, le-ltb, not-true, not-false}
 use Rattle.relation.specs.Bits.{bit}
@@ -226,27 +227,26 @@ module _ (s : List ℕ) where
   pub collect-done : (t : ℕ) (c : Rules) → t ≤ 0 → Gathered s t c → Keeps (candidatesOf (testsIn s)) c
   collect-done t c h k = let z : t ≡ 0 = omega arith in subst (λ (n : ℕ). Keeps (candidatesOf (drop n (testsIn s))) c) z (k .keeps)
 
--- ---- keep, pick
+-- ---- pick
 
-module _ (c : Rules) (m i : ℕ) (rule : Rule) (b : Bool) (e : b ≡ bit m i) where
-  pub keep-yes : (d : Rules) → b ≡ true → rulesOf d ≡ rulesOf c ++ (rule ∷ []) → rulesOf d ≡ rulesOf c ++ cond (bit m i) (rule ∷ []) []
-  keep-yes d t q = rw (sym e ∙ t) q
-
-  pub keep-no : b ≡ false → rulesOf c ≡ rulesOf c ++ cond (bit m i) (rule ∷ []) []
-  keep-no f = rw (sym e ∙ f) (sym (append-nil (rulesOf c)))
+-- a rule written behind the first n, and counted or not
+written : (items : List Rule) (n : ℕ) (rule : Rule) (b : Bool) → length items ≡ 32 → n < 32
+    → take (n + cond b 1 0) (set items n rule) ≡ take n items ++ cond b (rule ∷ []) []
+written items n rule true all h = pushed items n rule all h
+written items n rule false all h = rw (add-zero n, append-nil (take n items)) (take-set-le n items n rule (omega arith))
 
 module _ (c : Rules) (m : ℕ) where
   pub pick-begun : (items : List Rule) → take 0 items ≡ picked (take 0 (c .items)) m
   unfolding picked
   pick-begun items = refl
 
-  pub pick-more : (i : ℕ) (d e : Rules) → length (c .items) ≡ 32 → c .count ≤ 32 → i < c .count → rulesOf d ≡ picked (take i (c .items)) m
-      → rulesOf e ≡ rulesOf d ++ cond (bit m i) (itemAt c i ∷ []) [] → rulesOf e ≡ picked (take (i + 1) (c .items)) m
-  pick-more i d e all few h p q =
+  pub pick-more : (items : List Rule) (n i d : ℕ) → length (c .items) ≡ 32 → length items ≡ 32 → c .count ≤ 32 → i < c .count → n ≤ i
+      → take n items ≡ picked (take i (c .items)) m → d ≡ cond (bit m i) 1 0 → take (n + d) (set items n (itemAt c i)) ≡ picked (take (i + 1) (c .items)) m
+  pick-more items n i d all long few h l p q =
       let z : length (take i (c .items)) ≡ i = length-take-le i (c .items) (omega arith) in
-      q ∙ rw (add-one i, take-suc (c .items) i blank (omega arith), picked-snoc (take i (c .items)) (itemAt c i) m, z, p)
+      rw (q, written items n (itemAt c i) (bit m i) long (omega arith), add-one i, take-suc (c .items) i blank (omega arith), picked-snoc (take i (c .items)) (itemAt c i) m, z, p)
 
-  pub pick-done : (i : ℕ) (d : Rules) → i ≤ c .count → c .count ≤ i → rulesOf d ≡ picked (take i (c .items)) m → rulesOf d ≡ picked (rulesOf c) m
-  pick-done i d h l e = let z : i ≡ c .count = omega arith in rw z at e
+  pub pick-done : (items : List Rule) (n i : ℕ) → i ≤ c .count → c .count ≤ i → take n items ≡ picked (take i (c .items)) m → take n items ≡ picked (rulesOf c) m
+  pick-done items n i h l e = let z : i ≡ c .count = omega arith in rw z at e
 
-pub ruleset steps = (needs, length-mapped, pushed, place-begun, place-stop, place-more, place-end, splice-more, splice-done, follows-over, insert-last, insert-between, insert-none, pairing-equal, pairing-greater, pairing-less, paired-self, paired-other, write-begun, write-more, write-done, trace-begun, trace-more, trace-done, extent-test, extent-inside, extent-refused, collect-begun, collect-more, collect-done, keep-yes, keep-no, pick-begun, pick-more, pick-done)
+pub ruleset steps = (needs, length-mapped, pushed, place-begun, place-stop, place-more, place-end, splice-more, splice-done, follows-over, insert-last, insert-between, insert-none, pairing-equal, pairing-greater, pairing-less, paired-self, paired-other, write-begun, write-more, write-done, trace-begun, trace-more, trace-done, extent-test, extent-inside, extent-refused, collect-begun, collect-more, collect-done, pick-begun, pick-more, pick-done)

@@ -216,15 +216,15 @@ pub fn collect(file: &[u8], tests: usize) -> Rules
     out
 }
 
-// A rule behind those held, if bit i of m is set.
-fn keep(c: Rules, m: u64, i: usize, rule: Rule) -> Rules
-    requires { ⌜ (c .count < 32) × (i < 64) ⌝ }
-    ensures { λ r. ⌜ (rulesOf r ≡ rulesOf c ++ cond (bit m i) (rule ∷ []) []) × (r .count ≤ c .count + 1) ⌝ }
+// 1 if bit i of m is set, otherwise 0.
+fn digit(m: u64, i: usize) -> usize
+    requires { ⌜ i < 64 ⌝ }
+    ensures { λ r. ⌜ (r ≡ cond (bit m i) 1 0) × (r ≤ 1) ⌝ }
 {
     if relation::has_bit(m, i) {
-        return push(c, rule);
+        return 1;
     }
-    c
+    0
 }
 
 // The set of a number.
@@ -232,12 +232,15 @@ pub fn pick(c: Rules, m: u64) -> Rules
     requires { ⌜ c .count ≤ 32 ⌝ }
     ensures { λ r. ⌜ (rulesOf r ≡ picked (rulesOf c) m) × (r .count ≤ c .count) ⌝ }
 {
-    let items = c.items;
-    let mut out = Rules { items, count: 0 };
+    let mut items = c.items;
+    let mut n: usize = 0;
     let mut i: usize = 0;
     while i < c.count {
-        out = keep(out, m, i, c.items[i]);
+        // a rule that is not in the set is written over
+        let rule = c.items[i];
+        items[n] = rule;
+        n += digit(m, i);
         i += 1;
     }
-    out
+    Rules { items, count: n }
 }

@@ -3,17 +3,20 @@ use mathlib.Core.Path.{_≡_, refl, sym, ap, _∙_}
 use mathlib.Core.Bool.{Bool, true, false, cond, not, _&&_, and-true, and-false}
 use mathlib.Core.List.{List}
 use mathlib.Core.Option.{Option, none, some}
-use Prim.Native.Nat.{ℕ, zero, suc, _+_, _^_, _≤_, _<_}
+use Prim.Native.Nat.{ℕ, zero, suc, _+_, _-_, _*_, _%_, _^_, _≤_, _<_}
 use native.Mathlib.Nat.{lt-of-lt-of-le}
 use native.Mathlib.Numerals.{add-one}
 use native.Mathlib.Omega.{arith}
 use lib.Count.{ones, ones-ones, ones-le}
 use lib.Dec.{eqb, leb}
 use lib.ListN.{length, getD}
-use lib.Pow.{pow-mono}
+use lib.Pow.{pow-mono, pow-pos}
 use lib.Seq.{length-take-le}
-use borrow.Author.Tests.{le-leb, lt-leb, eq-eqb, ne-eqb}
-use Rattle.relation.specs.Lists.{all}
+use borrow.Author.Tests.{le-leb, lt-leb, eq-eqb, ne-eqb, not-true, not-false}
+use Rattle.relation.specs.Bits.{bit}
+use Rattle.relation.specs.Lists.{all, anyBelow}
+use Rattle.relation.proofs.ListLaws.{and-left, and-right, anyBelow-true, anyBelow-intro}
+use Rattle.relation.proofs.WithoutLaws.{bit-most, ones-without}
 use Rattle.model.specs.declared.Rule.{Rule}
 use Rattle.model.specs.Cyclic.{cyclic}
 use Rattle.model.specs.Test.{Test, testHolds}
@@ -21,8 +24,11 @@ use Rattle.model.specs.Find.{picked, suffices, preferred, chosenBelow, chosen}
 use Rattle.rules.specs.declared.Rules.{Rules}
 use Rattle.rules.specs.Held.{rulesOf}
 use Rattle.findlaws.specs.Hit.{marked, spread}
+use Rattle.findlaws.proofs.ChosenLaws.{chosen-fewest}
 use Rattle.findlaws.proofs.HitLaws.{hits}
-use Rattle.finding.specs.Table.{Shows, Spreads, passing, better, choiceCode}
+use Rattle.findlaws.proofs.PartLaws.{cyclic-without}
+use Rattle.finding.specs.Table.{Shows, Spreads, passing, spare, better, choiceCode}
+use Rattle.finding.proofs.SetLaws.{total-sets}
 
 -- ---- better_of
 
@@ -43,6 +49,68 @@ module _ (table : List ℕ) (cs : List Rule) (m best : ℕ) where
     pub better-yes : ones m ≤ ones best → (getD table m 0 ≡ 1 → ⊥) → b ≡ false → m ≡ better (passing table cs) m best
     unfolding better passing
     better-yes h n f = rw (le-leb (ones m) (ones best) h, ← q, ← e, f, ne-eqb (getD table m 0) 1 n)
+
+-- ---- is_spare, has_spare
+
+module _ (table : List ℕ) (m i : ℕ) (b : Bool) (e : b ≡ bit m i) where
+  pub spare-not : not b ≡ true → false ≡ spare table m i
+  unfolding spare
+  spare-not t = rw (← e, not-true b t)
+
+  module _ (t : not b ≡ false) (few : i < 16) where
+    abbrev power : ℕ
+    power = 1 * 2 ^ i % 18446744073709551616
+
+    set : bit m i ≡ true
+    set = sym e ∙ not-false b t
+
+    pub spare-within : power ≤ m
+    spare-within = rw (total-sets i (omega arith)) (bit-most m i set)
+
+    pub spare-is : not (eqb (getD table (m - power) 0) 1) ≡ spare table m i
+    unfolding spare
+    spare-is = rw (total-sets i (omega arith), set)
+
+module _ (table : List ℕ) (m : ℕ) where
+  pub spares-begun : anyBelow (spare table m) 0 ≡ false
+  unfolding anyBelow
+  spares-begun = refl
+
+  pub spares-more : (i : ℕ) (b : Bool) → anyBelow (spare table m) i ≡ false → b ≡ spare table m i → b ≡ false → anyBelow (spare table m) (i + 1) ≡ false
+  unfolding anyBelow
+  spares-more i b h e f = rw (add-one i, h, ← e, f)
+
+  pub spares-found : (i n : ℕ) (b : Bool) → i < n → b ≡ spare table m i → b ≡ true → true ≡ anyBelow (spare table m) n
+  spares-found i n b h e t = sym (anyBelow-intro (spare table m) n i h (sym e ∙ t))
+
+  pub spares-done : (i n : ℕ) → anyBelow (spare table m) i ≡ false → i ≤ n → n ≤ i → false ≡ anyBelow (spare table m) n
+  spares-done i n h l k = let z : i ≡ n = omega arith in sym (rw z at h)
+
+-- a set that is sufficient without one of its candidates: without it, it was taken or is cyclic
+module _ (table : List ℕ) (cs : List Rule) (m best : ℕ) where
+  spare-better : (i : ℕ) → best ≡ choiceCode (chosenBelow (passing table cs) m) → spare table m i ≡ true → best ≡ better (passing table cs) m best
+  unfolding better passing spare choiceCode
+  spare-better i e s = go (cyclic (picked cs less)) refl
+    where
+      less : ℕ
+      less = m - 2 ^ i
+
+      has : bit m i ≡ true
+      has = and-left (bit m i) _ s
+
+      go : (b : Bool) → cyclic (picked cs less) ≡ b → best ≡ better (passing table cs) m best
+      go true c = rw (cyclic-without cs m i has c, and-false (leb (ones m) (ones best)))
+      go false c =
+          let most = bit-most m i has in
+          let power = pow-pos i in
+          let (k, q, l) = chosen-fewest (passing table cs) m less (omega arith) (rw c (and-right (bit m i) _ s)) in
+          let best-is : best ≡ k = e ∙ ap choiceCode q in
+          let n = ones-without m i has in
+          better-more table cs m best (rw best-is (omega arith))
+
+  pub better-spare : (n : ℕ) (b : Bool) → best ≡ choiceCode (chosenBelow (passing table cs) m) → b ≡ anyBelow (spare table m) n → b ≡ true
+      → best ≡ better (passing table cs) m best
+  better-spare n b e q t = let (i, l, s) = anyBelow-true (spare table m) n (sym q ∙ t) in spare-better i e s
 
 -- ---- choose
 

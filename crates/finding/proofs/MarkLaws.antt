@@ -28,6 +28,8 @@ use Rattle.reader.specs.Scan.{writesAt, checksAt, mainPlace, checksPlace, testA
 use Rattle.reader.specs.Held.{noTest}
 use Rattle.rules.specs.declared.Rules.{Rules}
 use Rattle.rules.specs.Held.{rulesOf}
+use Rattle.disks.specs.Packed.{Loads, heldFrom}
+use Rattle.disks.proofs.Steps.{loaded-run}
 use Rattle.judging.proofs.RowLaws.{writes-length}
 use Rattle.findlaws.specs.Hit.{allows, allowed, marks, marked, spread}
 use Rattle.candidates.specs.Kept.{testsIn}
@@ -35,12 +37,12 @@ use Rattle.finding.specs.Table.{Sets, spoilt, Adds, Blank, Shows, either
 
 -- ---- one schedule
 
-module _ (b p : Bool) (l k : List ℕ) (e : b ≡ p) where
-  pub mark-no : b ≡ true → l ≡ cond p l k
-  mark-no t = rw (sym e ∙ t)
+module _ (b : Bool) (l k : List ℕ) where
+  pub mark-no : b ≡ true → l ≡ cond b l k
+  mark-no t = rw t
 
-  pub mark-yes : b ≡ false → k ≡ cond p l k
-  mark-yes f = rw (sym e ∙ f)
+  pub mark-yes : b ≡ false → k ≡ cond b l k
+  mark-yes f = rw f
 
 -- one mark more
 mark-set : (l : List ℕ) (y x : ℕ) → y < length l → eqb (getD (set l y 1) x 0) 1 ≡ eqb y x || eqb (getD l x 0) 1
@@ -55,10 +57,10 @@ module _ (checks : List Check) (ws : List Write) (base sets old : List ℕ) wher
   unfolding spoilt anyBelow
   adds-none = record { size = refl; at = λ x h. refl }
 
-  pub adds-more : (new next : List ℕ) (s y : ℕ) → Adds (spoilt checks ws base sets s) old new → y ≡ getD sets s 0 → y < length new
-      → next ≡ cond (consistent checks (run ws s base)) new (set new y 1) → Adds (spoilt checks ws base sets (s + 1)) old next
+  pub adds-more : (new next : List ℕ) (s y : ℕ) (c : Bool) (d : List ℕ) → Adds (spoilt checks ws base sets s) old new → y ≡ getD sets s 0 → y < length new
+      → d ≡ run ws s base → c ≡ consistent checks d → next ≡ cond c new (set new y 1) → Adds (spoilt checks ws base sets (s + 1)) old next
   unfolding spoilt anyBelow
-  adds-more new next s y a e h q = rw (q, add-one s) (go (consistent checks (run ws s base)) refl)
+  adds-more new next s y c d a e h k i q = rw (q, i, k, add-one s) (go (consistent checks (run ws s base)) refl)
     where
       swap : (p q r : Bool) → q || (p || r) ≡ p || q || r
       swap true true r = refl
@@ -87,15 +89,15 @@ module _ (checks : List Check) (ws : List Write) (base sets old : List ℕ) wher
 
 -- ---- one test
 
-module _ (cands : Rules) (s : List ℕ) (e : Extent) (base sets old new : List ℕ) (checks : List Check) where
-  pub adds-test : Adds (spoilt (take (e .checks) checks) (writesAt s (mainPlace e) (e .main)) base sets (2 ^ e .main)) old new
-      → length (cands .items) ≡ 32 → cands .count ≤ 16
+module _ (cands : Rules) (s : List ℕ) (e : Extent) (writes base sets old new : List ℕ) (checks : List Check) where
+  pub adds-test : Adds (spoilt (take (e .checks) checks) (heldFrom writes 0 (e .main)) base sets (2 ^ e .main)) old new
+      → Loads s (mainPlace e) (e .main) writes → length (cands .items) ≡ 32 → cands .count ≤ 16
       → base ≡ written (writesAt s (e .at) (e .initial)) emptyDisk
       → take (e .checks) checks ≡ checksAt s (checksPlace e) (e .checks)
       → Sets (rulesOf cands) (writesAt s (mainPlace e) (e .main)) (2 ^ e .main) (cands .count) sets
       → Adds (marks (rulesOf cands) (testAt s e)) old new
   unfolding spoilt marks testAt initialDisk allowed
-  adds-test a all few eb ec k =
+  adds-test a lw all few eb ec k =
       let cs = rulesOf cands in
       let ws = writesAt s (mainPlace e) (e .main) in
       let held : length cs ≡ cands .count = length-take-le (cands .count) (cands .items) (omega arith) in
@@ -105,10 +107,10 @@ module _ (cands : Rules) (s : List ℕ) (e : Extent) (base sets old new : List �
             λ x l. a .at x l
             ∙ ap (λ (b : Bool). b || eqb (getD old x 0) 1)
             (anyBelow-ext
-            (λ i. not (consistent (take (e .checks) checks) (run ws i base)) && eqb (getD sets i 0) x)
+            (λ i. not (consistent (take (e .checks) checks) (run (heldFrom writes 0 (e .main)) i base)) && eqb (getD sets i 0) x)
             (λ i. not (consistent (checksAt s (checksPlace e) (e .checks)) (run ws i (written (writesAt s (e .at) (e .initial)) emptyDisk))) && eqb (maskOf (allows cs ws i) (length cs)) x)
             (2 ^ e .main)
-            (λ i h. rw (ec, eb, k .at i h, held))
+            (λ i h. rw (loaded-run s (mainPlace e) (e .main) writes i base lw, ec, eb, k .at i h, held))
             ∙ ap (anyBelow (λ i. not (consistent (checksAt s (checksPlace e) (e .checks)) (run ws i (written (writesAt s (e .at) (e .initial)) emptyDisk))) && eqb (maskOf (allows cs ws i) (length cs)) x))
             (ap (λ (n : ℕ). 2 ^ n) (sym (writes-length s (mainPlace e) (e .main)))));
       }

@@ -18,12 +18,10 @@ use Rattle.model.specs.declared.Rule.{Rule}
 use Rattle.model.specs.declared.Write.{Write}
 use Rattle.model.specs.Cyclic.{noRule}
 use Rattle.model.specs.Schedule.{valid}
-use Rattle.reader.specs.Scan.{writesAt}
 use Rattle.rules.specs.declared.Rules.{Rules}
 use Rattle.rules.specs.Held.{rulesOf}
 use Rattle.rules.proofs.Steps.{itemAt}
-use Rattle.judging.specs.Rows.{rowsFrom, validBy}
-use Rattle.judging.proofs.RowLaws.{valid-by}
+use Rattle.judging.specs.Rows.{validBy, Validates}
 use Rattle.findlaws.specs.Hit.{allows}
 use Rattle.finding.specs.Table.{withValid, validUnder, Grown, Sets, Bounded}
 
@@ -66,18 +64,18 @@ module _ (f : ℕ → ℕ → ℕ) (old : List ℕ) where
   pub grown-all : (new : List ℕ) (s total n : ℕ) → Grown f old new s → total ≡ 2 ^ n → s ≤ total → total ≤ s → Grown f old new (2 ^ n)
   grown-all new s total n g e h l = let z : s ≡ 2 ^ n = omega arith in subst (Grown f old new) z g
 
--- by the rows of one rule, a schedule is valid exactly if it is so under that rule
-pub grown-rule : (r : Rule) (c : ℕ) (file : List ℕ) (at n : ℕ) (one : Rules) (rows old new : List ℕ) (k : ℕ)
-    → Grown (withValid (validBy rows n) c) old new k → take n rows ≡ rowsFrom (rulesOf one) file at n n → rulesOf one ≡ r ∷ []
-    → Grown (withValid (validUnder r (writesAt file at n)) c) old new k
-unfolding withValid
-grown-rule r c file at n one rows old new k g e q =
+-- the unions of one rule decide validity under that rule
+pub grown-rule : (r : Rule) (c : ℕ) (ws : List Write) (n : ℕ) (one : Rules) (low high old new : List ℕ)
+    → Grown (withValid (validBy low high) c) old new (2 ^ n) → Validates (rulesOf one) ws n low high → rulesOf one ≡ r ∷ []
+    → Grown (withValid (validUnder r ws) c) old new (2 ^ n)
+unfolding withValid Validates
+grown-rule r c ws n one low high old new g v q =
     record {
       size = g .size;
       done =
           λ x h. g .done x h
           ∙ ap (λ (b : Bool). cond b (withBit (getD old x 0) c) (getD old x 0))
-          (valid-by (rulesOf one) file at n x rows e ∙ ap (λ (l : List Rule). valid l (writesAt file at n) x) q);
+          (v x h ∙ ap (λ (l : List Rule). valid l ws x) q);
       rest = g .rest;
     }
 

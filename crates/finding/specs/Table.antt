@@ -1,5 +1,5 @@
 -- The code's steps: sets of candidates for each schedule, a table of marked sets, and the choice from it.
-use Prim.Native.Nat.{ℕ, _^_, _≤_, _<_}
+use Prim.Native.Nat.{ℕ, _-_, _^_, _≤_, _<_}
 use mathlib.Core.Path.{_≡_}
 use mathlib.Core.Bool.{Bool, cond, not, _&&_, _||_}
 use mathlib.Core.List.{List, [], _∷_}
@@ -7,7 +7,7 @@ use mathlib.Core.Option.{Option, none, some}
 use lib.Count.{ones}
 use lib.Dec.{eqb, leb}
 use lib.ListN.{length, getD}
-use Rattle.relation.specs.Bits.{withBit, maskOf}
+use Rattle.relation.specs.Bits.{bit, withBit, maskOf}
 use Rattle.relation.specs.Lists.{anyBelow}
 use Rattle.model.specs.declared.Rule.{Rule}
 use Rattle.model.specs.declared.Write.{Write}
@@ -81,6 +81,10 @@ pub record Spreads (n b : ℕ) (old new : List ℕ) : Type 0 where
 -- a set is acyclic and not marked
 unfoldable pub passing : List ℕ → List Rule → ℕ → Bool
 passing table cs m = not (cyclic (picked cs m)) && not (eqb (getD table m 0) 1)
+
+-- a set has candidate i, and is not marked without it
+unfoldable pub spare : List ℕ → ℕ → ℕ → Bool
+spare table m i = bit m i && not (eqb (getD table (m - 2 ^ i) 0) 1)
 
 unfoldable pub better : (ℕ → Bool) → ℕ → ℕ → ℕ
 better p m best = cond (leb (ones m) (ones best) && p m) m best

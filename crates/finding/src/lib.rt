@@ -9,39 +9,39 @@ ghost use mathlib.Core.Bool.{cond};
 ghost use Prim.Native.Nat.{_+_, _*_, _^_, _<_, _≤_};
 ghost use lib.ListN.{length, take, set};
 ghost use lib.Seq.{sets};
-ghost use Rattle.model.specs.Schedule.{run};
-ghost use Rattle.model.specs.Check.{consistent};
+ghost use Rattle.relation.specs.Lists.{anyBelow};
 ghost use Rattle.model.specs.Find.{chosenBelow, chosen};
 ghost use Rattle.reader.specs.Encode.{ruleFields};
 ghost use Rattle.reader.specs.Scan.{writesAt, testAt};
 ghost use Rattle.reader.specs.Held.{Inside};
 ghost use Rattle.rules.specs.Held.{rulesOf};
+ghost use Rattle.disks.specs.Packed.{heldFrom};
 ghost use Rattle.judging.specs.Rows.{validBy};
 ghost use Rattle.findlaws.specs.Hit.{marks, marked};
 ghost use Rattle.candidates.specs.Kept.{testsIn};
-ghost use Rattle.finding.specs.Table.{withValid, validUnder, Grown, Sets, Bounded, spoilt, Adds, Blank, Shows, either, Lowered, Spreads, passing, better, choiceCode, ruleBlock};
+ghost use Rattle.finding.specs.Table.{withValid, validUnder, Grown, Sets, Bounded, spoilt, Adds, Blank, Shows, either, Lowered, Spreads, passing, spare, better, choiceCode, ruleBlock};
 ghost use Rattle.finding.specs.Finder.{over, out, foundCoded, findAmong, findOf};
 
-// mask, with bit c set where schedule s is valid by the rows.
-fn with_valid(mask: u64, c: usize, rows: &[u64; 64], n: usize, s: u64) -> u64
-    requires { ⌜ (c < 64) × (n ≤ 64) ⌝ }
-    ensures { λ r. ⌜ r ≡ withValid (validBy (now (rows .entry)) n) c s mask ⌝ }
+// mask, with bit c set where schedule s is valid by the unions.
+fn with_valid(mask: u64, c: usize, low: &[u64; 64], high: &[u64; 64], s: u64) -> u64
+    requires { ⌜ c < 64 ⌝ }
+    ensures { λ r. ⌜ r ≡ withValid (validBy (now (low .entry)) (now (high .entry))) c s mask ⌝ }
 {
-    if judging::is_valid(rows, n, s) {
+    if judging::is_valid(low, high, s) {
         return relation::with_bit(mask, c);
     }
     mask
 }
 
-// Bit c of each schedule's set, by the rows of candidate c.
-fn allow(allowed: &mut [u64], c: usize, rows: &[u64; 64], n: usize)
+// Bit c of each schedule's set, by the unions of candidate c.
+fn allow(allowed: &mut [u64], c: usize, low: &[u64; 64], high: &[u64; 64], n: usize)
     requires { ⌜ (length (now allowed) ≡ 4096) × ((c < 64) × (n ≤ 12)) ⌝ }
-    ensures { λ _. ⌜ Grown (withValid (validBy (now (rows .entry)) n) c) (now (allowed .entry)) (now (allowed .exit)) (2 ^ n) ⌝ }
+    ensures { λ _. ⌜ Grown (withValid (validBy (now (low .entry)) (now (high .entry))) c) (now (allowed .entry)) (now (allowed .exit)) (2 ^ n) ⌝ }
 {
     let total = 1usize << n;
     let mut s: usize = 0;
     while s < total {
-        allowed[s] = with_valid(allowed[s], c, rows, n, s as u64);
+        allowed[s] = with_valid(allowed[s], c, low, high, s as u64);
         s += 1;
     }
 }
@@ -51,9 +51,10 @@ fn allow_rule(allowed: &mut [u64], c: usize, rule: Rule, file: &[u8], at: usize,
     requires { ⌜ (length (now allowed) ≡ 4096) × ((c < 64) × ((n ≤ 12) × (at + 13 * n ≤ length (now file)))) ⌝ }
     ensures { λ _. ⌜ Grown (withValid (validUnder rule (writesAt (now (file .entry)) at n)) c) (now (allowed .entry)) (now (allowed .exit)) (2 ^ n) ⌝ }
 {
-    let mut rows = [0u64; 64];
-    judging::fill(&mut rows, candidates::one(rule), file, at, n);
-    allow(allowed, c, &rows, n);
+    let mut low = [0u64; 64];
+    let mut high = [0u64; 64];
+    judging::prepare(&mut low, &mut high, candidates::one(rule), file, at, n);
+    allow(allowed, c, &low, &high, n);
 }
 
 // For each schedule of the n writes from `at` on the set of the candidates that leave it valid.
@@ -70,46 +71,39 @@ fn allowed_sets(cands: Rules, file: &[u8], at: usize, n: usize) -> [u64; 4096]
     allowed
 }
 
-// Marks the set x if schedule s leaves an inconsistent disk.
-fn mark_one(
-    table: &mut [u8],
-    x: usize,
-    base: [u32; 256],
-    file: &[u8],
-    at: usize,
-    n: usize,
-    s: u64,
-    checks: [Check; 16],
-    m: usize,
-)
-    requires { ⌜ (x < length (now table)) × ((n ≤ 12) × ((at + 13 * n ≤ length (now file)) × (m ≤ 16))) ⌝ }
-    ensures { λ _. ⌜ now (table .exit) ≡ cond (consistent (take m checks) (run (writesAt (now (file .entry)) at n) s base)) (now (table .entry)) (set (now (table .entry)) x 1) ⌝ }
+// Marks the set x of a schedule, unless that leaves a consistent disk.
+fn mark_one(table: &mut [u8], x: usize, consistent: bool)
+    requires { ⌜ x < length (now table) ⌝ }
+    ensures { λ _. ⌜ now (table .exit) ≡ cond consistent (now (table .entry)) (set (now (table .entry)) x 1) ⌝ }
 {
-    if judging::leaves_consistent(base, file, at, n, s, checks, m) {
+    if consistent {
         return;
     }
     table[x] = 1;
 }
 
-// Marks the sets of all inconsistent schedules of the n writes from `at` on.
+// Marks the sets of all inconsistent schedules of the first n writes held.
 fn mark(
     table: &mut [u8],
     allowed: [u64; 4096],
     base: [u32; 256],
-    file: &[u8],
-    at: usize,
+    writes: &[u64; 64],
     n: usize,
     checks: [Check; 16],
     m: usize,
 )
-    requires { ⌜ (length (now table) ≡ 65536) × ((Bounded allowed n) × ((n ≤ 12) × ((at + 13 * n ≤ length (now file)) × (m ≤ 16)))) ⌝ }
-    ensures { λ _. ⌜ Adds (spoilt (take m checks) (writesAt (now (file .entry)) at n) base allowed (2 ^ n)) (now (table .entry)) (now (table .exit)) ⌝ }
+    requires { ⌜ (length (now table) ≡ 65536) × ((Bounded allowed n) × ((n ≤ 12) × (m ≤ 16))) ⌝ }
+    ensures { λ _. ⌜ Adds (spoilt (take m checks) (heldFrom (now (writes .entry)) 0 n) base allowed (2 ^ n)) (now (table .entry)) (now (table .exit)) ⌝ }
 {
     let total = 1usize << n;
+    let mut disk = base;
     let mut s: usize = 0;
     while s < total {
+        disks::apply(&mut disk, writes, 0, n, s as u64);
+        let consistent = disks::is_consistent(&disk, checks, m);
+        disks::restore(&mut disk, &base, writes, 0, n);
         let x = allowed[s] as usize;
-        mark_one(table, x, base, file, at, n, s as u64, checks, m);
+        mark_one(table, x, consistent);
         s += 1;
     }
 }
@@ -127,8 +121,10 @@ fn mark_test(table: &mut [u8], cands: Rules, file: &[u8], e: Extent)
     let checks_at = main_at + 13 * n;
     let base = judging::initial_disk(file, at, k);
     let checks = loading::file_checks(file, checks_at, m);
+    let mut writes = [0u64; 64];
+    disks::load(&mut writes, file, main_at, n);
     let allowed = allowed_sets(cands, file, main_at, n);
-    mark(table, allowed, base, file, main_at, n, checks, m);
+    mark(table, allowed, base, &writes, n, checks, m);
 }
 
 // Marks the sets of all inconsistent schedules of all tests.
@@ -180,15 +176,46 @@ fn lower_all(table: &mut [u8], n: usize)
     }
 }
 
-// The set m in place of the best so far, if it is sufficient and has no more rules.
+// Whether the set m has candidate i and is sufficient without it.
+fn is_spare(table: &[u8; 65536], m: u64, i: usize) -> bool
+    requires { ⌜ (m < 65536) × (i < 16) ⌝ }
+    ensures { λ r. ⌜ r ≡ spare (now (table .entry)) m i ⌝ }
+{
+    if !relation::has_bit(m, i) {
+        return false;
+    }
+    let less = m - (1u64 << i);
+    table[less as usize] != 1
+}
+
+// Whether the set m is sufficient without one of its candidates below n.
+fn has_spare(table: &[u8; 65536], m: u64, n: usize) -> bool
+    requires { ⌜ (m < 65536) × (n ≤ 16) ⌝ }
+    ensures { λ r. ⌜ r ≡ anyBelow (spare (now (table .entry)) m) n ⌝ }
+{
+    let mut i: usize = 0;
+    while i < n {
+        if is_spare(table, m, i) {
+            return true;
+        }
+        i += 1;
+    }
+    false
+}
+
+// The set m in place of the best so far, if it is sufficient and has no more rules. A sufficient set
+// with a spare candidate is cyclic or larger than the best so far.
 fn better_of(table: &[u8; 65536], cands: Rules, m: u64, best: u64) -> u64
-    requires { ⌜ (cands .count ≤ 16) × (m < 65536) ⌝ }
+    requires { ⌜ (cands .count ≤ 16) × ((m < 65536) × (best ≡ choiceCode (chosenBelow (passing (now table) (rulesOf cands)) m))) ⌝ }
     ensures { λ r. ⌜ r ≡ better (passing (now (table .entry)) (rulesOf cands)) m best ⌝ }
 {
     if u64::count_ones(best) < u64::count_ones(m) {
         return best;
     }
     if table[m as usize] == 1 {
+        return best;
+    }
+    if has_spare(table, m, cands.count) {
         return best;
     }
     if rules::is_cyclic(candidates::pick(cands, m)) {

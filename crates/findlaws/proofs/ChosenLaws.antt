@@ -182,3 +182,13 @@ given tests m e = (some-chosen tests m e .1, some-chosen tests m e, some-fewest 
 
 pub refused : Refused
 refused tests = (none-suffices tests, suffices-none tests)
+
+-- ---- no number that passes has fewer ones than the preferred one
+
+pub chosen-fewest : (p : ℕ → Bool) (n k : ℕ) → k < n → p k ≡ true → (m : ℕ) × (chosenBelow p n ≡ some m) × (ones m ≤ ones k)
+unfolding Best
+chosen-fewest p n k h e = go (chosenBelow p n) refl (best p n)
+  where
+    go : (o : Option ℕ) → chosenBelow p n ≡ o → Best p n o → (m : ℕ) × (o ≡ some m) × (ones m ≤ ones k)
+    go none q b = absurd (false≢true (sym (b k h) ∙ e))
+    go (some m) q b = (m, refl, b .2 k h e .0)

@@ -3,4 +3,5 @@ pub mod CandidateLaws
 pub mod CutLaws
 pub mod ChosenLaws
 pub mod PickedLaws
+pub mod PartLaws
 pub mod HitLaws

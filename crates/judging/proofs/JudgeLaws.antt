@@ -19,7 +19,7 @@ use Rattle.model.specs.Disk.{emptyDisk}
 use Rattle.model.specs.Schedule.{written, run, valid}
 use Rattle.model.specs.Check.{consistent}
 use Rattle.model.specs.Test.{Test, File, initialDisk, bad, TestHolds, testHolds, Bad, countBelow, validCount, badCount}
-use Rattle.model.proofs.TestLaws.{bad-true, testHolds-true, count-ext}
+use Rattle.model.proofs.TestLaws.{bad-true, testHolds-true, count-ext, count-most}
 use Rattle.reader.specs.declared.Extent.{Extent}
 use Rattle.reader.specs.declared.Scan.{Scan}
 use Rattle.reader.specs.declared.Scan.the-variants.{Accepted, Refused}
@@ -30,6 +30,8 @@ use Rattle.reader.specs.Held.{Tells, Inside, testOf}
 use Rattle.reader.proofs.CallerLaws.{refused-read, refused-most, accepted-file, accepted-read, accepted-tests, accepted-most, accepted-inside, accepted-test, accepted-at, accepted-long}
 use Rattle.rules.specs.declared.Rules.{Rules}
 use Rattle.rules.specs.Held.{rulesOf}
+use Rattle.disks.specs.Packed.{Loads, heldFrom}
+use Rattle.disks.proofs.Steps.{loaded-run}
 use Rattle.judging.specs.declared.Gate.the-variants.{Open, Shut}
 use Rattle.judging.specs.declared.Gate.{Gate}
 use Rattle.judging.specs.declared.Judgement.{Judgement}
@@ -39,48 +41,48 @@ use Rattle.judging.specs.declared.Judged.the-variants.{Counts}
 use Rattle.judging.specs.declared.Judged.the-variants as Judged
 use Rattle.judging.specs.declared.Decided.the-variants.{As}
 use Rattle.judging.specs.declared.Decided.the-variants as Decided
-use Rattle.judging.specs.Rows.{rowsFrom, validBy, badBy}
+use Rattle.judging.specs.Rows.{validBy, badBy, Validates}
 use Rattle.judging.specs.Judge.{Case, caseOf, caseIn, caseAt, Judges, Decides, Gates, Judging, Deciding, Few, FewDecided, Finds, Tallies}
-use Rattle.judging.proofs.RowLaws.{writes-length, valid-by}
-use Rattle.judging.proofs.CountLaws.{count-most}
+use Rattle.judging.proofs.RowLaws.{writes-length}
 
-module _ (rules : List Rule) (s : List ℕ) (e : Extent) (rows base : List ℕ) (cs : List Check)
-    (er : take (e .main) rows ≡ rowsFrom rules s (mainPlace e) (e .main) (e .main))
+module _ (rules : List Rule) (s : List ℕ) (e : Extent) (low high table base : List ℕ) (cs : List Check)
+    (ev : Validates rules (writesAt s (mainPlace e) (e .main)) (e .main) low high)
+    (et : Loads s (mainPlace e) (e .main) table)
     (eb : base ≡ written (writesAt s (e .at) (e .initial)) emptyDisk)
     (ec : take (e .checks) cs ≡ checksAt s (checksPlace e) (e .checks)) where
-  same-valid : (x : ℕ) → validBy rows (e .main) x ≡ valid rules (testAt s e .main) x
-  unfolding testAt
-  same-valid x = valid-by rules s (mainPlace e) (e .main) x rows er
+  same-valid : (x : ℕ) → x < 2 ^ e .main → validBy low high x ≡ valid rules (testAt s e .main) x
+  unfolding testAt Validates
+  same-valid x h = ev x h
 
-  same-bad : (x : ℕ) → badBy rows (e .main) base (writesAt s (mainPlace e) (e .main)) (take (e .checks) cs) x ≡ bad rules (testAt s e) x
-  unfolding badBy bad testAt initialDisk
-  same-bad x = rw (valid-by rules s (mainPlace e) (e .main) x rows er, ec, eb)
+  same-bad : (x : ℕ) → x < 2 ^ e .main → badBy low high base (heldFrom table 0 (e .main)) (take (e .checks) cs) x ≡ bad rules (testAt s e) x
+  unfolding badBy bad testAt initialDisk Validates
+  same-bad x h = rw (ev x h, ec, loaded-run s (mainPlace e) (e .main) table x base et, eb)
 
   size : 2 ^ e .main ≡ 2 ^ length (testAt s e .main)
   unfolding testAt
   size = ap (λ (n : ℕ). 2 ^ n) (sym (writes-length s (mainPlace e) (e .main)))
 
   pub judges-all : (j : Judgement)
-      → Tallies (validBy rows (e .main)) (badBy rows (e .main) base (writesAt s (mainPlace e) (e .main)) (take (e .checks) cs)) (2 ^ e .main) j
+      → Tallies (validBy low high) (badBy low high base (heldFrom table 0 (e .main)) (take (e .checks) cs)) (2 ^ e .main) j
       → Judges (caseAt rules s e) j
   unfolding validCount badCount
   judges-all j t =
       record {
-        valid = t .valid ∙ count-ext _ _ (2 ^ e .main) (λ x h. same-valid x) ∙ ap (countBelow (valid rules (testAt s e .main))) size;
-        bad = t .bad ∙ count-ext _ _ (2 ^ e .main) (λ x h. same-bad x) ∙ ap (countBelow (bad rules (testAt s e))) size;
-        shown = λ n. let w = t .shown n in bad-true rules (testAt s e) (j .shown) (subst (λ (k : ℕ). j .shown < k) size (w .0)) (sym (same-bad (j .shown)) ∙ w .1);
+        valid = t .valid ∙ count-ext _ _ (2 ^ e .main) (λ x h. same-valid x h) ∙ ap (countBelow (valid rules (testAt s e .main))) size;
+        bad = t .bad ∙ count-ext _ _ (2 ^ e .main) (λ x h. same-bad x h) ∙ ap (countBelow (bad rules (testAt s e))) size;
+        shown = λ n. let w = t .shown n in bad-true rules (testAt s e) (j .shown) (subst (λ (k : ℕ). j .shown < k) size (w .0)) (sym (same-bad (j .shown) (w .0)) ∙ w .1);
         none = t .none;
       }
 
   pub decides-all : (v : Verdict)
-      → Finds (badBy rows (e .main) base (writesAt s (mainPlace e) (e .main)) (take (e .checks) cs)) (2 ^ e .main) v
+      → Finds (badBy low high base (heldFrom table 0 (e .main)) (take (e .checks) cs)) (2 ^ e .main) v
       → Decides (caseAt rules s e) v
   unfolding Finds Decides
   decides-all Holds f =
       testHolds-true rules (testAt s e)
       (unfold testHolds in allBelow-intro (λ x. not (bad rules (testAt s e) x)) (2 ^ length (testAt s e .main))
-      (λ x h. rw (sym (same-bad x) ∙ f x (subst (λ (k : ℕ). x < k) (sym size) h))))
-  decides-all (Fails x) f = bad-true rules (testAt s e) x (subst (λ (k : ℕ). x < k) size (f .0)) (sym (same-bad x) ∙ f .1)
+      (λ x h. let l : x < 2 ^ e .main = subst (λ (k : ℕ). x < k) (sym size) h in rw (sym (same-bad x l) ∙ f x l)))
+  decides-all (Fails x) f = bad-true rules (testAt s e) x (subst (λ (k : ℕ). x < k) size (f .0)) (sym (same-bad x (f .0)) ∙ f .1)
 
 -- ---- no number is larger than the count of schedules
 

@@ -1,29 +1,34 @@
 -- The steps of the code, in its terms.
 use mathlib.Core.Path.{_≡_, refl, sym, ap, _∙_}
-use mathlib.Core.Bool.{Bool, true, false, cond, not, _&&_, _||_, false≢true}
-use mathlib.Core.List.{List, [], _∷_}
-use Prim.Native.Nat.{ℕ, zero, suc, _+_, _-_, _*_, _≤_, _<_}
+use mathlib.Core.Bool.{Bool, true, false, cond}
+use mathlib.Core.List.{List}
+use Prim.Native.Nat.{ℕ, zero, suc, _+_, _*_, _/_, _%_, _≤_, _<_}
 use native.Mathlib.Numerals.{add-one}
 use native.Mathlib.Omega.{arith}
-use lib.Bits.{bitAnd}
+use lib.Bits.{bitAnd, bitOr}
 use lib.Dec.{eqb}
 use lib.ListN.{length, getD, take, set, replicate}
 use lib.Seq.{take-suc-set}
 use borrow.Author.Needs.{needs}
-use borrow.Author.Tests.{not-true, not-false}
-use Rattle.relation.specs.Bits.{bit, withBit, maskOf}
-use Rattle.relation.specs.Lists.{allBelow, tabulate}
-use Rattle.relation.proofs.ListLaws.{allBelow-true, and-intro}
+use borrow.Author.Tests.{ne-eqb}
+use Rattle.relation.specs.Bits.{withBit, maskOf}
+use Rattle.relation.specs.Lists.{any, tabulate}
+use Rattle.relation.specs.Union.{partOf}
+use Rattle.relation.proofs.BitLaws.{mask-ext}
+use Rattle.relation.proofs.MaskLaws.{mask-or, mask-false}
 use Rattle.model.specs.declared.Rule.{Rule}
 use Rattle.model.specs.declared.Write.{Write}
-use Rattle.model.specs.declared.Check.{Check}
-use Rattle.model.specs.Rules.{Label, labelOf, dependsOn}
+use Rattle.model.specs.Rules.{Label, labelOf, matches, dependsOn}
 use Rattle.model.specs.Disk.{emptyDisk}
 use Rattle.model.specs.Schedule.{run, written}
-use Rattle.model.specs.Check.{consistent}
 use Rattle.reader.specs.Scan.{writeField, writesAt}
-use Rattle.judging.specs.Rows.{rowOf, rowsFrom, covers, validBy}
-use Rattle.judging.proofs.RowLaws.{initial-run}
+use Rattle.rules.specs.declared.Rules.{Rules}
+use Rattle.rules.specs.Held.{rulesOf}
+use Rattle.rules.proofs.Steps.{itemAt, length-mapped, depends-next}
+use Rattle.disks.specs.Packed.{Loads, heldFrom}
+use Rattle.disks.proofs.Steps.{loaded-run}
+use Rattle.judging.specs.Rows.{ruleRow, rowOf, rowsFrom, needed, validBy}
+use Rattle.judging.proofs.RowLaws.{validates, initial-run}
 
 -- ---- a test of a callee's answer
 
@@ -36,18 +41,39 @@ module _ (x y z : ℕ) (b p : Bool) (e : b ≡ p) where
 
 -- ---- rows
 
-module _ (rules : List Rule) (l : Label) (s : List ℕ) (at : ℕ) where
-  pub row-none : 0 ≡ rowOf rules l s at 0
-  unfolding rowOf maskOf
+module _ (rule : Rule) (l : Label) (s : List ℕ) (at : ℕ) where
+  pub row-none : 0 ≡ ruleRow rule l s at 0
+  unfolding ruleRow maskOf
   row-none = refl
 
-  pub row-more : (mask next j : ℕ) (w : Write) → mask ≡ rowOf rules l s at j → w ≡ writeField s (at + 13 * j)
-      → next ≡ cond (dependsOn rules l (labelOf w)) (withBit mask j) mask → next ≡ rowOf rules l s at (j + 1)
-  unfolding rowOf maskOf
+  pub row-more : (mask next j : ℕ) (w : Write) → mask ≡ ruleRow rule l s at j → w ≡ writeField s (at + 13 * j)
+      → next ≡ cond (matches rule l (labelOf w)) (withBit mask j) mask → next ≡ ruleRow rule l s at (j + 1)
+  unfolding ruleRow maskOf
   row-more mask next j w e q h = h ∙ rw (add-one j, e, q)
 
-  pub row-all : (mask j n : ℕ) → j ≤ n → n ≤ j → mask ≡ rowOf rules l s at j → mask ≡ rowOf rules l s at n
+  pub row-all : (mask j n : ℕ) → j ≤ n → n ≤ j → mask ≡ ruleRow rule l s at j → mask ≡ ruleRow rule l s at n
   row-all mask j n h k e = let z : j ≡ n = omega arith in rw z at e
+
+  -- a rule of another name pairs nothing
+  pub row-other : (n : ℕ) → (l .name ≡ rule .first → ⊥) → 0 ≡ ruleRow rule l s at n
+  unfolding ruleRow matches
+  row-other n h = sym (mask-false _ n (λ j. rw (ne-eqb (l .name) (rule .first) h)))
+
+module _ (rules : Rules) (l : Label) (s : List ℕ) (at n : ℕ) where
+  pub rules-none : 0 ≡ rowOf (take 0 (rules .items)) l s at n
+  unfolding rowOf dependsOn any
+  rules-none = sym (mask-false _ n (λ j. refl))
+
+  pub rules-more : (mask r k : ℕ) → length (rules .items) ≡ 32 → rules .count ≤ 32 → k < rules .count → mask ≡ rowOf (take k (rules .items)) l s at n
+      → r ≡ ruleRow (itemAt rules k) l s at n → bitOr mask r ≡ rowOf (take (k + 1) (rules .items)) l s at n
+  unfolding rowOf ruleRow
+  rules-more mask r k all few h e q =
+      rw (e, q, add-one k)
+      (mask-or (λ j. dependsOn (take k (rules .items)) l (labelOf (writeField s (at + 13 * j)))) (λ j. matches (itemAt rules k) l (labelOf (writeField s (at + 13 * j)))) n
+      ∙ mask-ext _ _ n (λ j i. sym (depends-next rules l (labelOf (writeField s (at + 13 * j))) k (omega arith))))
+
+  pub rules-all : (mask k : ℕ) → k ≤ rules .count → rules .count ≤ k → mask ≡ rowOf (take k (rules .items)) l s at n → mask ≡ rowOf (rulesOf rules) l s at n
+  rules-all mask k h i e = let z : k ≡ rules .count = omega arith in rw z at e
 
 module _ (rules : List Rule) (s : List ℕ) (at n : ℕ) where
   pub rows-none : (rows : List ℕ) → take 0 rows ≡ rowsFrom rules s at n 0
@@ -64,41 +90,14 @@ module _ (rules : List Rule) (s : List ℕ) (at n : ℕ) where
 
 -- ---- validity
 
-pub covered-yes : (row s i : ℕ) (b : Bool) → b ≡ bit s i → b ≡ true → eqb (bitAnd row s) row ≡ covers row s i
-unfolding covers
-covered-yes row s i b e h = rw (sym e ∙ h)
-
-pub covered-no : (row s i : ℕ) (b : Bool) → b ≡ bit s i → b ≡ false → true ≡ covers row s i
-unfolding covers
-covered-no row s i b e h = rw (sym e ∙ h)
-
-module _ (rows : List ℕ) (n s : ℕ) where
-  pub valid-none : validBy rows 0 s ≡ true
-  unfolding validBy allBelow
-  valid-none = refl
-
-  pub valid-stop : (i : ℕ) (b : Bool) → i < n → b ≡ covers (getD rows i 0) s i → not b ≡ true → false ≡ validBy rows n s
-  unfolding validBy
-  valid-stop i b h e q = go (allBelow (λ k. covers (getD rows k 0) s k) n) refl
-    where
-      go : (t : Bool) → allBelow (λ k. covers (getD rows k 0) s k) n ≡ t → false ≡ t
-      go true p = sym (not-true b q) ∙ e ∙ allBelow-true (λ k. covers (getD rows k 0) s k) n p i h
-      go false p = refl
-
-  pub valid-more : (i : ℕ) (b : Bool) → validBy rows i s ≡ true → b ≡ covers (getD rows i 0) s i → not b ≡ false → validBy rows (i + 1) s ≡ true
-  unfolding validBy allBelow
-  valid-more i b p e q = rw (add-one i) (and-intro _ _ p (sym e ∙ not-false b q))
-
-  pub valid-all : (i : ℕ) → i ≤ n → n ≤ i → validBy rows i s ≡ true → true ≡ validBy rows n s
-  valid-all i h k p = let z : i ≡ n = omega arith in sym (rw z at p)
+pub valid-is : (low high : List ℕ) (s : ℕ) → eqb (bitAnd (bitOr (getD low (s % 64) 0) (getD high (s / 64 % 64) 0)) s) (bitOr (getD low (s % 64) 0) (getD high (s / 64 % 64) 0)) ≡ validBy low high s
+unfolding validBy needed partOf
+valid-is low high s = refl
 
 -- ---- disks
 
-pub initial-done : (s : List ℕ) (at n : ℕ) (r : List ℕ) → n ≤ 64 → r ≡ run (writesAt s at n) 18446744073709551615 (replicate 256 0) → r ≡ written (writesAt s at n) emptyDisk
+pub initial-done : (s : List ℕ) (at n : ℕ) (t r : List ℕ) → n ≤ 64 → Loads s at n t → r ≡ run (heldFrom t 0 n) 18446744073709551615 (replicate 256 0) → r ≡ written (writesAt s at n) emptyDisk
 unfolding emptyDisk
-initial-done s at n r h e = initial-run s at n (replicate 256 0) r h e
+initial-done s at n t r h l e = initial-run s at n (replicate 256 0) r h (e ∙ loaded-run s at n t 18446744073709551615 (replicate 256 0) l)
 
-pub left-consistent : (checks : List Check) (d e : List ℕ) (b : Bool) → d ≡ e → b ≡ consistent checks d → b ≡ consistent checks e
-left-consistent checks d e b q p = rw (← q) p
-
-pub ruleset steps = (needs, answered-yes, answered-no, row-none, row-more, row-all, rows-none, rows-more, rows-all, covered-yes, covered-no, valid-none, valid-stop, valid-more, valid-all, initial-done, left-consistent)
+pub ruleset steps = (needs, length-mapped, answered-yes, answered-no, row-none, row-more, row-all, row-other, rules-none, rules-more, rules-all, rows-none, rows-more, rows-all, validates, valid-is, initial-done)

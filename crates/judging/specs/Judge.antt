@@ -1,13 +1,18 @@
 -- Judging one test of a file.
 use Prim.Native.Nat.{ℕ, _+_, _-_, _*_, _≤_, _<_}
 use mathlib.Core.Path.{_≡_}
-use mathlib.Core.Bool.{Bool, true, false, cond, _&&_}
+use mathlib.Core.Logic.{_⊎_}
+use mathlib.Core.Bool.{Bool, true, false, cond, not, _&&_}
 use mathlib.Core.List.{List}
 use lib.Dec.{leb}
 use lib.ListN.{length}
 use Rattle.model.specs.declared.Rule.{Rule}
+use Rattle.model.specs.declared.Write.{Write}
+use Rattle.model.specs.declared.Check.{Check}
 use Rattle.model.specs.Answer.{Outcome, answer, refused}
 use Rattle.model.specs.Cyclic.{cyclic}
+use Rattle.model.specs.Schedule.{run}
+use Rattle.model.specs.Check.{consistent}
 use Rattle.model.specs.Test.{Test, File, TestHolds, Bad, countBelow, validCount, badCount}
 use Rattle.reader.specs.File.{readOf}
 use Rattle.reader.specs.declared.Extent.{Extent}
@@ -93,14 +98,12 @@ unfoldable pub Finds : (ℕ → Bool) → ℕ → Verdict → Type 0
 Finds p n Holds = (s : ℕ) → s < n → p s ≡ false
 Finds p n (Fails s) = (s < n) × (p s ≡ true)
 
--- one more schedule in the counts
-unfoldable pub tallied : Judgement → ℕ → Bool → Bool → Judgement
-tallied j s v c =
-    cond v
-    (cond c
+-- one more valid schedule in the counts, which leaves a consistent disk or not
+unfoldable pub tallied : Judgement → ℕ → Bool → Judgement
+tallied j s c =
+    cond c
     (record { valid = j .valid + 1; bad = j .bad; shown = j .shown })
-    (record { valid = j .valid + 1; bad = j .bad + 1; shown = s }))
-    j
+    (record { valid = j .valid + 1; bad = j .bad + 1; shown = s })
 
 -- the counts over the schedules below n
 pub record Tallies (v b : ℕ → Bool) (n : ℕ) (j : Judgement) : Type 0 where
@@ -108,3 +111,19 @@ pub record Tallies (v b : ℕ → Bool) (n : ℕ) (j : Judgement) : Type 0 where
   pub bad : j .bad ≡ countBelow b n
   pub shown : (j .bad ≡ 0 → ⊥) → (j .shown < n) × (b (j .shown) ≡ true)
   pub none : j .bad ≡ 0 → j .shown ≡ 0
+
+-- a test of the schedules that begin with x, of the writes that have `rows` schedules
+unfoldable pub after : (ℕ → Bool) → ℕ → ℕ → ℕ → Bool
+after p x rows y = p (x + rows * y)
+
+-- such a schedule is bad: mid is the disk that x leaves, ws are the writes behind
+unfoldable pub badAfter : (ℕ → Bool) → ℕ → ℕ → List ℕ → List Write → List Check → ℕ → Bool
+badAfter v x rows mid ws checks y = after v x rows y && not (consistent checks (run ws y mid))
+
+-- the counts with n of those schedules in them
+pub record Gains (v b : ℕ → Bool) (x rows n : ℕ) (old new : Judgement) : Type 0 where
+  pub valid : new .valid ≡ old .valid + countBelow v n
+  pub bad : new .bad ≡ old .bad + countBelow b n
+  pub shown : (new .bad ≡ 0 → ⊥)
+      → ((old .bad ≡ 0 → ⊥) × (new .shown ≡ old .shown)) ⊎ ((y : ℕ) × (y < n) × (b y ≡ true) × (new .shown ≡ x + rows * y))
+  pub none : (old .bad ≡ 0 → old .shown ≡ 0) → new .bad ≡ 0 → new .shown ≡ 0

@@ -1,21 +1,26 @@
 -- Dependencies as masks: the dependencies of each write of a trace, computed once.
-use Prim.Native.Nat.{ℕ, _+_, _*_}
-use mathlib.Core.Bool.{Bool, cond, not, _&&_, _||_}
+use Prim.Native.Nat.{ℕ, _+_, _*_, _/_, _%_, _^_, _<_}
+use mathlib.Core.Path.{_≡_}
+use mathlib.Core.Bool.{Bool, not, _&&_}
 use mathlib.Core.List.{List}
-use lib.Bits.{bitAnd}
-use lib.Dec.{eqb}
+use lib.Bits.{bitOr}
 use lib.ListN.{getD}
-use Rattle.relation.specs.Bits.{bit, maskOf}
-use Rattle.relation.specs.Lists.{allBelow, tabulate}
+use Rattle.relation.specs.Bits.{maskOf}
+use Rattle.relation.specs.Lists.{tabulate}
+use Rattle.relation.specs.Union.{partOf}
 use Rattle.model.specs.declared.Rule.{Rule}
 use Rattle.model.specs.declared.Write.{Write}
 use Rattle.model.specs.declared.Check.{Check}
-use Rattle.model.specs.Rules.{Label, labelOf, dependsOn}
-use Rattle.model.specs.Schedule.{run}
+use Rattle.model.specs.Rules.{Label, labelOf, matches, dependsOn}
+use Rattle.model.specs.Schedule.{run, valid}
 use Rattle.model.specs.Check.{consistent}
 use Rattle.reader.specs.Scan.{writeField}
 
--- which of the n writes from a place on a label depends on
+-- which of the n writes from a place on a rule pairs with a label
+unfoldable pub ruleRow : Rule → Label → List ℕ → ℕ → ℕ → ℕ
+ruleRow rule l s at n = maskOf (λ j. matches rule l (labelOf (writeField s (at + 13 * j)))) n
+
+-- which of them a label depends on
 unfoldable pub rowOf : List Rule → Label → List ℕ → ℕ → ℕ → ℕ
 rowOf rules l s at n = maskOf (λ j. dependsOn rules l (labelOf (writeField s (at + 13 * j)))) n
 
@@ -23,14 +28,18 @@ rowOf rules l s at n = maskOf (λ j. dependsOn rules l (labelOf (writeField s (a
 unfoldable pub rowsFrom : List Rule → List ℕ → ℕ → ℕ → ℕ → List ℕ
 rowsFrom rules s at n k = tabulate (λ i. rowOf rules (labelOf (writeField s (at + 13 * i))) s at n) k
 
--- write i of schedule s, if flagged, has all of a row flagged
-unfoldable pub covers : ℕ → ℕ → ℕ → Bool
-covers row s i = not (bit s i) || eqb (bitAnd row s) row
+-- all that the flagged writes of a schedule depend on, by the unions of the first six rows and of the next six
+unfoldable pub needed : List ℕ → List ℕ → ℕ → ℕ
+needed low high s = bitOr (getD low (s % 64) 0) (getD high (s / 64 % 64) 0)
 
--- a schedule of n writes is valid by a table of rows
-unfoldable pub validBy : List ℕ → ℕ → ℕ → Bool
-validBy rows n s = allBelow (λ i. covers (getD rows i 0) s i) n
+-- a schedule is valid by these unions: all of it is flagged
+unfoldable pub validBy : List ℕ → List ℕ → ℕ → Bool
+validBy low high s = partOf (needed low high s) s
 
--- a schedule is bad by a table of rows
-unfoldable pub badBy : List ℕ → ℕ → List ℕ → List Write → List Check → ℕ → Bool
-badBy rows n base ws checks s = validBy rows n s && not (consistent checks (run ws s base))
+-- a schedule is bad by these unions
+unfoldable pub badBy : List ℕ → List ℕ → List ℕ → List Write → List Check → ℕ → Bool
+badBy low high base ws checks s = validBy low high s && not (consistent checks (run ws s base))
+
+-- the unions decide which schedules of n writes are valid
+unfoldable pub Validates : List Rule → List Write → ℕ → List ℕ → List ℕ → Type 0
+Validates rules ws n low high = (s : ℕ) → s < 2 ^ n → validBy low high s ≡ valid rules ws s

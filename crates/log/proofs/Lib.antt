@@ -1,2 +1,3 @@
 pub mod GetLaws
 pub mod Steps
+pub mod Theorems

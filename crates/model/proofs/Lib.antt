@@ -2,3 +2,4 @@ pub mod RuleLaws
 pub mod ScheduleLaws
 pub mod CheckLaws
 pub mod TestLaws
+pub mod Theorems

@@ -102,3 +102,12 @@ pub count-ext : (p q : ℕ → Bool) (n : ℕ) → ((s : ℕ) → s < n → p s 
 unfolding countBelow
 count-ext p q zero h = refl
 count-ext p q (suc n) h = rw (h n (omega arith), count-ext p q n (λ s l. h s (omega arith)))
+
+pub count-most : (p : ℕ → Bool) (n : ℕ) → countBelow p n ≤ n
+unfolding countBelow
+count-most p zero = omega arith
+count-most p (suc n) = go (p n) (count-most p n)
+  where
+    go : (b : Bool) → countBelow p n ≤ n → cond b 1 0 + countBelow p n ≤ suc n
+    go true h = omega arith
+    go false h = omega arith

@@ -6,3 +6,4 @@ pub mod Check
 pub mod Test
 pub mod Answer
 pub mod Find
+pub mod Theorem

@@ -1,26 +1,25 @@
 -- What is read is within the limits, and a file longer than any accepted one is refused as its first bytes are:
 -- the fields read so far bound the place, so that neither reading reaches its end.
-use mathlib.Core.Path.{_≡_, refl, sym, ap, _∙_}
-use mathlib.Core.Logic.{_≢_, _⊎_, inl, inr, ⊎-elim}
-use mathlib.Core.Bool.{Bool, true, false, cond, not, false≢true}
-use mathlib.Core.List.{List, [], _∷_, _++_, List·Memᴰ, List·Memᴰ·not-nil, List·Memᴰ·append-cases, List·Memᴰ·eq-of-singleton}
-use Prim.Native.Nat.{ℕ, zero, suc, _+_, _-_, _*_, _≤_, _<_}
+use mathlib.Core.Path.{_≡_, refl}
+use mathlib.Core.Logic.{_≢_, ⊎-elim}
+use mathlib.Core.Bool.{Bool, true, false, cond, not}
+use mathlib.Core.List.{List, [], _∷_, List·Memᴰ, List·Memᴰ·not-nil, List·Memᴰ·append-cases, List·Memᴰ·eq-of-singleton}
+use Prim.Native.Nat.{ℕ, zero, suc, _+_, _-_, _≤_, _<_}
 use native.Mathlib.Omega.{arith}
-use lib.ListN.{length, getD, take, drop}
-use lib.Seq.{getD-take, take-take, take-nil, drop-nil, length-take-le}
-use lib.Dec.{eqb, ltb, lit<}
+use lib.ListN.{length, take, drop}
+use lib.Seq.{getD-take, take-take, length-take-le}
+use lib.Dec.{eqb, ltb}
 use borrow.Author.Needs.{needs}
-use borrow.Author.Tests.{eq-eqb, ne-eqb, lt-ltb, le-ltb, ltb-true, ltb-false, eqb-true, eqb-false}
-use Rattle.model.specs.declared.Rule.{Rule}
+use borrow.Author.Tests.{lt-ltb, le-ltb, ltb-true, ltb-false, eqb-true, eqb-false}
 use Rattle.model.specs.Rules.{Known}
-use Rattle.model.specs.Test.{Test, test, File, file}
+use Rattle.model.specs.Test.{Test, file}
 use Rattle.reader.specs.declared.Counts.{Counts}
-use Rattle.model.specs.Answer.{Outcome, answer, refused}
+use Rattle.model.specs.Answer.{answer, refused}
 use Rattle.reader.specs.Bytes.{byte, half}
-use Rattle.reader.specs.File.{isTag, isCheck, bodyLength, outOfOrder, overLimit, ruleFault, bodyFault, faultOf, bodyAt, fieldEnd, ruleOf, Progress, progress, countsOf, grown, finished, readFrom, readOf, nothing}
-use Rattle.reader.specs.Scan.{counted}
-use Rattle.reader.specs.Limits.{Within, longest, longestField, TestLimits, FileLimits, Limited}
-use Rattle.reader.proofs.LimitLaws.{Clean, clean, clean-fits, by-tag, within-counted, spread, spread-counted, spread-longest}
+use Rattle.reader.specs.File.{isTag, bodyLength, outOfOrder, overLimit, ruleFault, bodyFault, faultOf, bodyAt, fieldEnd, ruleOf, Progress, countsOf, grown, finished, readFrom, readOf, nothing}
+use Rattle.reader.specs.Limits.{Within, longest, longestField, TestLimits, Limited}
+use Rattle.reader.specs.Theorem.{WithinLimits, PrefixEnough}
+use Rattle.reader.proofs.LimitLaws.{Clean, clean, by-tag, within-counted, spread, spread-counted, spread-longest}
 use Rattle.reader.proofs.TellsLaws.{counts-grown}
 
 -- ---- one field
@@ -139,8 +138,7 @@ limited-from : (f : ℕ) (s : List ℕ) (at : ℕ) (p : Progress) → Reads at p
 limited-from zero s at p r h = limited-step zero s at p r (λ lt k. absurd (omega arith))
 limited-from (suc f) s at p r h = limited-step (suc f) s at p r (λ lt k. limited-from f s (fieldEnd s at) (grown (byte s at) (bodyAt s at) p) (reads-on s at p r k) (omega arith))
 
--- a file's rules and tests are within the limits, and its refusal has a number from 1 to 7
-pub limited : (s : List ℕ) → Limited s (readOf s)
+pub limited : WithinLimits
 unfolding readOf
 limited s = limited-from (length s) s 0 nothing reads-start (omega arith)
 
@@ -195,8 +193,7 @@ prefix-from (suc f) (suc g) s n at p h le r a b =
         rw (part-of-prefix (at + 3) (bodyLength (byte s at)) n s (omega arith)) (ih k)
     go false e ih = refl
 
--- reading a long enough prefix of an over-long file gives what reading all of it gives
-pub prefix : (s : List ℕ) (n : ℕ) → longest + longestField ≤ n → n ≤ length s → readOf (take n s) ≡ readOf s
+pub prefix : PrefixEnough
 unfolding readOf
 prefix s n h le =
     rw (length-take-le n s le)

@@ -1,18 +1,18 @@
 -- The scan and the reading go in step: the places that the scan keeps are those of the lists that the reading keeps.
 use mathlib.Core.Path.{_≡_, refl, sym, ap, _∙_}
-use mathlib.Core.Logic.{_⊎_, inl, inr, ⊎-elim}
+use mathlib.Core.Logic.{⊎-elim}
 use mathlib.Core.Bool.{Bool, true, false, cond, _||_, false≢true, true≢false}
 use mathlib.Core.List.{List, [], _∷_, _++_}
-use Prim.Native.Nat.{ℕ, zero, suc, _+_, _-_, _*_, _≤_, _<_}
+use Prim.Native.Nat.{ℕ, zero, suc, _+_, _*_, _≤_, _<_}
 use native.Mathlib.Numerals.{add-one}
 use native.Mathlib.Nat.{eq-or-lt-of-le}
 use native.Mathlib.Omega.{arith}
 use lib.ListN.{length, getD, take, drop, length-append, List·getD-append}
 use lib.Seq.{getD-at}
 use lib.Dec.{eqb, ltb}
-use borrow.Author.Tests.{eq-eqb, ne-eqb, ltb-false, eqb-true, eqb-false}
+use borrow.Author.Tests.{ltb-false, eqb-true, eqb-false}
 use Rattle.relation.specs.Lists.{tabulate}
-use Rattle.model.specs.Test.{Test, test, File, file}
+use Rattle.model.specs.Test.{test, file}
 use Rattle.reader.specs.declared.Counts.{Counts}
 use Rattle.reader.specs.declared.Extent.{Extent}
 use Rattle.reader.specs.declared.ScanState.{ScanState}
@@ -21,10 +21,11 @@ use Rattle.reader.specs.declared.Scan.the-variants.{Accepted, Refused}
 use Rattle.model.specs.Answer.{answer, refused}
 use Rattle.reader.specs.Bytes.{byte}
 use Rattle.reader.specs.File.{isTag, isCheck, bodyLength, outOfOrder, faultOf, bodyAt, fieldEnd, ruleOf, writeOf, checkOf, Progress, progress, countsOf, grown, finished, readFrom, readOf, nothing}
-use Rattle.reader.specs.Scan.{ruleField, writeField, checkField, rulesAt, writesAt, checkPlace, checksAt, checksPlace, testAt, extent, counts, counted, testFrom, found, advanced, ended, scanFrom, started, scanOf}
-use Rattle.reader.specs.Held.{Inside, noTest, testOf, Tells}
+use Rattle.reader.specs.Scan.{ruleField, writeField, checkField, rulesAt, writesAt, checkPlace, checksAt, testAt, extent, counts, counted, testFrom, found, advanced, ended, scanFrom, started, scanOf}
+use Rattle.reader.specs.Held.{Inside, noTest, Tells}
 use Rattle.reader.specs.Limits.{Within}
-use Rattle.reader.proofs.LimitLaws.{Clean, clean, clean-fits, by-tag, within-counted}
+use Rattle.reader.specs.Theorem.{Told}
+use Rattle.reader.proofs.LimitLaws.{clean, clean-fits, by-tag, within-counted}
 
 -- the extent of the test in hand
 abbrev inHand : ScanState → Extent
@@ -281,8 +282,7 @@ tells-from (suc f) s wanted at p st t =
     go true true e ih = ih (eqb-true _ _ e)
     go true false e ih = unfold Tells in refl
 
--- the scan tells what the file holds
-pub tells : (s : List ℕ) (wanted : ℕ) → Tells s wanted (readOf s) (scanOf s wanted)
+pub tells : Told
 unfolding readOf scanOf
 tells s wanted = tells-from (suc (length s)) s wanted 0 nothing started (tracks-start s wanted)
 

@@ -4,3 +4,4 @@ pub mod Limits
 pub mod Scan
 pub mod Held
 pub mod Encode
+pub mod Theorem

@@ -1,14 +1,13 @@
 -- The limits of a file, and the longest file within them.
 use Prim.Native.Nat.{ℕ, _+_, _*_, _≤_, _<_}
 use mathlib.Core.Path.{_≡_}
-use mathlib.Core.Bool.{Bool, true, false}
+use mathlib.Core.Bool.{true, false}
 use mathlib.Core.List.{List, List·Memᴰ}
 use lib.ListN.{length}
 use Rattle.model.specs.Rules.{Known}
 use Rattle.model.specs.Test.{Test, File}
 use Rattle.reader.specs.declared.Counts.{Counts}
 use Rattle.model.specs.Answer.{Outcome, answer, refused}
-use Rattle.reader.specs.File.{}
 
 -- counts that a file read without refusal can have
 pub record Within (c : Counts) : Type 0 where

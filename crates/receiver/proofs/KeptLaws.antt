@@ -14,7 +14,7 @@ use Rattle.cache.specs.Needs.{needsRing}
 use Rattle.cache.specs.State.{acceptedCount, rulesIn, writesIn, storedIn}
 use Rattle.cache.specs.Sound.{sound}
 use Rattle.cache.specs.Calls.{Left, late, openWith, openOf, handInOf}
-use Rattle.receiver.specs.Given.{out, codedLeft, codedKept}
+use Rattle.storing.specs.Given.{out, codedLeft, codedKept}
 
 -- answer and state are those with no disk, and the disk is as it was
 abbrev pub Apart : (List ℕ → Left) → Type 0

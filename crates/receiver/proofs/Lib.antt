@@ -1,4 +1,1 @@
-pub mod Steps
-pub mod HandSteps
-pub mod OpenSteps
 pub mod KeptLaws

@@ -1,14 +1,14 @@
 -- The bits of a number: of `bitOr`, `bitAnd`, `withBit` and `maskOf`, and that a number is known by its bits. By halving.
-use mathlib.Core.Path.{_≡_, refl, sym, ap, ap₂, _∙_}
+use mathlib.Core.Path.{_≡_, refl, sym, ap, ap₂, subst, _∙_}
 use mathlib.Core.Logic.{_⊎_, inl, inr}
 use mathlib.Core.Bool.{Bool, true, false, cond, and-true, and-false, or-false, _&&_, _||_}
-use Prim.Native.Nat.{ℕ, zero, suc, _+_, _*_, _/_, _%_, _^_, _<_, max}
+use Prim.Native.Nat.{ℕ, zero, suc, _+_, _-_, _*_, _/_, _%_, _^_, _<_, max}
 use native.Mathlib.Nat.{zero-div, div-one, mul-mod-left, one-mul, add-zero, add-mul, mod-lt, pow-suc}
 use native.Mathlib.Numerals.{add-one, one-add}
 use native.Mathlib.Omega.{arith}
 use lib.Dec.{eqb, ltb, leb·suc-zero, lit<, eqb·suc-zero, eqb·zero-suc, eqb·suc-suc}
 use lib.Bits.{bitOr, bitAnd, or-block, or-step, or-zero-r, or-shr, or-mod, or-lt, and-mask, and-shr, and-mod}
-use lib.Pow.{shl-exact, split, pow-pos, pow-lt, shr-lt, shr-shr, shl-shr}
+use lib.Pow.{shl-exact, split, pow-pos, pow-lt, shr-lt, shr-shr, shl-shr, field, mod-mod-pow}
 use borrow.Author.Tests.{eqb-true, eqb-false, ltb-true, lt-ltb, le-ltb}
 use Rattle.relation.specs.Bits.{bit, withBit, maskOf}
 use Rattle.relation.proofs.ListLaws.{bool-equal}
@@ -160,3 +160,22 @@ bits-equal (suc k) a b ha hb same =
     (λ j l. sym (bit-suc a j) ∙ same (suc j) (omega arith) ∙ bit-suc b j) in
     let lowest : a % 2 ≡ b % 2 = digit a ∙ ap (λ (t : Bool). cond t 1 0) (same 0 (omega arith)) ∙ sym (digit b) in
     omega arith
+
+-- ---- parts of a number
+
+-- the bits above the lowest k
+pub bit-shift : (n k i : ℕ) → bit (n / 2 ^ k) i ≡ bit n (k + i)
+unfolding bit
+bit-shift n k i = rw (shr-shr n k i)
+
+-- the lowest bits
+bit-low : (n j i : ℕ) → bit (n % 2 ^ (suc j + i)) i ≡ bit n i
+unfolding bit
+bit-low n j i =
+    let same : n / 2 ^ i % 2 ^ suc j % 2 ≡ n / 2 ^ i % 2 = rw (← add-one j) (mod-mod-pow (n / 2 ^ i) j 1) in
+    ap (λ (m : ℕ). eqb m 1) (ap (λ (m : ℕ). m % 2) (field n (suc j) i) ∙ same)
+
+pub bit-mod : (n k i : ℕ) → i < k → bit (n % 2 ^ k) i ≡ bit n i
+bit-mod n k i h =
+    let z : suc (k - suc i) + i ≡ k = omega arith in
+    subst (λ (m : ℕ). bit (n % 2 ^ m) i ≡ bit n i) z (bit-low n (k - suc i) i)

@@ -5,3 +5,5 @@ pub mod FiniteLaws
 pub mod Steps
 pub mod Cases
 pub mod MaskLaws
+pub mod UnionLaws
+pub mod WithoutLaws

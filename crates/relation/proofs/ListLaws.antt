@@ -1,10 +1,10 @@
 -- What `anyBelow`, `allBelow`, `any`, `all` and `tabulate` say of the numbers below a bound and of a list's members. By induction on either.
 use mathlib.Core.Path.{_≡_, refl, sym, ap, _∙_}
 use mathlib.Core.Logic.{_⊎_, inl, inr, ⊎-elim}
-use mathlib.Core.Bool.{Bool, true, false, true≢false, false≢true, _&&_, _||_, or-assoc, and-assoc}
+use mathlib.Core.Bool.{Bool, true, false, true≢false, false≢true, _&&_, _||_, or-assoc, and-assoc, and-true}
 use mathlib.Core.List.{List, [], _∷_, _++_, List·Memᴰ, List·Memᴰ·head, List·Memᴰ·tail}
-use Prim.Native.Nat.{ℕ, zero, suc, _<_}
-use native.Mathlib.Nat.{eq-or-lt-of-le}
+use Prim.Native.Nat.{ℕ, zero, suc, _+_, _<_}
+use native.Mathlib.Nat.{eq-or-lt-of-le, add-zero, add-suc}
 use native.Mathlib.Omega.{arith}
 use lib.ListN.{length, getD, length-append, List·getD-append}
 use lib.Seq.{getD-at}
@@ -100,6 +100,13 @@ pub allBelow-ext : (p q : ℕ → Bool) (n : ℕ) → ((k : ℕ) → k < n → p
 unfolding allBelow
 allBelow-ext p q zero h = refl
 allBelow-ext p q (suc n) h = rw (allBelow-ext p q n (λ k l. h k (omega arith)), h n (omega arith))
+
+-- the numbers below a, and the b from a on
+pub allBelow-split : (p : ℕ → Bool) (a b : ℕ) → allBelow p (a + b) ≡ allBelow p a && allBelow (λ i. p (a + i)) b
+unfolding allBelow
+allBelow-split p a zero = rw (add-zero a) (sym (and-true (allBelow p a)))
+allBelow-split p a (suc b) =
+    rw (add-suc a b, allBelow-split p a b) (and-assoc (allBelow p a) (allBelow (λ i. p (a + i)) b) (p (a + b)))
 
 module _ {A : Type 0} where
   pub length-tabulate : (f : ℕ → A) (n : ℕ) → length (tabulate f n) ≡ n

@@ -1,15 +1,16 @@
--- A mask is part of a number exactly if each of its members is one of the number's.
+-- Masks as sets: part of, union, intersection. A number is known by its bits.
 use mathlib.Core.Path.{_≡_, sym, ap, _∙_}
-use mathlib.Core.Bool.{Bool, true, false, not, _||_, false≢true}
+use mathlib.Core.Bool.{Bool, true, false, not, _&&_, _||_, false≢true}
 use mathlib.Core.Path.{refl}
-use Prim.Native.Nat.{ℕ, _^_, _<_}
-use native.Mathlib.Nat.{lt-of-le-of-lt}
-use lib.Bits.{bitAnd, and-le-l}
+use Prim.Native.Nat.{ℕ, zero, suc, _^_, _≤_, _<_}
+use native.Mathlib.Nat.{lt-of-le-of-lt, lt-of-lt-of-le}
+use lib.Bits.{bitAnd, bitOr, and-le-l, or-lt}
+use lib.Pow.{pow-mono}
 use lib.Dec.{eqb, ltb}
 use borrow.Author.Tests.{eqb-true, eq-eqb, lt-ltb}
-use Rattle.relation.specs.Bits.{bit, maskOf}
+use Rattle.relation.specs.Bits.{bit, withBit, maskOf}
 use Rattle.relation.specs.Lists.{allBelow}
-use Rattle.relation.proofs.BitLaws.{bit-and, bit-mask, mask-below, bits-equal}
+use Rattle.relation.proofs.BitLaws.{bit-and, bit-or, bit-with, with-below, bit-mask, mask-below, bits-equal}
 use Rattle.relation.proofs.ListLaws.{and-left, and-right, and-intro, bool-equal, allBelow-true, allBelow-intro}
 
 -- `not a || b` is an implication
@@ -37,3 +38,34 @@ mask-part p n s = bool-equal _ _ there back
         (λ j h. bit-and (maskOf p n) s j
         ∙ bool-equal _ _ (λ q. and-left (bit (maskOf p n) j) (bit s j) q)
         (λ q. and-intro (bit (maskOf p n) j) (bit s j) q (implies (p j) (bit s j) (allBelow-true _ n a j h) (and-right (ltb j n) (p j) (sym (bit-mask p n j) ∙ q))))))
+
+pub mask-false : (p : ℕ → Bool) (n : ℕ) → ((j : ℕ) → p j ≡ false) → maskOf p n ≡ 0
+unfolding maskOf
+mask-false p zero h = refl
+mask-false p (suc n) h = rw (h n) (mask-false p n h)
+
+pub mask-none : (n : ℕ) → 0 ≡ maskOf (λ j. false) n
+mask-none n = sym (mask-false (λ j. false) n (λ j. refl))
+
+module _ (p q : ℕ → Bool) (n : ℕ) where
+  pub mask-or : bitOr (maskOf p n) (maskOf q n) ≡ maskOf (λ j. p j || q j) n
+  mask-or =
+      bits-equal n _ _ (or-lt n (maskOf p n) (maskOf q n) (mask-below p n) (mask-below q n)) (mask-below (λ j. p j || q j) n)
+      (λ j h. bit-or (maskOf p n) (maskOf q n) j ∙ rw (bit-mask p n j, bit-mask q n j, bit-mask (λ j. p j || q j) n j, lt-ltb j n h))
+
+  pub mask-and : bitAnd (maskOf p n) (maskOf q n) ≡ maskOf (λ j. p j && q j) n
+  mask-and =
+      bits-equal n _ _ (lt-of-le-of-lt (and-le-l (maskOf p n) (maskOf q n)) (mask-below p n)) (mask-below (λ j. p j && q j) n)
+      (λ j h. bit-and (maskOf p n) (maskOf q n) j ∙ rw (bit-mask p n j, bit-mask q n j, bit-mask (λ j. p j && q j) n j, lt-ltb j n h))
+
+-- a mask of numbers below k, as one of numbers below n
+pub mask-short : (p : ℕ → Bool) (k n : ℕ) → k ≤ n → maskOf p k ≡ maskOf (λ j. ltb j k && p j) n
+mask-short p k n l =
+    bits-equal n _ _ (lt-of-lt-of-le (mask-below p k) (pow-mono l)) (mask-below (λ j. ltb j k && p j) n)
+    (λ j h. bit-mask p k j ∙ rw (bit-mask (λ j. ltb j k && p j) n j, lt-ltb j n h))
+
+-- a mask with one number more
+pub mask-with : (p : ℕ → Bool) (n i : ℕ) → i < n → withBit (maskOf p n) i ≡ maskOf (λ j. p j || eqb j i) n
+mask-with p n i h =
+    bits-equal n _ _ (with-below (maskOf p n) i n (mask-below p n) h) (mask-below (λ j. p j || eqb j i) n)
+    (λ j l. bit-with (maskOf p n) i j ∙ rw (bit-mask p n j, bit-mask (λ j. p j || eqb j i) n j, lt-ltb j n l))

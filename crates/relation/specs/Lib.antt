@@ -2,3 +2,4 @@ pub mod Bits
 pub mod Lists
 pub mod Transitive
 pub mod Finite
+pub mod Union

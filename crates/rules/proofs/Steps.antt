@@ -84,7 +84,7 @@ module _ (rules : Rules) (l m : Label) where
   depends-begun = refl
 
   -- one rule more
-  depends-next : (i : ℕ) → i < length (rules .items)
+  pub depends-next : (i : ℕ) → i < length (rules .items)
       → dependsOn (take (suc i) (rules .items)) l m ≡ dependsOn (take i (rules .items)) l m || matches (itemAt rules i) l m
   unfolding dependsOn any
   depends-next i h =

@@ -2,5 +2,7 @@ pub mod LayoutLaws
 pub mod BookLaws
 pub mod DiskLaws
 pub mod StepLaws
+pub mod CallLaws
+pub mod MomentLaws
 pub mod RunLaws
 pub mod Examples

@@ -1,43 +1,51 @@
 -- Demand 3: each call of a run keeps the state and the disk those of the book, so every moment is safe and every call gives what the book says.
 use mathlib.Core.Path.{_≡_, refl, sym, ap, subst, _∙_}
-use mathlib.Core.Logic.{_≢_, _⊎_, inl, inr, ⊎-elim}
-use mathlib.Core.Bool.{Bool, true, false, cond, not, false≢true, true≢false}
+use mathlib.Core.Logic.{_⊎_, inl, inr, ⊎-elim, ⊎-map}
+use mathlib.Core.Bool.{Bool, true, false, cond, not, false≢true}
 use mathlib.Core.List.{List, [], _∷_, _++_, List·Memᴰ, List·Memᴰ·head, List·Memᴰ·tail, List·Memᴰ·not-nil, List·Memᴰ·cases-cons, List·Memᴰ·append-cases}
-use Prim.Native.Nat.{ℕ, zero, suc, _+_, _-_, _≤_, _<_}
+use Prim.{tt}
+use Prim.Native.Nat.{ℕ, zero, suc, _+_, _≤_, _<_}
 use native.Mathlib.Decide.{ℕ-discrete, decLt}
 use native.Mathlib.Numerals.{add-one}
 use native.Mathlib.Omega.{arith}
 use lib.Dec.{eqb, leb, ltb}
-use lib.ListN.{length, getD}
-use borrow.Author.Tests.{eq-eqb, ne-eqb, leb-true, leb-false, ltb-true, ltb-false, eqb-true, eqb-false, not-false, not-true}
+use lib.ListN.{length}
+use borrow.Author.Tests.{eq-eqb, leb-true, leb-false, ltb-true, ltb-false, le-leb, lt-leb, lt-ltb, le-ltb, not-false}
 use Rattle.relation.specs.Lists.{tabulate}
 use Rattle.relation.proofs.ListLaws.{mem-index, length-tabulate, getD-tabulate}
 use Rattle.relation.specs.Transitive.{Plus}
 use Rattle.model.specs.declared.Write.{Write}
 use Rattle.model.specs.declared.Rule.{Rule}
 use Rattle.model.specs.Answer.{Outcome, answer, refused}
-use Rattle.model.specs.Cyclic.{Cyclic, cyclic}
-use Rattle.model.specs.Test.{File, countBelow}
+use Rattle.model.specs.Cyclic.{cyclic}
+use Rattle.model.specs.Test.{File}
 use Rattle.model.proofs.TestLaws.{count-none, none-count}
 use Rattle.reader.specs.File.{readOf}
 use Rattle.reader.specs.Encode.{WriteFits}
 use Rattle.reader.proofs.CallerLaws.{holding-limits}
-use Rattle.rules.proofs.CyclicLaws.{true-cyclic}
+use Rattle.rules.proofs.CyclicLaws.{true-cyclic, cyclic-true}
 use Rattle.cache.specs.Needs.{Needs, NeedsRing, Earliest, needsRing, ready}
 use Rattle.cache.specs.State as State
-use Rattle.cache.specs.State.{stateSize, rulesIn, writesIn, storedIn, acceptedCount, handed, storedOn}
-use Rattle.cache.specs.Sound.{Sound, sound}
-use Rattle.cache.specs.Calls.{Held, Left, left, Late, late, openWith, openOf, handInOf, checked, stepped as stepOn, stepOf, waiting, stepsOf, drained as drainOn, drainOf}
+use Rattle.cache.specs.State.{stateSize, storedIn, handed, storedOn}
+use Rattle.cache.specs.Sound.{sound}
+use Rattle.cache.specs.Calls.{Left, left, Late, late, openWith, openOf, handInOf, checked, stepped as stepOn, stepOf, waiting, drained as drainOn, drainOf}
 use Rattle.cache.proofs.NeedsLaws.{late-true, true-late, needsRing-true, true-needsRing}
-use Rattle.soundness.proofs.SoundLaws.{sound-true, true-sound}
-use Rattle.runs.specs.Book.{Book, accepted, flagAt, waitingIn, appended, flagging, stepped, steppedBy, applied, Event, opened, handedIn, stepMade, drainMade, entered, noted}
-use Rattle.runs.specs.Run.{Call, opening, handIn, step, drain, Lent, own, other, Wrong, Unsound, Own, Listed, lentTo, keptBy, stateLent, diskLent, called, kept, eventOf, isRefused, next, within, Moment, moments}
-use Rattle.runs.specs.Theorem.{Safe, WrongLength, UnsoundLent, Gives, wrong-length, unsound, full, ring, taken, stored, idle, unopened, Answers, Made, now, later, begun, Demand3}
+use Rattle.soundness.proofs.SoundLaws.{true-sound}
+use Rattle.runs.specs.Book.{Book, accepted, flagAt, waitingIn, appended, flagging, stepped, steppedBy, applied, opened, entered, noted}
+use Rattle.runs.specs.Run.{Call, opening, handIn, step, drain, Lent, own, other, Wrong, Unsound, Own, Listed, lentTo, keptBy, stateLent, diskLent, called, kept, isRefused, next, steps, within, Moment, moments}
+use Rattle.runs.specs.Theorem.{Safe, WrongLength, UnsoundLent, Gives, wrong-length, unsound, full, ring, taken, stored, idle, unread, with-tests, with-cycle, Answers, Made, now, later, inside, begun, Demand3}
 use Rattle.runs.specs.Theorem as Theorem
 use Rattle.runs.proofs.LayoutLaws.{stateOf, length-state, state-rules, state-writes, state-accepted, state-flags, handed-state, opened-state, length-flagging, flag-here, flag-else, count-one-more}
 use Rattle.runs.proofs.BookLaws.{Fine, length-accepted, needs-left, ready-earliest, none-ready, fine-stepped, fine-appended, fine-sound}
 use Rattle.runs.proofs.DiskLaws.{valid-book, consistent-left, length-applied}
-use Rattle.runs.proofs.StepLaws.{late-ext, carried, step-book, fine-steps, steps-book, waiting-book, drain-book}
+use Rattle.runs.proofs.MomentLaws.{into}
+use Rattle.runs.proofs.CallLaws.{is-false, checked-length, checked-unsound, kept-same, right-length, wrong-lent, decide-wrong, unsound-lent, hand-length, hand-unsound, open-length, open-read}
+use Rattle.runs.proofs.StepLaws.{late-ext, step-book, fine-steps, steps-book, waiting-book, drain-book}
+
+tabulate-ext : {A : Type 0} (f g : ℕ → A) (n : ℕ) → ((i : ℕ) → f i ≡ g i) → tabulate f n ≡ tabulate g n
+unfolding tabulate
+tabulate-ext f g zero h = refl
+tabulate-ext f g (suc n) h = rw (tabulate-ext f g n h, h n)
 
 -- ---- the invariant: the bytes and the disk are those of the book
 
@@ -58,7 +66,116 @@ module _ (rules : List Rule) (disk : List ℕ) (size : length disk ≡ 1024) whe
   mirrored b f = record { fine = f; same = refl }
 
   safe : (b : Book) → Fine rules b → Safe rules disk (at rules disk b)
-  safe b f = record { left = refl; valid = valid-book rules b f; consistent = consistent-left rules b disk f size }
+  safe b f = record { sound = fine-sound rules b f; size = length-applied b disk ∙ size; left = refl; valid = valid-book rules b f; consistent = consistent-left rules b disk f size }
+
+  -- ---- whatever the list says of a call is what it gives
+
+  -- the run's own have the right lengths
+  own-state : (b : Book) → Fine rules b → length (stateOf rules b) ≡ stateSize
+  own-state b f = length-state rules b (f .rules-most) (f .most)
+
+  own-disk : (b : Book) → length (applied b disk) ≡ 1024
+  own-disk b = length-applied b disk ∙ size
+
+  -- what hand-in gives, by the book
+  handed-by : Book → Write → Left
+  handed-by b w =
+      cond (leb 64 (length b)) (left (refused 16 0) (stateOf rules b) (applied b disk))
+      (cond (late rules (accepted b) (flagAt b) w) (left (refused 17 0) (stateOf rules b) (applied b disk))
+      (cond (needsRing rules (accepted b ++ (w ∷ []))) (left (refused 18 0) (stateOf rules b) (applied b disk))
+      (left (answer (length b + 1)) (handed (stateOf rules b) w) (applied b disk))))
+
+  hand-book : (b : Book) (w : Write) → Fine rules b → handInOf w (stateOf rules b) (applied b disk) ≡ handed-by b w
+  unfolding handInOf handed-by
+  hand-book b w f =
+      rw (
+        eq-eqb (length (stateOf rules b)) stateSize (length-state rules b (f .rules-most) (f .most)),
+        true-sound (stateOf rules b) (fine-sound rules b f),
+        state-accepted rules b (f .rules-most),
+        state-rules rules b (f .rules-most),
+        state-writes rules b (f .rules-most) (f .fits),
+        late-ext rules (accepted b) (storedIn (stateOf rules b)) (flagAt b) (λ i h. state-flags rules b (f .rules-most) i (subst (λ (n : ℕ). i < n) (length-accepted b) h)) w,
+      )
+
+  -- the write that is earliest is the one found
+  earliest-ready : (b : Book) (i : ℕ) → Fine rules b → Earliest rules (accepted b) (flagAt b) i → ready rules (accepted b) (flagAt b) ≡ suc i
+  earliest-ready b i f w = go (ready rules (accepted b) (flagAt b)) refl
+    where
+      go : (k : ℕ) → ready rules (accepted b) (flagAt b) ≡ k → k ≡ suc i
+      go zero e = absurd (false≢true (sym (w .waits) ∙ none-ready rules (accepted b) (flagAt b) (f .ringless) e i (w .accepted)))
+      go (suc k) e =
+          let v = ready-earliest rules (accepted b) (flagAt b) k e in
+          elim (decLt k i) [
+            | yes l ↦ absurd (w .first k l (v .waits) (v .met))
+            | no g ↦ elim (decLt i k) [ yes l ↦ absurd (v .first i l (w .waits) (w .met)) | no h ↦ omega arith ]
+          ]
+
+  nothing-ready : (b : Book) → ((i : ℕ) → i < length b → flagAt b i ≡ true) → ready rules (accepted b) (flagAt b) ≡ 0
+  nothing-ready b h = go (ready rules (accepted b) (flagAt b)) refl
+    where
+      go : (k : ℕ) → ready rules (accepted b) (flagAt b) ≡ k → k ≡ 0
+      go zero e = refl
+      go (suc k) e =
+          let v = ready-earliest rules (accepted b) (flagAt b) k e in
+          absurd (false≢true (sym (v .waits) ∙ h k (subst (λ (n : ℕ). k < n) (length-accepted b) (v .accepted))))
+
+  outcome-of : {l r : Left} → l ≡ r → l .outcome ≡ r .outcome
+  outcome-of e = ap (λ (l : Left). l .outcome) e
+
+  by-length : (b : Book) (c : Call) → WrongLength c → called c (at rules disk b .held) .outcome ≡ refused 14 0
+  unfolding called stepOf drainOf
+  by-length b (opening file s) w = outcome-of (open-length file _ _ (wrong-lent stateSize s (stateOf rules b) w))
+  by-length b (handIn v s) w = outcome-of (hand-length v _ _ (wrong-lent stateSize s (stateOf rules b) w))
+  by-length b (step s d) w = outcome-of (checked-length stepOn _ _ (⊎-map (wrong-lent stateSize s (stateOf rules b)) (wrong-lent 1024 d (applied b disk)) w))
+  by-length b (drain s d) w = outcome-of (checked-length drainOn _ _ (⊎-map (wrong-lent stateSize s (stateOf rules b)) (wrong-lent 1024 d (applied b disk)) w))
+
+  by-soundness : (b : Book) → Fine rules b → (c : Call) → (WrongLength c → ⊥) → UnsoundLent c → called c (at rules disk b .held) .outcome ≡ refused 15 0
+  unfolding called stepOf drainOf
+  by-soundness b f (opening file s) n u = absurd u
+  by-soundness b f (handIn v s) n u = outcome-of (hand-unsound v _ _ (right-length stateSize s (stateOf rules b) (own-state b f) n) (unsound-lent s (stateOf rules b) u))
+  by-soundness b f (step s d) n u =
+      outcome-of (checked-unsound stepOn _ _ (right-length stateSize s (stateOf rules b) (own-state b f) (λ w. n (inl w))) (right-length 1024 d (applied b disk) (own-disk b) (λ w. n (inr w))) (unsound-lent s (stateOf rules b) u))
+  by-soundness b f (drain s d) n u =
+      outcome-of (checked-unsound drainOn _ _ (right-length stateSize s (stateOf rules b) (own-state b f) (λ w. n (inl w))) (right-length 1024 d (applied b disk) (own-disk b) (λ w. n (inr w))) (unsound-lent s (stateOf rules b) u))
+
+  not-late : (b : Book) (w : Write) → (Late rules (accepted b) (flagAt b) w → ⊥) → late rules (accepted b) (flagAt b) w ≡ false
+  not-late b w n = is-false (late rules (accepted b) (flagAt b) w) (λ e. n (late-true rules (accepted b) (flagAt b) w e))
+
+  no-ring : (b : Book) (w : Write) → (NeedsRing rules (accepted b ++ (w ∷ [])) → ⊥) → needsRing rules (accepted b ++ (w ∷ [])) ≡ false
+  no-ring b w n = is-false (needsRing rules (accepted b ++ (w ∷ []))) (λ e. n (needsRing-true rules (accepted b ++ (w ∷ [])) e))
+
+  handed-so : (b : Book) (w : Write) → Fine rules b → (x y z : Bool) → leb 64 (length b) ≡ x → late rules (accepted b) (flagAt b) w ≡ y → needsRing rules (accepted b ++ (w ∷ [])) ≡ z
+      → called (handIn w own) (at rules disk b .held) .outcome ≡ cond x (refused 16 0) (cond y (refused 17 0) (cond z (refused 18 0) (answer (suc (length b)))))
+  unfolding called handed-by
+  handed-so b w f x y z ex ey ez = outcome-of (hand-book b w f) ∙ rw (ex, ey, ez) (go x y z)
+    where
+      go : (x y z : Bool) → cond x (left (refused 16 0) (stateOf rules b) (applied b disk)) (cond y (left (refused 17 0) (stateOf rules b) (applied b disk)) (cond z (left (refused 18 0) (stateOf rules b) (applied b disk)) (left (answer (length b + 1)) (handed (stateOf rules b) w) (applied b disk)))) .outcome
+          ≡ cond x (refused 16 0) (cond y (refused 17 0) (cond z (refused 18 0) (answer (suc (length b)))))
+      go true y z = refl
+      go false true z = refl
+      go false false true = refl
+      go false false false = ap answer (add-one (length b))
+
+  gives-only : (b : Book) → Fine rules b → (c : Call) (o : Outcome ℕ) → Gives rules b c o → o ≡ called c (at rules disk b .held) .outcome
+  gives-only b f c o g = sym (go c o g)
+    where
+      open-so : (file : List ℕ) (s : Lent) (o : Outcome ℕ) → (Wrong stateSize s → ⊥)
+          → openWith (readOf file) (lentTo s (stateOf rules b)) (applied b disk) .outcome ≡ o → called (opening file s) (at rules disk b .held) .outcome ≡ o
+      open-so file s o n e = unfold called in outcome-of (open-read file _ _ (right-length stateSize s (stateOf rules b) (own-state b f) n)) ∙ e
+
+      go : (c : Call) (o : Outcome ℕ) → Gives rules b c o → called c (at rules disk b .held) .outcome ≡ o
+      go c o (wrong-length w) = by-length b c w
+      go c o (unsound n u) = by-soundness b f c n u
+      go c o (full {w} h) = handed-so b w f true _ _ (le-leb 64 (length b) h) refl refl
+      go c o (Theorem.late {w} h l) = handed-so b w f false true _ (lt-leb 64 (length b) h) (true-late rules (accepted b) (flagAt b) w l) refl
+      go c o (ring {w} h n r) = handed-so b w f false false true (lt-leb 64 (length b) h) (not-late b w n) (true-needsRing rules (accepted b ++ (w ∷ [])) r)
+      go c o (taken {w} h n r) = handed-so b w f false false false (lt-leb 64 (length b) h) (not-late b w n) (no-ring b w r)
+      go c o (stored {i} w) = unfold called in outcome-of (step-book rules disk size b f) ∙ ap answer (earliest-ready b i f w)
+      go c o (idle h) = unfold called in outcome-of (step-book rules disk size b f) ∙ ap answer (nothing-ready b h)
+      go c o Theorem.drained = unfold called in outcome-of (drain-book rules disk size b f)
+      go c o (unread {file} {s} n e) = open-so file s o n (rw e (unfold openWith in refl))
+      go c o (with-tests {file} {s} {f = g} n e h) = open-so file s o n (rw e (unfold openWith in rw (lt-ltb 0 (length (g .tests)) h)))
+      go c o (with-cycle {file} {s} {f = g} n e h k) = open-so file s o n (rw e (unfold openWith in rw (le-ltb 0 (length (g .tests)) (omega arith), true-cyclic (g .rules) k)))
 
   -- ---- a step of the run's own
 
@@ -67,13 +184,19 @@ module _ (rules : List Rule) (disk : List ℕ) (size : length disk ≡ 1024) whe
   step-gives b f (suc i) e = stored (ready-earliest rules (accepted b) (flagAt b) i e)
 
   -- a call from its outcome and the next book
-  goes : (c : Call) (b next-book : Book) (o : Outcome ℕ) → called c (at rules disk b .held) .outcome ≡ o → next rules c (at rules disk b) ≡ at rules disk next-book
-      → Fine rules next-book → Gives rules b c o → ((i : ℕ) → c ≡ step own own → o ≡ answer i → next-book ≡ flagging i b)
-      → (c ≡ drain own own → (i : ℕ) → i < length b → flagAt next-book i ≡ true) → Goes rules disk c (at rules disk b)
-  goes c b next-book o eo en f g one all = (
+  goes : (c : Call) (b next-book : Book) (o : Outcome ℕ) → Fine rules b → called c (at rules disk b .held) .outcome ≡ o → next rules c (at rules disk b) ≡ at rules disk next-book
+      → Fine rules next-book → Gives rules b c o → ((number place : ℕ) → o ≡ refused number place → next-book ≡ b) → ((i : ℕ) → c ≡ step own own → o ≡ answer i → next-book ≡ flagging i b)
+      → (c ≡ drain own own → (at rules disk next-book ≡ steps rules (waitingIn b) (at rules disk b))
+      × (within rules c (at rules disk b) ≡ tabulate (λ n. steps rules n (at rules disk b)) (waitingIn b))) → (c ≡ drain own own → (i : ℕ) → i < length b → flagAt next-book i ≡ true)
+      → Goes rules disk c (at rules disk b)
+  goes c b next-book o fine eo en f g same one each all = (
     record {
       gives = subst (Gives rules b c) (sym eo) g;
+      only = gives-only b fine c;
+      nothing = λ n p q. en ∙ ap (at rules disk) (same n p (sym eo ∙ q));
       one = λ i e q. ap (λ (m : Moment). m .book) en ∙ one i e (sym eo ∙ q);
+      each = λ e. en ∙ each e .0;
+      between = λ e. each e .1;
       all = λ e i h. subst (λ (m : Moment). flagAt (m .book) i ≡ true) (sym en) (all e i h);
     },
     subst (Mirrors rules disk) (sym en) (mirrored next-book f),
@@ -103,13 +226,26 @@ module _ (rules : List Rule) (disk : List ℕ) (size : length disk ≡ 1024) whe
   same-answer : (i j : ℕ) → answer i ≡ answer j → i ≡ j
   same-answer i j e = cc
 
+  step-at : (b : Book) → Fine rules b → next rules (step own own) (at rules disk b) ≡ at rules disk (stepped rules b)
+  step-at b f = step-next b _ (ready rules (accepted b) (flagAt b)) (step-book rules disk size b f) refl
+
+  steps-at : (n : ℕ) (b : Book) → Fine rules b → steps rules n (at rules disk b) ≡ at rules disk (steppedBy rules n b)
+  unfolding steps steppedBy
+  steps-at zero b f = refl
+  steps-at (suc n) b f = ap (steps rules n) (step-at b f) ∙ steps-at n (stepped rules b) (fine-stepped rules b f)
+
+  answer-refused : {i number place : ℕ} → answer i ≡ refused number place → ⊥
+  answer-refused e = let z : _≡_ {A = ℕ} 0 1 = cc in omega arith
+
   step-own : (b : Book) → Fine rules b → Goes rules disk (step own own) (at rules disk b)
   step-own b f =
       let k = ready rules (accepted b) (flagAt b) in
       let e = step-book rules disk size b f in
-      goes (step own own) b (stepped rules b) (answer k) (unfold called in ap (λ (l : Left). l .outcome) e) (step-next b _ k e refl)
+      goes (step own own) b (stepped rules b) (answer k) f (unfold called in ap (λ (l : Left). l .outcome) e) (step-at b f)
       (fine-stepped rules b f) (step-gives b f k refl)
+      (λ n p q. absurd (answer-refused q))
       (λ i c q. stepped-is b i (same-answer k i q))
+      (λ c. absurd (not-drain c))
       (λ c. absurd (not-drain c))
 
   -- ---- a drain of the run's own
@@ -152,13 +288,23 @@ module _ (rules : List Rule) (disk : List ℕ) (size : length disk ≡ 1024) whe
   all-stored zero b f l i h = none-waits b (omega arith) i h
   all-stored (suc n) b f l i h = all-stored n (stepped rules b) (fine-stepped rules b f) (one-less n b f l) i (rw (length-stepped b) h)
 
+  -- the moments inside are those between steps
+  inside-at : (b : Book) → Fine rules b → (n : ℕ) → into rules n (at rules disk b) ≡ at rules disk (steppedBy rules n b)
+  inside-at b f n = rw (steps-book rules disk size n b f)
+
+  drain-within : (b : Book) → Fine rules b → within rules (drain own own) (at rules disk b) ≡ tabulate (λ n. steps rules n (at rules disk b)) (waitingIn b)
+  unfolding within
+  drain-within b f = rw (waiting-book rules b f) (tabulate-ext _ _ (waitingIn b) (λ n. inside-at b f n ∙ sym (steps-at n b f)))
+
   drain-own : (b : Book) → Fine rules b → Goes rules disk (drain own own) (at rules disk b)
   drain-own b f =
       let k = waitingIn b in
       let e = drain-book rules disk size b f in
-      goes (drain own own) b (steppedBy rules k b) (answer k) (unfold called in ap (λ (l : Left). l .outcome) e) (drain-next b _ k e refl)
+      goes (drain own own) b (steppedBy rules k b) (answer k) f (unfold called in ap (λ (l : Left). l .outcome) e) (drain-next b _ k e refl)
       (fine-steps rules disk size k b f) Theorem.drained
+      (λ n p q. absurd (answer-refused q))
       (λ i c. absurd (not-step c))
+      (λ c. (sym (steps-at k b f), drain-within b f))
       (λ c. all-stored k b f (omega arith))
 
   -- ---- refused calls
@@ -169,31 +315,13 @@ module _ (rules : List Rule) (disk : List ℕ) (size : length disk ≡ 1024) whe
       → keptBy (diskLent c) (applied b disk) (called c (at rules disk b .held) .disk) ≡ applied b disk
       → Gives rules b c (refused number place) → (c ≡ drain own own → ⊥) → Goes rules disk c (at rules disk b)
   goes-refused c b number place f eo es ed g nd =
-      goes c b b (refused number place) eo (unfold next kept noted isRefused in rw (eo, es, ed)) f g
-      (λ i e q. absurd (let z : _≡_ {A = ℕ} 0 1 = cc in omega arith))
+      goes c b b (refused number place) f eo (unfold next kept noted isRefused in rw (eo, es, ed)) f g
+      (λ n p q. refl)
+      (λ i e q. absurd (answer-refused (sym q)))
+      (λ e. absurd (nd e))
       (λ e. absurd (nd e))
 
   -- ---- a hand-in to the run's own
-
-  -- what hand-in gives, by the book
-  handed-by : Book → Write → Left
-  handed-by b w =
-      cond (leb 64 (length b)) (left (refused 16 0) (stateOf rules b) (applied b disk))
-      (cond (late rules (accepted b) (flagAt b) w) (left (refused 17 0) (stateOf rules b) (applied b disk))
-      (cond (needsRing rules (accepted b ++ (w ∷ []))) (left (refused 18 0) (stateOf rules b) (applied b disk))
-      (left (answer (length b + 1)) (handed (stateOf rules b) w) (applied b disk))))
-
-  hand-book : (b : Book) (w : Write) → Fine rules b → handInOf w (stateOf rules b) (applied b disk) ≡ handed-by b w
-  unfolding handInOf handed-by
-  hand-book b w f =
-      rw (
-        eq-eqb (length (stateOf rules b)) stateSize (length-state rules b (f .rules-most) (f .most)),
-        true-sound (stateOf rules b) (fine-sound rules b f),
-        state-accepted rules b (f .rules-most),
-        state-rules rules b (f .rules-most),
-        state-writes rules b (f .rules-most) (f .fits),
-        late-ext rules (accepted b) (storedIn (stateOf rules b)) (flagAt b) (λ i h. state-flags rules b (f .rules-most) i (subst (λ (n : ℕ). i < n) (length-accepted b) h)) w,
-      )
 
   hand-refused : (b : Book) (w : Write) (number : ℕ) → Fine rules b → handInOf w (stateOf rules b) (applied b disk) ≡ left (refused number 0) (stateOf rules b) (applied b disk)
       → Gives rules b (handIn w own) (refused number 0) → Goes rules disk (handIn w own) (at rules disk b)
@@ -214,10 +342,12 @@ module _ (rules : List Rule) (disk : List ℕ) (size : length disk ≡ 1024) whe
   hand-taken : (b : Book) (w : Write) → Fine rules b → WriteFits w → length b < 64 → (Late rules (accepted b) (flagAt b) w → ⊥) → (NeedsRing rules (accepted b ++ (w ∷ [])) → ⊥)
       → handInOf w (stateOf rules b) (applied b disk) ≡ left (answer (length b + 1)) (handed (stateOf rules b) w) (applied b disk) → Goes rules disk (handIn w own) (at rules disk b)
   hand-taken b w f fw h nl nr e =
-      goes (handIn w own) b (appended b w) (answer (suc (length b))) (unfold called in ap (λ (l : Left). l .outcome) e ∙ ap answer (add-one (length b)))
+      goes (handIn w own) b (appended b w) (answer (suc (length b))) f (unfold called in ap (λ (l : Left). l .outcome) e ∙ ap answer (add-one (length b)))
       (hand-next b w (handed (stateOf rules b) w) (length b + 1) e ∙ place)
       (fine-appended rules b w f h fw nl nr) (taken h nl nr)
+      (λ n p q. absurd (answer-refused q))
       (λ i c. absurd (let z : _≡_ {A = ℕ} 0 1 = cc in omega arith))
+      (λ c. absurd (let z : _≡_ {A = ℕ} 0 1 = cc in omega arith))
       (λ c. absurd (let z : _≡_ {A = ℕ} 0 1 = cc in omega arith))
     where
       place : record { held = record { state = handed (stateOf rules b) w; disk = applied b disk }; book = appended b w } ≡ at rules disk (appended b w)
@@ -238,55 +368,6 @@ module _ (rules : List Rule) (disk : List ℕ) (size : length disk ≡ 1024) whe
           (λ r. false≢true (sym ez ∙ true-needsRing rules (accepted b ++ (w ∷ [])) r)) (hand-book b w f ∙ (unfold handed-by in rw (ex, ey, ez)))
 
   -- ---- calls that are lent another buffer
-
-  -- a call that checks its buffers, lent one of another length
-  checked-length : (call : List ℕ → List ℕ → Left) (s d : List ℕ) → (length s ≡ stateSize → ⊥) ⊎ (length d ≡ 1024 → ⊥) → checked call s d ≡ left (refused 14 0) s d
-  unfolding checked
-  checked-length call s d (inl n) = rw (ne-eqb (length s) stateSize n)
-  checked-length call s d (inr n) = go (eqb (length s) stateSize)
-    where
-      go : (b : Bool) → cond (not b) (left (refused 14 0) s d) (cond (not (eqb (length d) 1024)) (left (refused 14 0) s d) (cond (not (sound s)) (left (refused 15 0) s d) (call s d))) ≡ left (refused 14 0) s d
-      go true = rw (ne-eqb (length d) 1024 n)
-      go false = refl
-
-  unsound-false : (s : List ℕ) → (Sound s → ⊥) → sound s ≡ false
-  unsound-false s n = go (sound s) refl
-    where
-      go : (b : Bool) → sound s ≡ b → sound s ≡ false
-      go true e = absurd (n (sound-true s e))
-      go false e = e
-
-  checked-unsound : (call : List ℕ → List ℕ → Left) (s d : List ℕ) → length s ≡ stateSize → length d ≡ 1024 → (Sound s → ⊥) → checked call s d ≡ left (refused 15 0) s d
-  unfolding checked
-  checked-unsound call s d es ed n = rw (eq-eqb (length s) stateSize es, eq-eqb (length d) 1024 ed, unsound-false s n)
-
-  -- what is kept of the run's own is what it was
-  kept-same : (l : Lent) (mine : List ℕ) → keptBy l mine (lentTo l mine) ≡ mine
-  kept-same own mine = refl
-  kept-same (other x) mine = refl
-
-  -- lent buffers of another length, as the checks see them
-  own-state : (b : Book) → Fine rules b → length (stateOf rules b) ≡ stateSize
-  own-state b f = length-state rules b (f .rules-most) (f .most)
-
-  own-disk : (b : Book) → length (applied b disk) ≡ 1024
-  own-disk b = length-applied b disk ∙ size
-
-  right-length : (n : ℕ) (l : Lent) (mine : List ℕ) → length mine ≡ n → (Wrong n l → ⊥) → length (lentTo l mine) ≡ n
-  right-length n own mine e w = e
-  right-length n (other x) mine e w = elim (ℕ-discrete (length x) n) [ yes z ↦ z | no d ↦ absurd (w d) ]
-
-  wrong-lent : (n : ℕ) (l : Lent) (mine : List ℕ) → Wrong n l → length (lentTo l mine) ≡ n → ⊥
-  wrong-lent n own mine w e = w
-  wrong-lent n (other x) mine w e = w e
-
-  decide-wrong : (n : ℕ) (l : Lent) → Wrong n l ⊎ (Wrong n l → ⊥)
-  decide-wrong n own = inr (λ w. w)
-  decide-wrong n (other x) = elim (ℕ-discrete (length x) n) [ yes z ↦ inr (λ w. w z) | no d ↦ inl d ]
-
-  unsound-lent : (l : Lent) (mine : List ℕ) → Unsound l → Sound (lentTo l mine) → ⊥
-  unsound-lent own mine u s = u
-  unsound-lent (other x) mine u s = u s
 
   -- a step or a drain that is lent another buffer, either refused
   module _ (c : Call) (s d : Lent) (call : List ℕ → List ℕ → Left) (b : Book) (f : Fine rules b)
@@ -348,14 +429,6 @@ module _ (rules : List Rule) (disk : List ℕ) (size : length disk ≡ 1024) whe
 
   -- ---- a hand-in to another state
 
-  hand-length : (w : Write) (s d : List ℕ) → (length s ≡ stateSize → ⊥) → handInOf w s d ≡ left (refused 14 0) s d
-  unfolding handInOf
-  hand-length w s d n = rw (ne-eqb (length s) stateSize n)
-
-  hand-unsound : (w : Write) (s d : List ℕ) → length s ≡ stateSize → (Sound s → ⊥) → handInOf w s d ≡ left (refused 15 0) s d
-  unfolding handInOf
-  hand-unsound w s d e n = rw (eq-eqb (length s) stateSize e, unsound-false s n)
-
   hand-other : (w : Write) (x : List ℕ) (b : Book) → Fine rules b → Wrong stateSize (other x) ⊎ Unsound (other x) → Goes rules disk (handIn w (other x)) (at rules disk b)
   hand-other w x b f l = elim (ℕ-discrete (length x) stateSize) [
     | no n ↦ leaves 14 (hand-length w x (applied b disk) n) (wrong-length n)
@@ -375,66 +448,36 @@ module _ (rules : List Rule) (disk : List ℕ) (size : length disk ≡ 1024) whe
 
   -- ---- a refused opening
 
-  -- what opening gives does not depend on what the buffers hold
-  opens : Bool → Outcome File → Outcome ℕ
-  opens false r = refused 14 0
-  opens true (refused number place) = refused number place
-  opens true (answer g) = cond (ltb 0 (length (g .tests))) (refused 22 0) (cond (cyclic (g .rules)) (refused 8 0) (answer 0))
-
-  opens-is : (file s d : List ℕ) → openOf file s d .outcome ≡ opens (eqb (length s) stateSize) (readOf file)
-  unfolding openOf opens
-  opens-is file s d = go (eqb (length s) stateSize) (readOf file)
-    where
-      two : (x y : Bool) (g : File) → cond x (left (refused 22 0) s d) (cond y (left (refused 8 0) s d) (left (answer 0) (State.opened (g .rules)) d)) .outcome ≡ cond x (refused 22 0) (cond y (refused 8 0) (answer 0))
-      two true y g = refl
-      two false true g = refl
-      two false false g = refl
-
-      go : (e : Bool) (r : Outcome File) → cond e (openWith r s d) (left (refused 14 0) s d) .outcome ≡ opens e r
-      go false r = refl
-      go true (refused number place) = unfold openWith in refl
-      go true (answer g) = unfold openWith in two (ltb 0 (length (g .tests))) (cyclic (g .rules)) g
-
-  -- a refused opening leaves its state, and every opening its disk
-  opens-leaves : (file s d : List ℕ) → isRefused (openOf file s d .outcome) ≡ true → (openOf file s d .state ≡ s) × (openOf file s d .disk ≡ d)
-  unfolding openOf isRefused
-  opens-leaves file s d = go (eqb (length s) stateSize) (readOf file)
-    where
-      two : (x y : Bool) (g : File) → isRefused (cond x (left (refused 22 0) s d) (cond y (left (refused 8 0) s d) (left (answer 0) (State.opened (g .rules)) d)) .outcome) ≡ true
-          → (cond x (left (refused 22 0) s d) (cond y (left (refused 8 0) s d) (left (answer 0) (State.opened (g .rules)) d)) .state ≡ s)
-          × (cond x (left (refused 22 0) s d) (cond y (left (refused 8 0) s d) (left (answer 0) (State.opened (g .rules)) d)) .disk ≡ d)
-      two true y g h = (refl, refl)
-      two false true g h = (refl, refl)
-      two false false g h = absurd (false≢true h)
-
-      go : (e : Bool) (r : Outcome File) → isRefused (cond e (openWith r s d) (left (refused 14 0) s d) .outcome) ≡ true
-          → (cond e (openWith r s d) (left (refused 14 0) s d) .state ≡ s) × (cond e (openWith r s d) (left (refused 14 0) s d) .disk ≡ d)
-      go false r h = (refl, refl)
-      go true (refused number place) h = unfold openWith in (refl, refl)
-      go true (answer g) h = unfold openWith in two (ltb 0 (length (g .tests))) (cyclic (g .rules)) g h
-
-  is-refused : (o : Outcome ℕ) → isRefused o ≡ true → (number : ℕ) × (place : ℕ) × (o ≡ refused number place)
-  unfolding isRefused
-  is-refused (answer n) h = absurd (false≢true h)
-  is-refused (refused number place) h = (number, place, refl)
-
-  lent-length : (l : Lent) (x y : List ℕ) → length x ≡ length y → length (lentTo l x) ≡ length (lentTo l y)
-  lent-length own x y e = e
-  lent-length (other z) x y e = refl
-
   open-goes : (file : List ℕ) (s : Lent) (b : Book) → Fine rules b → Listed (opening file s) → Goes rules disk (opening file s) (at rules disk b)
-  unfolding Listed
-  open-goes file s b f l =
-      let h = l (stateOf rules b) (applied b disk) (own-state b f) in
-      let r = is-refused _ h in
-      let k = opens-leaves file (lentTo s (stateOf rules b)) (applied b disk) h in
-      goes-refused (opening file s) b (r .0) (r .1) f (unfold called in r .2)
-      (unfold called in ap (keptBy s (stateOf rules b)) (k .0) ∙ kept-same s (stateOf rules b))
-      (unfold called in k .1)
-      (unopened (λ mine d e. opens-is file (lentTo s mine) d
-      ∙ ap (λ (n : ℕ). opens (eqb n stateSize) (readOf file)) (lent-length s mine (stateOf rules b) (e ∙ sym (own-state b f)))
-      ∙ sym (opens-is file (lentTo s (stateOf rules b)) (applied b disk)) ∙ r .2))
-      (λ c. let z : _≡_ {A = ℕ} 0 1 = cc in omega arith)
+  unfolding Listed isRefused
+  open-goes file s b f l = ⊎-elim
+      (λ w. leaves 14 0 (open-length file _ _ (wrong-lent stateSize s (stateOf rules b) w)) (wrong-length w))
+      (λ nw. read nw (open-read file _ _ (right-length stateSize s (stateOf rules b) (own-state b f) nw)) (readOf file) refl)
+      (decide-wrong stateSize s)
+    where
+      leaves : (number place : ℕ) → openOf file (lentTo s (stateOf rules b)) (applied b disk) ≡ left (refused number place) (lentTo s (stateOf rules b)) (applied b disk)
+          → Gives rules b (opening file s) (refused number place) → Goes rules disk (opening file s) (at rules disk b)
+      leaves number place e g =
+          goes-refused (opening file s) b number place f (unfold called in ap (λ (x : Left). x .outcome) e)
+          (unfold called in ap (λ (x : Left). keptBy s (stateOf rules b) (x .state)) e ∙ kept-same s (stateOf rules b))
+          (unfold called in ap (λ (x : Left). x .disk) e) g
+          (λ c. let z : _≡_ {A = ℕ} 0 1 = cc in omega arith)
+
+      answered : (g : File) → (Wrong stateSize s → ⊥) → readOf file ≡ answer g → (x y : Bool) → ltb 0 (length (g .tests)) ≡ x → cyclic (g .rules) ≡ y
+          → openOf file (lentTo s (stateOf rules b)) (applied b disk) ≡ openWith (answer g) (lentTo s (stateOf rules b)) (applied b disk)
+          → Goes rules disk (opening file s) (at rules disk b)
+      answered g nw q true y ex ey e = leaves 22 0 (e ∙ unfold openWith in rw ex) (with-tests nw q (ltb-true 0 (length (g .tests)) ex))
+      answered g nw q false true ex ey e =
+          let n = ltb-false 0 (length (g .tests)) ex in
+          leaves 8 0 (e ∙ unfold openWith in rw (ex, ey)) (with-cycle nw q (omega arith) (cyclic-true (g .rules) (holding-limits file g q .0 .known) ey))
+      answered g nw q false false ex ey e =
+          let a : openOf file (lentTo s (stateOf rules b)) (applied b disk) ≡ left (answer 0) (State.opened (g .rules)) (applied b disk) = e ∙ unfold openWith in rw (ex, ey) in
+          absurd (false≢true (sym (ap (λ (x : Left). isRefused (x .outcome)) a) ∙ l (stateOf rules b) (applied b disk) (own-state b f)))
+
+      read : (Wrong stateSize s → ⊥) → openOf file (lentTo s (stateOf rules b)) (applied b disk) ≡ openWith (readOf file) (lentTo s (stateOf rules b)) (applied b disk)
+          → (r : Outcome File) → readOf file ≡ r → Goes rules disk (opening file s) (at rules disk b)
+      read nw e (refused number place) q = leaves number place (e ∙ rw q (unfold openWith in refl)) (unread nw q)
+      read nw e (answer g) q = answered g nw q (ltb 0 (length (g .tests))) (cyclic (g .rules)) refl refl (e ∙ rw q)
 
   -- ---- every call, every list
 
@@ -458,16 +501,10 @@ module _ (rules : List Rule) (disk : List ℕ) (size : length disk ≡ 1024) whe
   within-safe (step s d) b f m h = absurd (List·Memᴰ·not-nil h)
   within-safe (drain own own) b f m h =
       let i = mem-index h (at rules disk b) in
-      let n = length-tabulate (λ k. inside k) (waiting (stateOf rules b)) in
+      let n = length-tabulate (λ k. into rules k (at rules disk b)) (waiting (stateOf rules b)) in
       let l = i .1 in
-      let e : m ≡ at rules disk (steppedBy rules (i .0) b) = sym (i .2) ∙ getD-tabulate (λ k. inside k) (waiting (stateOf rules b)) (i .0) (at rules disk b) (omega arith) ∙ same (i .0) in
+      let e : m ≡ at rules disk (steppedBy rules (i .0) b) = sym (i .2) ∙ getD-tabulate (λ k. into rules k (at rules disk b)) (waiting (stateOf rules b)) (i .0) (at rules disk b) (omega arith) ∙ inside-at b f (i .0) in
       subst (Safe rules disk) (sym e) (safe (steppedBy rules (i .0) b) (fine-steps rules disk size (i .0) b f))
-    where
-      inside : ℕ → Moment
-      inside k = record { held = stepsOf k (at rules disk b .held); book = steppedBy rules k b }
-
-      same : (k : ℕ) → inside k ≡ at rules disk (steppedBy rules k b)
-      same k = rw (steps-book rules disk size k b f)
   within-safe (drain own (other d)) b f m h = absurd (List·Memᴰ·not-nil h)
   within-safe (drain (other s) d) b f m h = absurd (List·Memᴰ·not-nil h)
 
@@ -486,9 +523,16 @@ module _ (rules : List Rule) (disk : List ℕ) (size : length disk ≡ 1024) whe
       (List·Memᴰ·append-cases (within rules c n) i))
       (List·Memᴰ·cases-cons h)
 
+  steps-mirror : (i : ℕ) (n : Moment) → Mirrors rules disk n → Mirrors rules disk (steps rules i n)
+  steps-mirror i n k =
+      subst (Mirrors rules disk) (sym (ap (steps rules i) (k .same) ∙ steps-at i (n .book) (k .fine)))
+      (mirrored (steppedBy rules i (n .book)) (fine-steps rules disk size i (n .book) (k .fine)))
+
   made-answers : (cs : List Call) (n : Moment) → Mirrors rules disk n → ((c : Call) → List·Memᴰ c cs → Listed c)
       → (c : Call) (m : Moment) → Made rules cs n c m → Answers rules c m
   made-answers cs n k l c m now = call-goes-on c n k (l c (List·Memᴰ·head refl)) .0
+  made-answers (drain own own ∷ cs) n k l c m (inside {n = i} h) =
+      call-goes-on (step own own) (steps rules i n) (steps-mirror i n k) (unfold Listed in inl (tt, tt)) .0
   made-answers (d ∷ cs) n k l c m (later x) =
       made-answers cs (next rules d n) (call-goes-on d n k (l d (List·Memᴰ·head refl)) .1) (λ e y. l e (List·Memᴰ·tail y)) c m x
 

@@ -45,11 +45,12 @@ waitingIn b = countBelow (λ i. not (flagAt b i)) (length b)
 unfoldable pub appended : Book → Write → Book
 appended b w = b ++ (entry w false ∷ [])
 
--- a step flags the earliest unflagged write whose needs are all flagged. If there is none, nothing changes
+-- the write at a place, counted from 1, flagged; at place 0 there is none
 unfoldable pub flagging : ℕ → Book → Book
 flagging zero b = b
 flagging (suc i) b = set b i (entry (getD b i (entry noWrite false) .write) true)
 
+-- a step flags the earliest unflagged write whose needs are all flagged. If there is none, nothing changes
 unfoldable pub stepped : List Rule → Book → Book
 stepped rules b = flagging (ready rules (accepted b) (flagAt b)) b
 

@@ -36,7 +36,8 @@ abbrev pub keptBy : Lent → List ℕ → List ℕ → List ℕ
 keptBy own before after = after
 keptBy (other theirs) before after = before
 
--- what a call gives and leaves, of the buffers it is lent
+-- what a call gives and leaves, of the buffers it is lent. An opening and a hand-in take no disk: they pass on the one beside them
+-- (`Diskless` in `Theorem.antt`)
 unfoldable pub called : Call → Held → Left
 called (opening file s) h = openOf file (lentTo s (h .state)) (h .disk)
 called (handIn w s) h = handInOf w (lentTo s (h .state)) (h .disk)
@@ -105,6 +106,11 @@ pub record Moment : Type 0 where
 unfoldable pub next : List Rule → Call → Moment → Moment
 next rules c m =
     record { held = kept c (m .held); book = noted rules (eventOf c) (isRefused (called c (m .held) .outcome)) (m .book) }
+
+-- n calls of step on the run's own
+unfoldable pub steps : List Rule → ℕ → Moment → Moment
+steps rules zero m = m
+steps rules (suc n) m = steps rules n (next rules (step own own) m)
 
 -- the moments inside a call: a drain is counted as its steps
 unfoldable pub within : List Rule → Call → Moment → List Moment

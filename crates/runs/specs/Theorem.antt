@@ -2,13 +2,15 @@
 use Prim.Native.Nat.{ℕ, suc, _≤_, _<_}
 use mathlib.Core.Path.{_≡_}
 use mathlib.Core.Logic.{_⊎_}
-use mathlib.Core.Bool.{Bool, true}
+use mathlib.Core.Bool.{true}
 use mathlib.Core.List.{List, [], _∷_, _++_, List·Memᴰ}
 use lib.ListN.{length}
+use Rattle.relation.specs.Lists.{tabulate}
 use Rattle.model.specs.declared.Write.{Write}
 use Rattle.model.specs.declared.Rule.{Rule}
 use Rattle.model.specs.Answer.{Outcome, answer, refused}
 use Rattle.model.specs.Rules.{DependsOn}
+use Rattle.model.specs.Cyclic.{Cyclic}
 use Rattle.model.specs.Schedule.{labelAt, Valid}
 use Rattle.model.specs.Check.{Consistent}
 use Rattle.model.specs.Test.{Test, File, initialDisk, TestHolds}
@@ -16,9 +18,10 @@ use Rattle.reader.specs.Bytes.{blocksOf}
 use Rattle.reader.specs.File.{readOf}
 use Rattle.cache.specs.Needs.{Earliest, NeedsRing}
 use Rattle.cache.specs.State.{stateSize}
-use Rattle.cache.specs.Calls.{Held, Left, Late, openOf}
+use Rattle.cache.specs.Sound.{Sound}
+use Rattle.cache.specs.Calls.{left, Late, openOf, handInOf}
 use Rattle.runs.specs.Book.{Book, accepted, flagAt, flagging, waitingIn, applied, scheduleOf, Begins}
-use Rattle.runs.specs.Run.{Call, opening, handIn, step, drain, Lent, own, other, Wrong, Unsound, Listed, lentTo, called, next, Moment, moments}
+use Rattle.runs.specs.Run.{Call, opening, handIn, step, drain, Lent, own, Wrong, Unsound, Listed, called, next, steps, within, Moment, moments}
 
 -- ---- what is claimed of every moment
 
@@ -29,8 +32,11 @@ NoneBeyond rules b trace =
 
 -- wherever the supply is cut: the disk left is the disk at opening with the book's stored writes applied in the order they came;
 -- these are a valid schedule of the accepted writes; and the disk left is consistent, if the disk at opening is a test's initial disk,
--- the accepted writes begin its main trace, the test holds under the opened rules, and no stored write depends on a main write beyond
+-- the accepted writes begin its main trace, the test holds under the opened rules, and no stored write depends on a main write beyond.
+-- State and disk are such that a call on the run's own meets neither 14 nor 15
 pub record Safe (rules : List Rule) (disk : List ℕ) (m : Moment) : Type 0 where
+  pub sound : Sound (m .held .state)
+  pub size : length (m .held .disk) ≡ 1024
   pub left : m .held .disk ≡ applied (m .book) disk
   pub valid : Valid rules (accepted (m .book)) (scheduleOf (m .book))
   pub consistent : (t : Test) → blocksOf disk ≡ initialDisk t → Begins (accepted (m .book)) (t .main) → TestHolds rules t
@@ -40,7 +46,7 @@ pub record Safe (rules : List Rule) (disk : List ℕ) (m : Moment) : Type 0 wher
 
 -- a buffer of another length is lent
 abbrev pub WrongLength : Call → Type 0
-WrongLength (opening file s) = ⊥
+WrongLength (opening file s) = Wrong stateSize s
 WrongLength (handIn w s) = Wrong stateSize s
 WrongLength (step s d) = Wrong stateSize s ⊎ Wrong 1024 d
 WrongLength (drain s d) = Wrong stateSize s ⊎ Wrong 1024 d
@@ -52,7 +58,8 @@ UnsoundLent (handIn w s) = Unsound s
 UnsoundLent (step s d) = Unsound s
 UnsoundLent (drain s d) = Unsound s
 
--- what a call of the list gives, by the book and the buffers it is lent: the refusals of document 01's list, in their order, or the answer
+-- what a call of the list gives, by the book, the buffers it is lent and an opening's file: the refusals of document 01's list, in their
+-- order, or the answer
 pub data Gives (rules : List Rule) (b : Book) : Call → Outcome ℕ → Type 0 where
   wrong-length : {c : Call} → WrongLength c → Gives rules b c (refused 14 0)
   unsound : {c : Call} → (WrongLength c → ⊥) → UnsoundLent c → Gives rules b c (refused 15 0)
@@ -65,20 +72,29 @@ pub data Gives (rules : List Rule) (b : Book) : Call → Outcome ℕ → Type 0 
   stored : {i : ℕ} → Earliest rules (accepted b) (flagAt b) i → Gives rules b (step own own) (answer (suc i))
   idle : ((i : ℕ) → i < length b → flagAt b i ≡ true) → Gives rules b (step own own) (answer 0)
   drained : Gives rules b (drain own own) (answer (waitingIn b))
-  unopened : {file : List ℕ} {s : Lent} {number place : ℕ}
-      → ((mine disk : List ℕ) → length mine ≡ stateSize → openOf file (lentTo s mine) disk .outcome ≡ refused number place)
+  unread : {file : List ℕ} {s : Lent} {number place : ℕ} → (Wrong stateSize s → ⊥) → readOf file ≡ refused number place
       → Gives rules b (opening file s) (refused number place)
+  with-tests : {file : List ℕ} {s : Lent} {f : File} → (Wrong stateSize s → ⊥) → readOf file ≡ answer f → 0 < length (f .tests)
+      → Gives rules b (opening file s) (refused 22 0)
+  with-cycle : {file : List ℕ} {s : Lent} {f : File} → (Wrong stateSize s → ⊥) → readOf file ≡ answer f → length (f .tests) ≡ 0 → Cyclic (f .rules)
+      → Gives rules b (opening file s) (refused 8 0)
 
--- a call gives that; a step stores the one write whose place it answers, none if it answers 0; after a drain nothing waits
+-- a call gives one of these, and no other of them applies; if refused it changes nothing; a step stores the one write whose place it answers, none if it answers 0;
+-- a drain leaves what as many steps as writes wait leave, its cuts are those between these steps, and after it nothing waits
 pub record Answers (rules : List Rule) (c : Call) (m : Moment) : Type 0 where
   pub gives : Gives rules (m .book) c (called c (m .held) .outcome)
+  pub only : (o : Outcome ℕ) → Gives rules (m .book) c o → o ≡ called c (m .held) .outcome
+  pub nothing : (number place : ℕ) → called c (m .held) .outcome ≡ refused number place → next rules c m ≡ m
   pub one : (i : ℕ) → c ≡ step own own → called c (m .held) .outcome ≡ answer i → next rules c m .book ≡ flagging i (m .book)
+  pub each : c ≡ drain own own → next rules c m ≡ steps rules (waitingIn (m .book)) m
+  pub between : c ≡ drain own own → within rules c m ≡ tabulate (λ n. steps rules n m) (waitingIn (m .book))
   pub all : c ≡ drain own own → (i : ℕ) → i < length (m .book) → flagAt (next rules c m .book) i ≡ true
 
--- call c is made at moment m of a run
+-- call c is made at moment m of a run: one of its list, or a step of a drain
 pub data Made (rules : List Rule) : List Call → Moment → Call → Moment → Type 0 where
   now : {c : Call} {cs : List Call} {m : Moment} → Made rules (c ∷ cs) m c m
   later : {d c : Call} {cs : List Call} {m n : Moment} → Made rules cs (next rules d m) c n → Made rules (d ∷ cs) m c n
+  inside : {cs : List Call} {m : Moment} {n : ℕ} → n < waitingIn (m .book) → Made rules (drain own own ∷ cs) m (step own own) (steps rules n m)
 
 -- ---- the claim
 
@@ -95,3 +111,11 @@ Demand3 =
     → ((c : Call) → List·Memᴰ c calls → Listed c)
     → ((m : Moment) → List·Memᴰ m (moments (f .rules) calls (begun (openOf file state disk .state) disk)) → Safe (f .rules) disk m)
     × ((c : Call) (m : Moment) → Made (f .rules) calls (begun (openOf file state disk .state) disk) c m → Answers (f .rules) c m)
+
+-- openings and hand-ins take no disk: whatever disk stands beside them, they give the same, leave the same state, and leave that disk.
+-- (The exported routines' contracts cite them beside [])
+abbrev pub Diskless : Type 0
+Diskless =
+    (file state disk : List ℕ) (w : Write)
+    → (openOf file state disk ≡ left (openOf file state [] .outcome) (openOf file state [] .state) disk)
+    × (handInOf w state disk ≡ left (handInOf w state [] .outcome) (handInOf w state [] .state) disk)

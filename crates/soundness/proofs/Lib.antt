@@ -1,4 +1,3 @@
-pub mod Steps
 pub mod PartSteps
 pub mod SoundSteps
 pub mod SoundLaws

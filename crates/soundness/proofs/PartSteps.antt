@@ -23,7 +23,7 @@ use Rattle.rules.proofs.Steps.{length-mapped, itemAt}
 use Rattle.cache.specs.State.{acceptedCount, storedIn}
 use Rattle.cache.specs.Sound.{zeros}
 use Rattle.soundness.specs.Parts.{flagFits, partOf, covered}
-use Rattle.soundness.proofs.Steps.{mask-begun}
+use Rattle.needs.proofs.Steps.{mask-begun}
 
 -- ---- tests of all numbers below a bound
 

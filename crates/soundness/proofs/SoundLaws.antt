@@ -20,7 +20,7 @@ use Rattle.cache.specs.Needs.{Needs, needs, needsRing, met}
 use Rattle.cache.specs.State.{ruleCount, acceptedCount, storedCount, ruleBase, writeBase, rulesIn, writesIn, storedIn}
 use Rattle.cache.specs.Sound.{Sound, zeros, layout, sound}
 use Rattle.cache.proofs.NeedsLaws.{needs-true, true-needs, needsRing-true, true-needsRing}
-use Rattle.soundness.proofs.Steps.{writes-length}
+use Rattle.needs.proofs.Steps.{writes-length}
 
 not-so : (b : Bool) → (b ≡ true → ⊥) → not b ≡ true
 not-so true h = absurd (h refl)

@@ -1,6 +1,6 @@
 -- From the parts to soundness: the laws of `has_layout`, `needs_hold` and `is_sound`, one for each return.
 use mathlib.Core.Path.{_≡_, sym, ap, _∙_}
-use mathlib.Core.Bool.{Bool, true, false, not, _&&_, _||_}
+use mathlib.Core.Bool.{Bool, true, false, not, false≢true, _&&_, _||_}
 use mathlib.Core.List.{List}
 use Prim.Native.Nat.{ℕ, _+_, _-_, _*_, _≤_, _<_}
 use lib.Dec.{eqb, leb}
@@ -12,7 +12,7 @@ use Rattle.relation.specs.Bits.{bit, maskOf}
 use Rattle.relation.specs.Lists.{allBelow}
 use Rattle.relation.specs.Finite.{related, rowsOf, closed, loops}
 use Rattle.relation.proofs.BitLaws.{bit-mask}
-use Rattle.relation.proofs.ListLaws.{allBelow-ext, and-left, and-right, getD-tabulate}
+use Rattle.relation.proofs.ListLaws.{allBelow-ext, and-left, and-right}
 use Rattle.relation.proofs.FiniteLaws.{Agree, related-rows, loops-closed}
 use Rattle.relation.proofs.MaskLaws.{mask-part}
 use Rattle.model.specs.declared.Rule.{Rule}
@@ -26,8 +26,8 @@ use Rattle.cache.specs.Needs.{needsRing, met}
 use Rattle.cache.specs.Needs as cache
 use Rattle.cache.specs.State.{ruleCount, acceptedCount, storedCount, rulesIn, writesIn, storedIn}
 use Rattle.cache.specs.Sound.{zeros, layout, sound}
-use Rattle.soundness.specs.Parts.{flagFits, partOf, covered, coveredAt, needsHold}
-use Rattle.soundness.proofs.Steps.{writes-length}
+use Rattle.soundness.specs.Parts.{flagFits, partOf, covered, coveredAt, needsHold, Tabled, TabledIf}
+use Rattle.needs.proofs.Steps.{writes-length, row-at}
 
 -- ---- has_layout
 
@@ -70,12 +70,6 @@ table-agrees R rows n e i j hi hj =
     ∙ related-rows R n i j hi hj
 
 module _ (rules : List Rule) (s rows : List ℕ) (e : take (acceptedCount s) rows ≡ rowsOf (cache.needs rules (writesIn s)) (acceptedCount s)) where
-  row-at : (i : ℕ) → i < acceptedCount s → getD rows i 0 ≡ maskOf (cache.needs rules (writesIn s) i) (acceptedCount s)
-  unfolding rowsOf
-  row-at i h =
-      sym (getD-take (acceptedCount s) rows i 0 h) ∙ ap (λ (l : List ℕ). getD l i 0) e
-      ∙ getD-tabulate (λ k. maskOf (cache.needs rules (writesIn s) k) (acceptedCount s)) (acceptedCount s) i 0 h
-
   module _ (mask : ℕ) (q : mask ≡ maskOf (storedIn s) (acceptedCount s)) where
     -- the mask of the stored writes, bit by bit
     pub stored-bit : (i : ℕ) → i < acceptedCount s → bit mask i ≡ storedIn s i
@@ -85,7 +79,7 @@ module _ (rules : List Rule) (s rows : List ℕ) (e : take (acceptedCount s) row
     pub row-met : (i : ℕ) → i < acceptedCount s → partOf (getD rows i 0) mask ≡ met rules (writesIn s) (storedIn s) i
     unfolding met
     row-met i h =
-        rw (row-at i h, writes-length s) (mask-part (cache.needs rules (writesIn s) i) (acceptedCount s) mask
+        rw (row-at rules s rows e i h, writes-length s) (mask-part (cache.needs rules (writesIn s) i) (acceptedCount s) mask
         ∙ allBelow-ext _ _ (acceptedCount s) (λ j hj. rw (stored-bit j hj)))
 
     -- stored writes need only stored ones
@@ -108,6 +102,11 @@ module _ (rules : List Rule) (s rows : List ℕ) (e : take (acceptedCount s) row
 pub ruleset holding = (needs, hold-uncovered, hold-ring)
 
 -- ---- is_sound
+
+-- of a state that is refused nothing is said
+pub untabled : (s rows : List ℕ) → TabledIf false s rows
+unfolding TabledIf
+untabled s rows = λ t. absurd (false≢true t)
 
 module _ (s : List ℕ) (a : Bool) (e : a ≡ layout s) where
   pub sound-layout : not a ≡ true → false ≡ sound s
@@ -148,8 +147,12 @@ module _ (s : List ℕ) (a : Bool) (e : a ≡ layout s) where
             unfolding sound
             sound-flags h = rw (← e, not-false a g, ← i, ← f, not-false b k, ← l, z, ← p, ← q, ne-eqb m n h)
 
+            pub sound-tabled : (x : Bool) (rows : List ℕ) → take (acceptedCount s) rows ≡ rowsOf (cache.needs (rulesOf r) (writesIn s)) (acceptedCount s) → TabledIf x s rows
+            unfolding TabledIf Tabled
+            sound-tabled x rows y = λ t. rw i at y
+
             pub sound-needs : (x : Bool) → m ≡ n → x ≡ needsHold (rulesOf r) s → x ≡ sound s
             unfolding sound needsHold
             sound-needs x h y = y ∙ rw (← e, not-false a g, ← i, ← f, not-false b k, ← l, z, ← p, ← q, eq-eqb m n h)
 
-pub ruleset sounding = (needs, sound-layout, sound-few, sound-most, sound-count, sound-known, sound-cyclic, sound-flags, sound-needs)
+pub ruleset sounding = (needs, sound-layout, sound-few, sound-most, sound-count, sound-known, sound-cyclic, sound-flags, sound-needs, sound-tabled, untabled)

@@ -1,22 +1,25 @@
 -- What the parts of the code compute.
-use Prim.Native.Nat.{ℕ, _+_}
-use mathlib.Core.Bool.{Bool, not, _&&_, _||_}
+use Prim.Native.Nat.{ℕ, zero, _+_}
+use mathlib.Core.Path.{_≡_}
+use mathlib.Core.Bool.{Bool, true, not, _&&_, _||_}
 use mathlib.Core.List.{List}
 use lib.Bits.{bitAnd}
 use lib.Dec.{eqb, leb}
-use lib.ListN.{getD}
+use lib.ListN.{getD, take}
 use Rattle.relation.specs.Bits.{bit}
 use Rattle.relation.specs.Lists.{allBelow}
+use Rattle.relation.specs.Finite.{rowsOf}
 use Rattle.model.specs.declared.Rule.{Rule}
-use Rattle.model.specs.declared.Write.{Write}
-use Rattle.model.specs.Rules.{labelOf, dependsOn}
 use Rattle.reader.specs.Bytes.{byte}
-use Rattle.cache.specs.Needs.{needsRing, met}
-use Rattle.cache.specs.State.{acceptedCount, writeBase, flagIn, writesIn, storedIn}
+use Rattle.cache.specs.Needs.{needs, needsRing, met}
+use Rattle.cache.specs.State.{acceptedCount, writeBase, flagIn, rulesIn, writesIn, storedIn}
 
--- w needs v, which was accepted earlier or not
-unfoldable pub needsOf : List Rule → Write → Write → Bool → Bool
-needsOf rules w v earlier = dependsOn rules (labelOf w) (labelOf v) || earlier && eqb (v .address) (w .address)
+-- a table's first rows are what a state's writes need
+unfoldable pub Tabled : List ℕ → List ℕ → Type 0
+Tabled s rows = take (acceptedCount s) rows ≡ rowsOf (needs (rulesIn s) (writesIn s)) (acceptedCount s)
+
+unfoldable pub TabledIf : Bool → List ℕ → List ℕ → Type 0
+TabledIf b s rows = b ≡ true → Tabled s rows
 
 -- the last two bytes of write i's place are a flag and zero
 unfoldable pub flagFits : List ℕ → ℕ → Bool

@@ -8,21 +8,30 @@ use reference::generate::{self, Palette};
 use reference::judge::judge_test;
 use reference::log;
 use reference::random::Random;
-use reference::samples::log_rules;
+use reference::samples::{log_rules, test_k};
 use reference::writes::{Block, Predicate, Rule, Write};
 
 fn block(first: u16, second: u16) -> Block {
     Block { first, second }
 }
 
+fn file_of(rules: &[Rule], test: Test) -> Vec<u8> {
+    let file = File {
+        rules: rules.to_vec(),
+        tests: vec![test],
+    };
+    file.to_bytes()
+}
+
+/// Test K of the bench sheet.
+pub fn k_file(rules: &[Rule]) -> Vec<u8> {
+    file_of(rules, test_k())
+}
+
 /// A log of six puts, after one that is there.
 pub fn log_file(rules: &[Rule]) -> Vec<u8> {
     let puts: Vec<Block> = (1..=6).map(|key| block(key, 80 + key)).collect();
-    let file = File {
-        rules: rules.to_vec(),
-        tests: vec![log::test_of(&[block(0, 42)], &puts)],
-    };
-    file.to_bytes()
+    file_of(rules, log::test_of(&[block(0, 42)], &puts))
 }
 
 /// A random test of 12 main writes and 16 checks that holds with hundreds of valid schedules, under

@@ -1,14 +1,44 @@
 // The benchmark: each proved routine and its counterpart in Rust on the same input, in one process,
-// in turn; the medians and their ratio.
+// in turn; the medians and their ratio. Then the proved verdict and an SMT solver's. With --check
+// it only compares the solver's answers with the reference's, on many random tests.
 
 mod inputs;
 mod measure;
 mod rows;
+mod smt;
+mod solver;
+mod verdicts;
+
+use std::env;
+use std::process::exit;
 
 use measure::{in_words, medians, ROUNDS};
 use rows::Part;
 
+/// How many random files the solver judges for `--check`.
+const CHECKED: u64 = 400;
+
+const NO_SOLVER: &str = "z3 is not there: no comparison with an SMT solver";
+
 fn main() {
+    match env::args().nth(1).as_deref() {
+        None => {
+            routines();
+            against_solver();
+        }
+        Some("--check") if solver::version().is_some() => verdicts::compare_with_reference(CHECKED),
+        Some("--check") => {
+            eprintln!("{NO_SOLVER}");
+            exit(1);
+        }
+        Some(_) => {
+            eprintln!("usage: benchmark [--check]");
+            exit(2);
+        }
+    }
+}
+
+fn routines() {
     println!("Proved routines linked from libworkbench.a and libreceiver.a of 'rt staticlib';");
     println!("Rust from tests/fast. Release builds, same process, called in turn; time of a call,");
     println!("median of {ROUNDS} rounds.");
@@ -31,11 +61,49 @@ fn main() {
 fn print_row(mut row: rows::Row) {
     let (routine, input) = (row.routine, row.input);
     assert_eq!((row.proved)(), (row.rust)(), "{routine}, {input}");
-    let (proved, rust) = medians(&mut row.proved, &mut row.rust);
+    let [proved, rust] = medians([&mut row.proved, &mut row.rust]);
     println!(
         "| {routine} | {input} | {} | {} | {:.2} |",
         in_words(proved),
         in_words(rust),
         proved / rust
+    );
+}
+
+/// The second table, if there is z3 for it.
+fn against_solver() {
+    match (library::VERDICT, solver::version()) {
+        (Some(verdict), Some(version)) => print_verdicts(verdict, version),
+        (Some(_), None) => println!("{NO_SOLVER}"),
+        (None, _) => {}
+    }
+}
+
+fn print_verdicts(verdict: verdicts::Verdict, version: String) {
+    println!("The proved verdict against an SMT solver on Def. 3.5 of document 000: {version},");
+    println!("SMT-LIB 2, logic QF_BV. 'z3' is with the start of its process, 'running' without:");
+    println!("one process is asked again and again. Its question is written before; the proved");
+    println!("verdict reads the file in each call. Median of {ROUNDS} rounds.");
+    println!();
+    println!("| input | answer | proved verdict | z3 | z3/proved | running | running/proved |");
+    println!("|---|---|---:|---:|---:|---:|---:|");
+    verdicts::rows(verdict).into_iter().for_each(print_answers);
+}
+
+fn print_answers(mut row: verdicts::Row) {
+    let answer = (row.proved)();
+    assert_eq!(answer, (row.started)(), "z3, {}", row.input);
+    assert_eq!(answer, (row.running)(), "z3 running, {}", row.input);
+    let calls = [&mut row.proved, &mut row.started, &mut row.running];
+    let [proved, started, running] = medians(calls);
+    println!(
+        "| {} | {} | {} | {} | {:.0} | {} | {:.0} |",
+        row.input,
+        if answer == 0 { "holds" } else { "fails" },
+        in_words(proved),
+        in_words(started),
+        started / proved,
+        in_words(running),
+        running / proved
     );
 }

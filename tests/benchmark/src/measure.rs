@@ -1,4 +1,4 @@
-// Times of calls: batches of both sides in turn, so that what else runs on the machine slows both.
+// Times of calls: batches of all sides in turn, so that what else runs on the machine slows all.
 
 use std::time::{Duration, Instant};
 
@@ -41,14 +41,14 @@ fn median(mut times: Vec<f64>) -> f64 {
 }
 
 /// The median times of a call of each.
-pub fn medians(one: &mut Call, two: &mut Call) -> (f64, f64) {
-    let (batch_one, batch_two) = (batch(one), batch(two));
-    let (mut times_one, mut times_two) = (Vec::new(), Vec::new());
+pub fn medians<const N: usize>(calls: [&mut Call; N]) -> [f64; N] {
+    let mut timed = calls.map(|call| (batch(call), call, Vec::new()));
     for _ in 0..ROUNDS {
-        times_one.push(time(one, batch_one));
-        times_two.push(time(two, batch_two));
+        for (times, call, all) in &mut timed {
+            all.push(time(call, *times));
+        }
     }
-    (median(times_one), median(times_two))
+    timed.map(|(_, _, all)| median(all))
 }
 
 /// Seconds with a unit.

@@ -70,7 +70,8 @@ fn main() {
     let (mut passed, mut failed) = (0, 0);
     for part in parts() {
         if !part.is_there {
-            println!("not there yet: {}", part.name);
+            println!("not there: {}", part.name);
+            failed += 1;
             continue;
         }
         for suite in part.suites.iter().filter(|suite| wanted(suite)) {

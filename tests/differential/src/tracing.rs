@@ -11,6 +11,7 @@ use crate::lent::Lent;
 pub fn suites() -> Vec<Suite> {
     let suite = |name, run| Suite { name, run };
     vec![
+        suite("trace: the bench sheet's lines", bench_sheet),
         suite("trace: every number of puts", every_number),
         suite("trace: any programs", any_programs),
         suite("trace: 12, every buffer around a trace", buffers),
@@ -30,6 +31,47 @@ fn same_trace(random: &mut Random, initial: &[u8], main: &[u8], length: usize) -
     one.unchanged("initial")?;
     two.unchanged("main")?;
     buffer.became("buffer", &after)
+}
+
+/// The initial put (0,42) of test K, its main puts (1,81) and (2,37), and K as the sheet's bytes.
+const INITIAL_K: [u8; 4] = [0, 0, 0, 42];
+const MAIN_K: [u8; 8] = [0, 1, 0, 81, 0, 2, 0, 37];
+const K: [u8; 85] = [
+    1, 0, 10, 1, 1, 0, 0, 0, 0, 0, 0, 0, 42, // (0,42) to address 1
+    1, 0, 10, 0, 2, 0, 0, 0, 0, 0, 1, 0, 2, // superblock (1,2)
+    2, 0, 10, 2, 1, 0, 0, 0, 1, 0, 1, 0, 81, // (1,81) to address 2
+    2, 0, 10, 0, 2, 0, 0, 0, 1, 0, 1, 0, 3, // superblock (1,3)
+    2, 0, 10, 3, 1, 0, 0, 0, 2, 0, 2, 0, 37, // (2,37) to address 3
+    2, 0, 10, 0, 2, 0, 0, 0, 2, 0, 1, 0, 4, // superblock (1,4)
+    4, 0, 1, 0, 7, 0, 0, // the range check at 0, and the end
+];
+
+/// A put of (0,0) is 20, (0,42) is accepted; 85 bytes hold K, 84 give 12. The answers are written
+/// out, and no implementation is asked.
+fn bench_sheet(run: &mut Run) -> Outcome {
+    let refused = |number: u64| (1 << 63) + (number << 32);
+    let lines: [(&[u8], &[u8], usize, u64, &[u8]); 5] = [
+        (&[0; 4], &[], 100, refused(20), &[]),
+        (&[], &[0; 4], 100, refused(20), &[]),
+        (&INITIAL_K, &[], 33, 33, &[]),
+        (&INITIAL_K, &MAIN_K, 85, 85, &K),
+        (&INITIAL_K, &MAIN_K, 84, refused(12), &[]),
+    ];
+    for (initial, main, length, expected, bytes) in lines {
+        let mut random = run.next_case();
+        let (one, two) = (Lent::new(&mut random, initial), Lent::new(&mut random, main));
+        let mut after = random.bytes(length);
+        let mut buffer = Lent::new(&mut random, &after);
+        let got = calls::trace(&one, &two, &mut buffer);
+        let inputs = [("initial", initial), ("main", main)];
+        same_answer_on(&format!("trace into {length} bytes"), &inputs, expected, got)?;
+        if expected < 1 << 63 && bytes.is_empty() {
+            continue;
+        }
+        after[..bytes.len()].copy_from_slice(bytes);
+        buffer.became("buffer", &after)?;
+    }
+    Ok(())
 }
 
 /// So many puts; with zeros in them, but none of (0,0).

@@ -1,30 +1,38 @@
--- `candidates::pick` meets its contract. The invariant: the set of the first i candidates is held.
+-- `candidates::pick` meets its contract. The invariant: the first n rules written are the set of the first i candidates.
 use mathlib.Core.Path.{_≡_}
 use Prim.Native.Nat.{_-_, _≤_}
-use lib.ListN.{take}
+use lib.ListN.{length, take}
 use Rattle.model.specs.Find.{picked}
-use Rattle.rules.specs.Held.{rulesOf}
 use Rattle.candidates.proofs.Steps.{steps}
 use Rattle.candidates.proofs.pick.Statement.{statement}
 use Rattle.candidates.proofs.pick.Tie as tie
 
 abbrev Inv-loop : tie.InvT-loop
-Inv-loop m c out₀ i₀ out i = (i ≤ c .count) × (out .count ≤ i) × (rulesOf out ≡ picked (take i (c .items)) m)
+Inv-loop m c items₀ n₀ i₀ items n i = (i ≤ c .count) × (n ≤ i) × (length items ≡ 32) × (take n items ≡ picked (take i (c .items)) m)
 
 abbrev μ-loop : tie.MeasureT-loop
-μ-loop m c out₀ i₀ out i = c .count - i
+μ-loop m c items₀ n₀ i₀ items n i = c .count - i
 
 loop-holds : tie.Need-loop-holds Inv-loop μ-loop
 loop-holds c = search steps
 
-mul-keep : tie.Need-mul-keep Inv-loop μ-loop
-mul-keep c = search steps
+mul-rule : tie.Need-mul-rule Inv-loop μ-loop
+mul-rule c = search steps
 
-element-copy-out-keep : tie.Need-element-copy-out-keep Inv-loop μ-loop
-element-copy-out-keep c = search steps
+element-copy-out-rule : tie.Need-element-copy-out-rule Inv-loop μ-loop
+element-copy-out-rule c = search steps
 
-keep-requires : tie.Need-keep-requires Inv-loop μ-loop
-keep-requires c κs = search steps
+mul-items : tie.Need-mul-items Inv-loop μ-loop
+mul-items c = search steps
+
+array-set-from-items : tie.Need-array-set-from-items Inv-loop μ-loop
+array-set-from-items c = search steps
+
+digit-requires : tie.Need-digit-requires Inv-loop μ-loop
+digit-requires c κs = search steps
+
+add-n : tie.Need-add-n Inv-loop μ-loop
+add-n c = search steps
 
 add-i : tie.Need-add-i Inv-loop μ-loop
 add-i c = search steps
@@ -45,9 +53,12 @@ pick-spec =
     Inv-loop
     μ-loop
     loop-holds
-    mul-keep
-    element-copy-out-keep
-    keep-requires
+    mul-rule
+    element-copy-out-rule
+    mul-items
+    array-set-from-items
+    digit-requires
+    add-n
     add-i
     loop-less
     loop-again

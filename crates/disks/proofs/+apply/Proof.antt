@@ -6,7 +6,6 @@ use Rattle.disks.proofs.apply.Reads as apply
 use Rattle.disks.proofs.apply.Kinds as apply-kinds
 use Rattle.disks.proofs.+apply.Lts-apply as apply-lts
 use Rattle.disks.proofs.store_if.Reads as store-if-reads
-use Rattle.reader.proofs.write_at.Reads as write-at-reads
 use Rattle.disks.proofs.+apply.{statement}
 use Rattle.disks.proofs.+apply.Tie.{close}
 
@@ -19,21 +18,26 @@ apply-at t = and 2 apply-kinds.ps (is 2 apply-kinds.ps μ-apply t) apply.Pre
 abbrev apply-below : ℕ → In 2 apply-kinds.ps
 apply-below t = and 2 apply-kinds.ps (falls 2 apply-kinds.ps _<_ μ-apply t) apply.Pre
 
--- src/lib.rt:29:43
-apply-write-at-requires : (t : ℕ) → apply-lts.Need-write-at-requires (
-  write-at-reads.Asked,
-  write-at-reads.Learnt,
+-- src/lib.rt:48:43
+apply-mul-store-if : (t : ℕ) → apply-lts.Need-mul-store-if (
   store-if-reads.Asked,
   store-if-reads.Learnt,
   apply-below t,
   apply.Post,
 ) (apply-at t) apply.Post
-apply-write-at-requires t c κs = search steps
+apply-mul-store-if t c = search steps
 
--- src/lib.rt:29:9
+-- src/lib.rt:48:43
+apply-element-copy-out-store-if : (t : ℕ) → apply-lts.Need-element-copy-out-store-if (
+  store-if-reads.Asked,
+  store-if-reads.Learnt,
+  apply-below t,
+  apply.Post,
+) (apply-at t) apply.Post
+apply-element-copy-out-store-if t c = search steps
+
+-- src/lib.rt:48:9
 apply-store-if-requires : (t : ℕ) → apply-lts.Need-store-if-requires (
-  write-at-reads.Asked,
-  write-at-reads.Learnt,
   store-if-reads.Asked,
   store-if-reads.Learnt,
   apply-below t,
@@ -41,10 +45,8 @@ apply-store-if-requires : (t : ℕ) → apply-lts.Need-store-if-requires (
 ) (apply-at t) apply.Post
 apply-store-if-requires t c κs = search steps
 
--- src/lib.rt:30:27
+-- src/lib.rt:49:28
 apply-add-apply : (t : ℕ) → apply-lts.Need-add-apply (
-  write-at-reads.Asked,
-  write-at-reads.Learnt,
   store-if-reads.Asked,
   store-if-reads.Learnt,
   apply-below t,
@@ -52,10 +54,8 @@ apply-add-apply : (t : ℕ) → apply-lts.Need-add-apply (
 ) (apply-at t) apply.Post
 apply-add-apply t c = search steps
 
--- src/lib.rt:30:36
+-- src/lib.rt:49:35
 apply-sub-apply : (t : ℕ) → apply-lts.Need-sub-apply (
-  write-at-reads.Asked,
-  write-at-reads.Learnt,
   store-if-reads.Asked,
   store-if-reads.Learnt,
   apply-below t,
@@ -63,10 +63,8 @@ apply-sub-apply : (t : ℕ) → apply-lts.Need-sub-apply (
 ) (apply-at t) apply.Post
 apply-sub-apply t c = search steps
 
--- src/lib.rt:30:9
+-- src/lib.rt:49:9
 apply-apply-requires : (t : ℕ) → apply-lts.Need-apply-requires (
-  write-at-reads.Asked,
-  write-at-reads.Learnt,
   store-if-reads.Asked,
   store-if-reads.Learnt,
   apply-below t,
@@ -74,21 +72,8 @@ apply-apply-requires : (t : ℕ) → apply-lts.Need-apply-requires (
 ) (apply-at t) apply.Post
 apply-apply-requires t c κs = search steps
 
--- src/lib.rt:24:1
-apply-same-length : (t : ℕ) → apply-lts.Need-same-length (
-  write-at-reads.Asked,
-  write-at-reads.Learnt,
-  store-if-reads.Asked,
-  store-if-reads.Learnt,
-  apply-below t,
-  apply.Post,
-) (apply-at t) apply.Post
-apply-same-length t c = search steps
-
--- src/lib.rt:24:1
+-- src/lib.rt:43:1
 apply-returns : (t : ℕ) → apply-lts.Need-returns (
-  write-at-reads.Asked,
-  write-at-reads.Learnt,
   store-if-reads.Asked,
   store-if-reads.Learnt,
   apply-below t,
@@ -96,10 +81,8 @@ apply-returns : (t : ℕ) → apply-lts.Need-returns (
 ) (apply-at t) apply.Post
 apply-returns t c = search steps
 
--- src/lib.rt:24:1
+-- src/lib.rt:43:1
 apply-returns-2 : (t : ℕ) → apply-lts.Need-returns-2 (
-  write-at-reads.Asked,
-  write-at-reads.Learnt,
   store-if-reads.Asked,
   store-if-reads.Learnt,
   apply-below t,
@@ -109,8 +92,6 @@ apply-returns-2 t c = search steps
 
 pub +apply-spec : {M : Type 1} → statement M
 +apply-spec = close μ-apply λ t. apply-lts.spec (
-  write-at-reads.Asked,
-  write-at-reads.Learnt,
   store-if-reads.Asked,
   store-if-reads.Learnt,
   apply-below t,
@@ -118,11 +99,11 @@ pub +apply-spec : {M : Type 1} → statement M
 )
     (apply-at t)
     apply.Post
-    (apply-write-at-requires t)
+    (apply-mul-store-if t)
+    (apply-element-copy-out-store-if t)
     (apply-store-if-requires t)
     (apply-add-apply t)
     (apply-sub-apply t)
     (apply-apply-requires t)
-    (apply-same-length t)
     (apply-returns t)
     (apply-returns-2 t)

@@ -8,27 +8,27 @@ use Rattle.disks.proofs.first_of.Reads as first-of-reads
 use Rattle.disks.proofs.range_holds.Reads as range-holds-reads
 use Rattle.disks.proofs.second_of.Reads as second-of-reads
 
--- src/lib.rt:72:13
+-- src/lib.rt:88:13
 mul-b : tie.Need-mul-b
-mul-b c = search needs
+mul-b c = search steps
 
--- src/lib.rt:72:13
-shared-slice-read-b : tie.Need-shared-slice-read-b
-shared-slice-read-b c = search needs
+-- src/lib.rt:88:13
+element-copy-out-b : tie.Need-element-copy-out-b
+element-copy-out-b c = search steps
 
--- src/lib.rt:73:23
+-- src/lib.rt:89:23
 first-of-requires : tie.Need-first-of-requires
-first-of-requires c κs = search needs
+first-of-requires c κs = search steps
 
--- src/lib.rt:73:36
+-- src/lib.rt:89:36
 second-of-requires : tie.Need-second-of-requires
-second-of-requires c κs = search needs
+second-of-requires c κs = search steps
 
--- src/lib.rt:73:5
+-- src/lib.rt:89:5
 range-holds-requires : tie.Need-range-holds-requires
-range-holds-requires c κs = search needs
+range-holds-requires c κs = search steps
 
--- src/lib.rt:68:1
+-- src/lib.rt:85:1
 returns : tie.Need-returns
 returns c = search steps
 
@@ -37,7 +37,7 @@ range-at-spec =
     tie.close
     (tie.spec
     mul-b
-    shared-slice-read-b
+    element-copy-out-b
     first-of-requires
     second-of-requires
     range-holds-requires

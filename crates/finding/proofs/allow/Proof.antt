@@ -10,10 +10,10 @@ use Rattle.finding.proofs.allow.Statement.{statement}
 use Rattle.finding.proofs.allow.Tie as tie
 
 abbrev Inv-loop : tie.InvT-loop
-Inv-loop allowed₀ c rows n total s₀ allowed s = (s ≤ total) × (total ≡ 2 ^ n) × (total ≤ 4096) × (length allowed ≡ 4096) × Grown (withValid (validBy rows n) c) allowed₀ allowed s
+Inv-loop allowed₀ c low high n total s₀ allowed s = (s ≤ total) × (total ≡ 2 ^ n) × (total ≤ 4096) × (length allowed ≡ 4096) × Grown (withValid (validBy low high) c) allowed₀ allowed s
 
 abbrev μ-loop : tie.MeasureT-loop
-μ-loop allowed₀ c rows n total s₀ allowed s = total - s
+μ-loop allowed₀ c low high n total s₀ allowed s = total - s
 
 shl-total : tie.Need-shl-total Inv-loop μ-loop
 shl-total c = search allowing

@@ -1,16 +1,19 @@
--- `finding::allow_rule` meets its contract. The rows of the one rule decide validity under it.
+-- `finding::allow_rule` meets its contract. The unions of the one rule decide validity under it.
 use Rattle.finding.proofs.Steps.{allowing}
 use Rattle.finding.proofs.allow_rule.Statement.{statement}
 use Rattle.finding.proofs.allow_rule.Tie as tie
 
-slice-aggregate-fill : tie.Need-slice-aggregate-fill
-slice-aggregate-fill c = search allowing
+slice-aggregate-prepare : tie.Need-slice-aggregate-prepare
+slice-aggregate-prepare c = search allowing
+
+slice-aggregate-prepare-2 : tie.Need-slice-aggregate-prepare-2
+slice-aggregate-prepare-2 c = search allowing
 
 one-requires : tie.Need-one-requires
 one-requires c κs = search allowing
 
-fill-requires : tie.Need-fill-requires
-fill-requires c κs = search allowing
+prepare-requires : tie.Need-prepare-requires
+prepare-requires c κs = search allowing
 
 allow-requires : tie.Need-allow-requires
 allow-requires c κs = search allowing
@@ -24,4 +27,11 @@ returns c = search allowing
 pub allow-rule-spec : {M : Type 1} → statement M
 allow-rule-spec =
     tie.close
-    (tie.spec slice-aggregate-fill one-requires fill-requires allow-requires same-length returns)
+    (tie.spec
+    slice-aggregate-prepare
+    slice-aggregate-prepare-2
+    one-requires
+    prepare-requires
+    allow-requires
+    same-length
+    returns)

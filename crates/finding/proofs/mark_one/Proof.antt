@@ -1,10 +1,7 @@
--- `finding::mark_one` meets its contract. By the callee's answer.
+-- `finding::mark_one` meets its contract. By the flag.
 use Rattle.finding.proofs.Steps.{marking}
 use Rattle.finding.proofs.mark_one.Statement.{statement}
 use Rattle.finding.proofs.mark_one.Tie as tie
-
-leaves-consistent-requires : tie.Need-leaves-consistent-requires
-leaves-consistent-requires c κs = search marking
 
 returns : tie.Need-returns
 returns c = search marking
@@ -19,5 +16,4 @@ returns-2 : tie.Need-returns-2
 returns-2 c = search marking
 
 pub mark-one-spec : {M : Type 1} → statement M
-mark-one-spec =
-    tie.close (tie.spec leaves-consistent-requires returns slice-write-table same-length returns-2)
+mark-one-spec = tie.close (tie.spec returns slice-write-table same-length returns-2)

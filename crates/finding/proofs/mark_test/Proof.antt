@@ -1,4 +1,4 @@
--- `finding::mark_test` meets its contract. The disk, the checks and the sets are the test's.
+-- `finding::mark_test` meets its contract. The disk, the writes, the checks and the sets are the test's.
 use Rattle.finding.proofs.Steps.{marking}
 use Rattle.finding.proofs.mark_test.Statement.{statement}
 use Rattle.finding.proofs.mark_test.Tie as tie
@@ -20,6 +20,12 @@ initial-disk-requires c κs = search marking
 
 file-checks-requires : tie.Need-file-checks-requires
 file-checks-requires c κs = search marking
+
+slice-aggregate-load : tie.Need-slice-aggregate-load
+slice-aggregate-load c = search marking
+
+load-requires : tie.Need-load-requires
+load-requires c κs = search marking
 
 allowed-sets-requires : tie.Need-allowed-sets-requires
 allowed-sets-requires c κs = search marking
@@ -43,6 +49,8 @@ mark-test-spec =
     add-checks-at
     initial-disk-requires
     file-checks-requires
+    slice-aggregate-load
+    load-requires
     allowed-sets-requires
     mark-requires
     same-length

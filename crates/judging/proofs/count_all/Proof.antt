@@ -1,49 +1,55 @@
-use Prim.Native.Nat.{_-_, _^_, _≤_}
+-- `judging::count_all` meets its contract. The invariant: the schedules that begin with a number below x are counted.
+use Prim.Native.Nat.{_+_, _-_, _^_, _≤_}
 use mathlib.Core.Path.{_≡_}
+use native.Mathlib.Omega.{arith}
 use lib.ListN.{take}
-use Rattle.reader.specs.Scan.{writesAt}
-use Rattle.judging.specs.Rows.{validBy, badBy}
-use Rattle.judging.specs.Judge.{Tallies}
-use Rattle.judging.proofs.CountLaws.{counts}
+use Rattle.judging.proofs.GridLaws.{grids, Gridded, grid-more, grid-valid, grid-bad}
 use Rattle.judging.proofs.count_all.Statement.{statement}
 use Rattle.judging.proofs.count_all.Tie as tie
-use Rattle.judging.proofs.count_all.Reads as reads
-use Rattle.judging.proofs.count_all.Lts as lts
-use Rattle.judging.proofs.judge_one.Reads as judge-one-reads
 
 abbrev Inv-loop : tie.InvT-loop
-Inv-loop rows base file at n checks m total j₀ s₀ j s = (s ≤ total) × (total ≡ 2 ^ n) × (total ≤ 4096) × Tallies (validBy rows n) (badBy rows n base (writesAt file at n) (take m checks)) s j
+Inv-loop low high base table n checks m near far rows j₀ x₀ j x =
+    (x ≤ rows) × (rows ≡ 2 ^ near) × (rows ≤ 64) × (near + far ≡ n) × (far ≤ 6) × Gridded low high base table (take m checks) near far x j
 
 abbrev μ-loop : tie.MeasureT-loop
-μ-loop rows base file at n checks m total j₀ s₀ j s = total - s
+μ-loop low high base table n checks m near far rows j₀ x₀ j x = rows - x
 
--- src/lib.rt:164:17
-shl-total : tie.Need-shl-total Inv-loop μ-loop
-shl-total c = search counts
+half-requires : tie.Need-half-requires Inv-loop μ-loop
+half-requires c κs = search grids
 
--- src/lib.rt:171:5
+sub-far : tie.Need-sub-far Inv-loop μ-loop
+sub-far c = search grids
+
+shl-rows : tie.Need-shl-rows Inv-loop μ-loop
+shl-rows c = search grids
+
 loop-holds : tie.Need-loop-holds Inv-loop μ-loop
-loop-holds c = search counts
+loop-holds c = search grids
 
--- src/lib.rt:172:9
-judge-one-requires : tie.Need-judge-one-requires Inv-loop μ-loop
-judge-one-requires c κs = search counts
+apply-requires : tie.Need-apply-requires Inv-loop μ-loop
+apply-requires c κs = search grids
 
--- src/lib.rt:173:9
-add-s : tie.Need-add-s Inv-loop μ-loop
-add-s c = search counts
+count-after-requires : tie.Need-count-after-requires Inv-loop μ-loop
+count-after-requires c κs =
+    let l = c .before .before .before .loop in
+    let i = l .inv in (
+      (grid-valid _ _ _ _ _ _ _ (l .x) (l .j) (i .5) _ (i .1) (omega arith) (i .2) (i .4), grid-bad _ _ _ _ _ _ _ (l .x) (l .j) (i .5) _ (i .1) (omega arith) (i .2) (i .4)),
+      ((omega arith, i .2), (omega arith, (i .4, omega arith))),
+    )
 
--- src/lib.rt:171:5
+add-x : tie.Need-add-x Inv-loop μ-loop
+add-x c = search grids
+
 loop-less : tie.Need-loop-less Inv-loop μ-loop
-loop-less c = search counts
+loop-less c = search grids
 
--- src/lib.rt:171:5
 loop-again : tie.Need-loop-again Inv-loop μ-loop
-loop-again c = search counts
+loop-again c =
+    let l = c .before .before .before .before .loop in
+    (omega arith, l .inv .1, l .inv .2, l .inv .3, l .inv .4, grid-more _ _ _ _ _ _ _ (l .x) (l .j) (l .inv .5) _ (c .before .apply .last .0) _ (l .inv .1) (omega arith) (c .before .apply .ensures) (c .count-after .ensures))
 
--- src/lib.rt:152:1
 returns : tie.Need-returns Inv-loop μ-loop
-returns c = search counts
+returns c = search grids
 
 pub count-all-spec : {M : Type 1} → statement M
 count-all-spec =
@@ -51,10 +57,13 @@ count-all-spec =
     (tie.spec
     Inv-loop
     μ-loop
-    shl-total
+    half-requires
+    sub-far
+    shl-rows
     loop-holds
-    judge-one-requires
-    add-s
+    apply-requires
+    count-after-requires
+    add-x
     loop-less
     loop-again
     returns)

@@ -4,9 +4,10 @@ use Rattle.judging.proofs.decide_test.Statement.{statement}
 use Rattle.judging.proofs.decide_test.Tie as tie
 use Rattle.judging.proofs.decide_test.Reads as reads
 use Rattle.judging.proofs.decide_test.Lts as lts
-use Rattle.judging.proofs.fill.Reads as fill-reads
+use Rattle.disks.proofs.load.Reads as load-reads
 use Rattle.judging.proofs.first_bad.Reads as first-bad-reads
 use Rattle.judging.proofs.initial_disk.Reads as initial-disk-reads
+use Rattle.judging.proofs.prepare.Reads as prepare-reads
 use Rattle.loading.proofs.file_checks.Reads as file-checks-reads
 
 -- src/lib.rt:264:24
@@ -33,15 +34,27 @@ initial-disk-requires c κs = search needs
 file-checks-requires : tie.Need-file-checks-requires
 file-checks-requires c κs = search needs
 
--- src/lib.rt:269:10
-slice-aggregate-fill : tie.Need-slice-aggregate-fill
-slice-aggregate-fill c = search needs
+-- src/lib.rt:269:17
+slice-aggregate-load : tie.Need-slice-aggregate-load
+slice-aggregate-load c = search needs
 
 -- src/lib.rt:269:5
-fill-requires : tie.Need-fill-requires
-fill-requires c κs = search needs
+load-requires : tie.Need-load-requires
+load-requires c κs = search needs
 
--- src/lib.rt:270:5
+-- src/lib.rt:272:13
+slice-aggregate-prepare : tie.Need-slice-aggregate-prepare
+slice-aggregate-prepare c = search needs
+
+-- src/lib.rt:272:23
+slice-aggregate-prepare-2 : tie.Need-slice-aggregate-prepare-2
+slice-aggregate-prepare-2 c = search needs
+
+-- src/lib.rt:272:5
+prepare-requires : tie.Need-prepare-requires
+prepare-requires c κs = search needs
+
+-- src/lib.rt:273:5
 first-bad-requires : tie.Need-first-bad-requires
 first-bad-requires c κs = search needs
 
@@ -59,7 +72,10 @@ decide-test-spec =
     add-checks-at
     initial-disk-requires
     file-checks-requires
-    slice-aggregate-fill
-    fill-requires
+    slice-aggregate-load
+    load-requires
+    slice-aggregate-prepare
+    slice-aggregate-prepare-2
+    prepare-requires
     first-bad-requires
     returns)

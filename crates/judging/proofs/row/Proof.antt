@@ -1,55 +1,50 @@
 use Prim.Native.Nat.{_-_, _≤_}
 use mathlib.Core.Path.{_≡_}
+use lib.ListN.{take}
 use Rattle.model.specs.Rules.{label}
-use Rattle.rules.specs.Held.{rulesOf}
 use Rattle.judging.specs.Rows.{rowOf}
 use Rattle.judging.proofs.Steps.{steps}
 use Rattle.judging.proofs.row.Statement.{statement}
 use Rattle.judging.proofs.row.Tie as tie
 use Rattle.judging.proofs.row.Reads as reads
 use Rattle.judging.proofs.row.Lts as lts
-use Rattle.judging.proofs.with_dependency.Reads as with-dependency-reads
-use Rattle.reader.proofs.write_at.Reads as write-at-reads
+use Rattle.judging.proofs.rule_row.Reads as rule-row-reads
 
 abbrev Inv-loop : tie.InvT-loop
-Inv-loop rules file at n name epoch mask₀ j₀ mask j = (j ≤ n) × (mask ≡ rowOf (rulesOf rules) (label name epoch) file at j)
+Inv-loop file at n name epoch rules mask₀ k₀ mask k = (k ≤ rules .count) × (mask ≡ rowOf (take k (rules .items)) (label name epoch) file at n)
 
 abbrev μ-loop : tie.MeasureT-loop
-μ-loop rules file at n name epoch mask₀ j₀ mask j = n - j
+μ-loop file at n name epoch rules mask₀ k₀ mask k = rules .count - k
 
--- src/lib.rt:52:5
+-- src/lib.rt:90:5
 loop-holds : tie.Need-loop-holds Inv-loop μ-loop
 loop-holds c = search steps
 
--- src/lib.rt:53:45
-mul-write-at : tie.Need-mul-write-at Inv-loop μ-loop
-mul-write-at c = search steps
+-- src/lib.rt:91:32
+mul-rule-row : tie.Need-mul-rule-row Inv-loop μ-loop
+mul-rule-row c = search steps
 
--- src/lib.rt:53:40
-add-write-at : tie.Need-add-write-at Inv-loop μ-loop
-add-write-at c = search steps
+-- src/lib.rt:91:32
+element-copy-out-rule-row : tie.Need-element-copy-out-rule-row Inv-loop μ-loop
+element-copy-out-rule-row c = search steps
 
--- src/lib.rt:53:13
-write-at-requires : tie.Need-write-at-requires Inv-loop μ-loop
-write-at-requires c κs = search steps
+-- src/lib.rt:91:23
+rule-row-requires : tie.Need-rule-row-requires Inv-loop μ-loop
+rule-row-requires c κs = search steps
 
--- src/lib.rt:54:9
-with-dependency-requires : tie.Need-with-dependency-requires Inv-loop μ-loop
-with-dependency-requires c κs = search steps
+-- src/lib.rt:92:9
+add-k : tie.Need-add-k Inv-loop μ-loop
+add-k c = search steps
 
--- src/lib.rt:55:9
-add-j : tie.Need-add-j Inv-loop μ-loop
-add-j c = search steps
-
--- src/lib.rt:52:5
+-- src/lib.rt:90:5
 loop-less : tie.Need-loop-less Inv-loop μ-loop
 loop-less c = search steps
 
--- src/lib.rt:52:5
+-- src/lib.rt:90:5
 loop-again : tie.Need-loop-again Inv-loop μ-loop
 loop-again c = search steps
 
--- src/lib.rt:46:1
+-- src/lib.rt:84:1
 returns : tie.Need-returns Inv-loop μ-loop
 returns c = search steps
 
@@ -60,11 +55,10 @@ row-spec =
     Inv-loop
     μ-loop
     loop-holds
-    mul-write-at
-    add-write-at
-    write-at-requires
-    with-dependency-requires
-    add-j
+    mul-rule-row
+    element-copy-out-rule-row
+    rule-row-requires
+    add-k
     loop-less
     loop-again
     returns)

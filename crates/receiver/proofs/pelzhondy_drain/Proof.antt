@@ -1,6 +1,6 @@
 -- `receiver::pelzhondy_drain` meets its contract: a refusal, or the drain of a sound state.
 use Rattle.cache.specs.Calls.{drainOf}
-use Rattle.receiver.proofs.Steps.{calling, clean}
+use Rattle.storing.proofs.Steps.{calling, clean-few, cleared}
 use Rattle.receiver.proofs.pelzhondy_drain.Statement.{statement}
 use Rattle.receiver.proofs.pelzhondy_drain.Tie as tie
 
@@ -20,8 +20,11 @@ returns : tie.Need-returns
 unfolding drainOf
 returns c = search calling
 
+stored-mask-requires : tie.Need-stored-mask-requires
+stored-mask-requires c κs = clean-few _ _ _ (c .before .before .fault .ensures .0) (c .before .if1 .left)
+
 drain-sound-requires : tie.Need-drain-sound-requires
-drain-sound-requires c κs = clean _ _ _ (c .before .before .before .fault .ensures .0) (c .before .before .if1 .left)
+drain-sound-requires c κs = cleared _ _ _ (c .before .before .before .before .before .before .fault .ensures .0) (c .before .before .before .before .before .if1 .left) _ _ (c .before .before .before .before .before .before .fault .ensures .1 .1) (c .before .before .before .stored-mask .ensures)
 
 same-length-3 : tie.Need-same-length-3
 same-length-3 c = search calling
@@ -42,6 +45,7 @@ pelzhondy-drain-spec =
     same-length
     same-length-2
     returns
+    stored-mask-requires
     drain-sound-requires
     same-length-3
     same-length-4

@@ -1,6 +1,6 @@
 -- `receiver::pelzhondy_step` meets its contract: a refusal, or the step of a sound state.
 use Rattle.cache.specs.Calls.{stepOf}
-use Rattle.receiver.proofs.Steps.{calling, clean}
+use Rattle.storing.proofs.Steps.{calling, clean-few, cleared}
 use Rattle.receiver.proofs.pelzhondy_step.Statement.{statement}
 use Rattle.receiver.proofs.pelzhondy_step.Tie as tie
 
@@ -20,8 +20,11 @@ returns : tie.Need-returns
 unfolding stepOf
 returns c = search calling
 
+stored-mask-requires : tie.Need-stored-mask-requires
+stored-mask-requires c κs = clean-few _ _ _ (c .before .before .fault .ensures .0) (c .before .if1 .left)
+
 step-sound-requires : tie.Need-step-sound-requires
-step-sound-requires c κs = clean _ _ _ (c .before .before .before .fault .ensures .0) (c .before .before .if1 .left)
+step-sound-requires c κs = cleared _ _ _ (c .before .before .before .before .before .before .fault .ensures .0) (c .before .before .before .before .before .if1 .left) _ _ (c .before .before .before .before .before .before .fault .ensures .1 .1) (c .before .before .before .stored-mask .ensures)
 
 same-length-3 : tie.Need-same-length-3
 same-length-3 c = search calling
@@ -42,6 +45,7 @@ pelzhondy-step-spec =
     same-length
     same-length-2
     returns
+    stored-mask-requires
     step-sound-requires
     same-length-3
     same-length-4

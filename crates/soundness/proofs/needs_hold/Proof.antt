@@ -9,9 +9,6 @@ shared-slice-read-wide c = search holding
 wide-requires : tie.Need-wide-requires
 wide-requires c κs = search holding
 
-slice-aggregate-fill-needs : tie.Need-slice-aggregate-fill-needs
-slice-aggregate-fill-needs c = search holding
-
 fill-needs-requires : tie.Need-fill-needs-requires
 fill-needs-requires c κs = search holding
 
@@ -39,7 +36,6 @@ needs-hold-spec =
     (tie.spec
     shared-slice-read-wide
     wide-requires
-    slice-aggregate-fill-needs
     fill-needs-requires
     stored-mask-requires
     all-covered-requires

@@ -22,17 +22,17 @@ wide-requires c κs = search flags
 loop-holds : tie.Need-loop-holds Inv-loop μ-loop
 loop-holds c = search flags
 
-mul-with-flag : tie.Need-mul-with-flag Inv-loop μ-loop
-mul-with-flag c = search flags
+mul-with-bit-if : tie.Need-mul-with-bit-if Inv-loop μ-loop
+mul-with-bit-if c = search flags
 
-add-with-flag : tie.Need-add-with-flag Inv-loop μ-loop
-add-with-flag c = search flags
+add-with-bit-if : tie.Need-add-with-bit-if Inv-loop μ-loop
+add-with-bit-if c = search flags
 
-shared-slice-read-with-flag : tie.Need-shared-slice-read-with-flag Inv-loop μ-loop
-shared-slice-read-with-flag c = search flags
+shared-slice-read-with-bit-if : tie.Need-shared-slice-read-with-bit-if Inv-loop μ-loop
+shared-slice-read-with-bit-if c = search flags
 
-with-flag-requires : tie.Need-with-flag-requires Inv-loop μ-loop
-with-flag-requires c κs = search flags
+with-bit-if-requires : tie.Need-with-bit-if-requires Inv-loop μ-loop
+with-bit-if-requires c κs = search flags
 
 add-i : tie.Need-add-i Inv-loop μ-loop
 add-i c = search flags
@@ -55,10 +55,10 @@ stored-mask-spec =
     shared-slice-read-wide
     wide-requires
     loop-holds
-    mul-with-flag
-    add-with-flag
-    shared-slice-read-with-flag
-    with-flag-requires
+    mul-with-bit-if
+    add-with-bit-if
+    shared-slice-read-with-bit-if
+    with-bit-if-requires
     add-i
     loop-less
     loop-again

@@ -1,0 +1,3 @@
+pub mod ZerosLaws
+pub mod CallLaws
+pub mod Proved

@@ -1,0 +1,117 @@
+-- The theorem over the bench sheet: each line computes, and what speaks of every schedule or of labels follows from what is computed.
+use mathlib.Core.Path.{_≡_, refl, _∙_}
+use mathlib.Core.Bool.{Bool, true, not, _||_}
+use mathlib.Core.List.{List, [], _∷_}
+use Prim.{tt}
+use Prim.Native.Nat.{ℕ}
+use lib.Count.{ones, onesIn}
+use lib.Dec.{eqb, lit<}
+use lib.ListN.{length}
+use borrow.Author.Tests.{eqb-true, le-ltb}
+use Rattle.relation.specs.Bits.{bit, withBit, maskOf}
+use Rattle.relation.specs.Lists.{any, all, anyBelow, allBelow, tabulate}
+use Rattle.relation.specs.Finite.{related, rowsOf, joined, round, closed, loops, hasRing}
+use Rattle.relation.proofs.ListLaws.{allBelow-true}
+use Rattle.relation.proofs.MaskLaws.{implies}
+use Rattle.model.specs.declared.Rule.{Rule}
+use Rattle.model.specs.Answer.{Outcome, answer}
+use Rattle.model.specs.Disk.{block, firstOf, secondOf, empty, emptyDisk}
+use Rattle.model.specs.Rules.{stands, matches, dependsOn, known}
+use Rattle.model.specs.Cyclic.{noRule, leads, has, equalLeads, meets, cyclic}
+use Rattle.model.specs.Schedule.{store, run, written, noWrite, valid}
+use Rattle.model.specs.Check.{rangeHolds, holds, consistent}
+use Rattle.model.specs.Test.{Test, File, file, initialDisk, Bad, bad, testHolds, schedules, countBelow, validCount, badCount}
+use Rattle.model.specs.Find.{before, picked, pairing, inserted, fromWrite, fromTrace, candidatesOf, suffices, preferred, chosenBelow, chosen}
+use Rattle.model.proofs.TestLaws.{bad-true, true-bad, bad-fails, count-holds}
+use Rattle.reader.specs.Bytes.{half, word, writeBytes, ruleBytes}
+use Rattle.reader.specs.Encode.{fieldBytes, ruleFields, writeFields, checkField, checkFields, testBytes, testsBytes, fileBytes}
+use Rattle.reader.specs.File.{isTag, isCheck, bodyLength, ruleOf, writeOf, checkOf, countsOf, outOfOrder, overTest, overLimit, ruleFault, bodyFault, faultOf, grown, finished, readFrom, nothing, readOf}
+use Rattle.rules.proofs.Examples.{K5-not-cyclic, K6-cyclic}
+use Rattle.judging.specs.Judge.{Case, caseOf, caseIn}
+use Rattle.log.specs.Puts.{start, after, putWrites, writesOf, afterAll, logTest}
+use Rattle.finding.specs.Finder.{Found, over, wrote, findAmong, findIn, findOf}
+use Rattle.cache.specs.Needs.{needs, needsRing, met, readyFrom, ready}
+use Rattle.cache.specs.State.{ruleIn, writeIn, rulesIn, writesIn, storedIn, rulesBytes, opened, entryBytes, handed, marked, storedOn}
+use Rattle.cache.specs.Calls.{openWith, openOf, late, storing, stepped}
+use Rattle.bench.proofs.CallLaws.{all-called}
+use Rattle.bench.specs.Sheet.{K, together, Finding, RangeAt, Call, Gave, gave, blank, Calling, Sheet}
+
+-- ---- what the lines are computed by: to unfold one of these is to unfold all that it unfolds
+
+-- a test's schedules
+judged : List Rule → Test → ℕ → Bool
+unfolding bad valid consistent holds rangeHolds run written store initialDisk emptyDisk noWrite dependsOn matches stands bit allBelow any all empty firstOf secondOf block
+judged rules t s = bad rules t s
+
+-- those of test K
+counted : List Rule → ℕ
+unfolding judged K logTest writesOf afterAll putWrites after start validCount badCount countBelow
+counted rules = badCount rules K
+
+-- rings of rules and of needs
+ringed : List Rule → Bool
+unfolding cyclic meets equalLeads has leads noRule hasRing loops closed round joined rowsOf related anyBelow tabulate bit withBit maskOf
+ringed rules = cyclic rules
+
+-- files
+fileRead : File → Outcome File
+unfolding fileBytes testsBytes testBytes checkFields checkField writeFields ruleFields fieldBytes writeBytes ruleBytes readOf readFrom nothing finished grown faultOf bodyFault ruleFault overLimit overTest outOfOrder countsOf checkOf writeOf ruleOf bodyLength isCheck isTag word half
+fileRead f = readOf (fileBytes f)
+
+-- the test that a judge is given
+caseRead : File → Outcome Case
+unfolding counted ringed fileRead caseIn caseOf
+caseRead f = caseIn (fileBytes f) 1
+
+-- the finder's choice
+searched : List Test → List ℕ → Found
+unfolding counted together ringed fileRead findAmong wrote over candidatesOf fromTrace fromWrite inserted pairing before chosen chosenBelow preferred suffices picked testHolds ones onesIn
+searched tests buffer = findAmong tests buffer
+
+-- calls of the cache
+called : List Call → Gave
+unfolding judged ringed fileRead all-called openOf openWith opened rulesBytes stepped storing late known countBelow met needs needsRing readyFrom ready rulesIn writesIn storedIn ruleIn writeIn handed marked storedOn entryBytes
+called cs = all-called cs blank blank .0
+
+-- ---- from what is computed to what the lines say
+
+-- no schedule but n is bad
+only : (rules : List Rule) (t : Test) (n : ℕ) → allBelow (λ s. not (bad rules t s) || eqb s n) (schedules t) ≡ true → (s : ℕ) → Bad rules t s → s ≡ n
+unfolding Bad
+only rules t n e s b = eqb-true s n (implies (bad rules t s) (eqb s n) (allBelow-true _ (schedules t) e s (b .0)) (true-bad rules t s b))
+
+finding : (t : Test) (left : List ℕ → Found) → readOf (fileBytes (file [] (t ∷ []))) ≡ answer (file [] (t ∷ [])) → ((buffer : List ℕ) → findAmong (t ∷ []) buffer ≡ left buffer)
+    → Finding t left
+unfolding findOf findIn
+finding t left e h buffer l = rw (e, le-ltb (length buffer) 96 l) (h buffer)
+
+calling : (cs : List Call) (outcomes : List (Outcome ℕ)) (disk : List ℕ) → called cs ≡ gave outcomes disk → Calling cs outcomes disk
+unfolding called
+calling cs outcomes disk e = all-called cs blank blank .1 ∙ e
+
+range : (head tail : ℕ) (result : Bool) → ((disk : List ℕ) → rangeHolds disk (firstOf (block head tail)) (secondOf (block head tail)) ≡ result) → RangeAt head tail result
+unfolding holds
+range head tail result h disk a e = rw e (h disk)
+
+-- ---- the theorem
+
+pub sheet : Sheet
+sheet =
+    record {
+      K1 = ((unfold caseRead in refl, unfold counted in refl, unfold counted in refl), count-holds _ _ (unfold counted in refl));
+      K2 = ((unfold caseRead in refl, unfold counted in refl, unfold counted in refl), bad-fails [] K 2 (bad-true [] K 2 (unfold counted in lit< tt) (unfold counted in refl)));
+      K3 = (
+        (unfold caseRead in refl, unfold counted in refl, unfold counted in refl),
+        bad-true _ _ _ (unfold counted in lit< tt) (unfold counted in refl),
+        only _ _ _ (unfold counted in refl),
+      );
+      K4 = finding _ _ (unfold searched in refl) (λ buffer. unfold searched in refl);
+      K5 = (unfold ringed in refl, K5-not-cyclic);
+      K6 = (unfold ringed in refl, K6-cyclic);
+      K7 = finding _ _ (unfold searched in refl) (λ buffer. unfold searched in refl);
+      K8 = calling _ _ _ (unfold called in refl);
+      K9 = calling _ _ _ (unfold called in refl);
+      K10 = calling _ _ _ (unfold called in refl);
+      K11 = calling _ _ _ (unfold called in refl);
+      K12 = (range _ _ _ (λ disk. unfold judged in refl), range _ _ _ (λ disk. unfold judged in refl), range _ _ _ (λ disk. unfold judged in refl));
+    }

@@ -1,0 +1,160 @@
+-- The bench sheet of document 01: its starred lines as one table about the definitions that the contracts cite.
+-- `Sheet` is the table, one field a line; `proofs/Proved.antt: sheet` is the theorem over it.
+use Prim.Native.Nat.{ℕ, _≤_}
+use mathlib.Core.Path.{_≡_}
+use mathlib.Core.Bool.{Bool, true, false}
+use mathlib.Core.List.{List, [], _∷_}
+use lib.ListN.{length, drop, replicate}
+use Rattle.model.specs.declared.Rule.{Rule}
+use Rattle.model.specs.declared.Write.{Write}
+use Rattle.model.specs.declared.Check.the-variants.{Range, Pair}
+use Rattle.model.specs.Answer.{Outcome, answer, refused}
+use Rattle.model.specs.Disk.{block, blockAt}
+use Rattle.model.specs.Cyclic.{Cyclic, cyclic}
+use Rattle.model.specs.Check.{holds}
+use Rattle.model.specs.Test.{Test, test, file, TestHolds, Bad, validCount, badCount}
+use Rattle.rules.specs.Examples.{rule}
+use Rattle.reader.specs.Encode.{ruleFields, fileBytes}
+use Rattle.judging.specs.Judge.{caseIn}
+use Rattle.log.specs.Puts.{Put, logTest}
+use Rattle.finding.specs.Finder.{Found, found, findOf}
+use Rattle.cache.specs.State.{storedOn}
+use Rattle.cache.specs.Calls.{Left, openOf, handInOf, stepOf, given}
+
+-- ---- the inputs
+
+abbrev pub put : ℕ → ℕ → Put
+put key value = record { key = key; value = value }
+
+-- test K: initial put (0,42), main puts (1,81), (2,37)
+unfoldable pub K : Test
+K = logTest (put 0 42 ∷ []) (put 1 81 ∷ put 2 37 ∷ [])
+
+-- rules, their predicates by number: 0 is =, 1 is >, 2 is <
+
+-- (2,=,1), (2,>,2)
+abbrev pub K1-rules : List Rule
+K1-rules = rule 2 0 1 ∷ rule 2 1 2 ∷ []
+
+-- (2,=,1)
+abbrev pub K3-rules : List Rule
+K3-rules = rule 2 0 1 ∷ []
+
+-- {(1,=,2),(2,>,1)}
+abbrev pub K5-rules : List Rule
+K5-rules = rule 1 0 2 ∷ rule 2 1 1 ∷ []
+
+-- {(1,>,2),(2,<,1)}
+abbrev pub K6-rules : List Rule
+K6-rules = rule 1 1 2 ∷ rule 2 2 1 ∷ []
+
+-- (1,<,1)
+abbrev pub K10-rules : List Rule
+K10-rules = rule 1 2 1 ∷ []
+
+-- names 1 and 2, both epoch 0, addresses 1 and 2, blocks (0,1), pair checks both ways
+unfoldable pub together : Test
+together = test [] (given 1 1 0 0 1 ∷ given 2 2 0 0 1 ∷ []) (Pair 1 (block 0 1) 2 (block 0 1) ∷ Pair 2 (block 0 1) 1 (block 0 1) ∷ [])
+
+-- epoch 1 of test K: the superblock and the log block
+abbrev pub superblock : Write
+superblock = given 0 2 1 1 3
+
+abbrev pub logBlock : Write
+logBlock = given 2 1 1 1 81
+
+-- a write with name 1, by its address and epoch
+abbrev pub named1 : ℕ → ℕ → Write
+named1 address epoch = given address 1 epoch 0 1
+
+-- ---- what is asked
+
+-- judging test 1 of the file of these rules and K: what is judged, the count of valid schedules, and that of bad ones
+abbrev pub Judged : List Rule → ℕ → ℕ → Type 0
+Judged rules valid bad =
+    (caseIn (fileBytes (file rules (K ∷ []))) 1 ≡ answer (record { rules = rules; test = K }))
+    × (validCount rules K ≡ valid)
+    × (badCount rules K ≡ bad)
+
+-- finding on the file of one test, with any buffer that is long enough
+abbrev pub Finding : Test → (List ℕ → Found) → Type 0
+Finding t left = (buffer : List ℕ) → 96 ≤ length buffer → findOf (fileBytes (file [] (t ∷ []))) buffer ≡ left buffer
+
+-- the range check at any block (head, tail) of any disk
+abbrev pub RangeAt : ℕ → ℕ → Bool → Type 0
+RangeAt head tail result = (disk : List ℕ) (a : ℕ) → blockAt disk a ≡ block head tail → holds disk (Range a) ≡ result
+
+-- calls of the cache; an opening is given the file of these rules
+pub data Call : Type 0 where
+  opening : List Rule → Call
+  handIn : Write → Call
+  step : Call
+
+unfoldable pub call : Call → List ℕ → List ℕ → Left
+call (opening rules) state disk = openOf (ruleFields rules) state disk
+call (handIn w) state disk = handInOf w state disk
+call step state disk = stepOf state disk
+
+-- the outcome of each of several calls, and the disk in the end
+pub record Gave : Type 0 where
+  pub outcomes : List (Outcome ℕ)
+  pub disk : List ℕ
+
+abbrev pub gave : List (Outcome ℕ) → List ℕ → Gave
+gave outcomes disk = record { outcomes = outcomes; disk = disk }
+
+-- calls one after another, each lent the state and the disk that the last left
+unfoldable pub calls : List Call → List ℕ → List ℕ → Gave
+calls [] state disk = gave [] disk
+calls (c ∷ cs) state disk =
+    let left = call c state disk in
+    let rest = calls cs (left .state) (left .disk) in
+    gave (left .outcome ∷ rest .outcomes) (rest .disk)
+
+-- 1,024 zero bytes: a disk of empty blocks, and the state before an opening
+abbrev pub blank : List ℕ
+blank = replicate 1024 0
+
+-- calls on these give these outcomes and leave this disk
+abbrev pub Calling : List Call → List (Outcome ℕ) → List ℕ → Type 0
+Calling cs outcomes disk = calls cs blank blank ≡ gave outcomes disk
+
+-- ---- the sheet
+
+pub record Sheet : Type 0 where
+  -- rules (2,=,1), (2,>,2): 7 valid, 0 bad
+  pub K1 : Judged K1-rules 7 0 × TestHolds K1-rules K
+  -- no rules: 16, 8
+  pub K2 : Judged [] 16 8 × (TestHolds [] K → ⊥)
+  -- (2,=,1) only: 9, 1, schedule 12
+  pub K3 : Judged K3-rules 9 1 × Bad K3-rules K 12 × ((s : ℕ) → Bad K3-rules K s → s ≡ 12)
+  -- finding on K: 03 00 03 02 00 01, 03 00 03 02 01 02
+  pub K4 : Finding K (λ buffer. found (answer 2) (3 ∷ 0 ∷ 3 ∷ 2 ∷ 0 ∷ 1 ∷ 3 ∷ 0 ∷ 3 ∷ 2 ∷ 1 ∷ 2 ∷ drop 12 buffer))
+  -- {(1,=,2),(2,>,1)} isn't cyclic
+  pub K5 : (cyclic K5-rules ≡ false) × (Cyclic K5-rules → ⊥)
+  -- {(1,>,2),(2,<,1)} is
+  pub K6 : (cyclic K6-rules ≡ true) × Cyclic K6-rules
+  -- names 1 and 2, both epoch 0, addresses 1 and 2, blocks (0,1), pair checks both ways: 13
+  pub K7 : Finding together (λ buffer. found (refused 13 0) buffer)
+  -- K1's rules: superblock epoch 1 handed in and stored, then log epoch 1: 17
+  pub K8 : Calling
+      (opening K1-rules ∷ handIn superblock ∷ step ∷ handIn logBlock ∷ [])
+      (answer 0 ∷ answer 1 ∷ answer 1 ∷ refused 17 0 ∷ [])
+      (storedOn blank superblock)
+  -- both in that order before a step: place 2 is stored first
+  pub K9 : Calling
+      (opening K1-rules ∷ handIn superblock ∷ handIn logBlock ∷ step ∷ [])
+      (answer 0 ∷ answer 1 ∷ answer 2 ∷ answer 2 ∷ [])
+      (storedOn blank logBlock)
+  -- rule (1,<,1), epochs 1 then 2 at address 5: 18
+  pub K10 : Calling
+      (opening K10-rules ∷ handIn (named1 5 1) ∷ handIn (named1 5 2) ∷ [])
+      (answer 0 ∷ answer 1 ∷ refused 18 0 ∷ [])
+      blank
+  -- at 5 and 6: accepted, place 2 first
+  pub K11 : Calling
+      (opening K10-rules ∷ handIn (named1 5 1) ∷ handIn (named1 6 2) ∷ step ∷ [])
+      (answer 0 ∷ answer 1 ∷ answer 2 ∷ answer 2 ∷ [])
+      (storedOn blank (named1 6 2))
+  -- range block (5,5) holds, (1,257) fails, (300,200) holds
+  pub K12 : RangeAt 5 5 true × RangeAt 1 257 false × RangeAt 300 200 true

@@ -1,0 +1,14 @@
+use Rattle.disks.specs.Packed.{unpacked}
+use borrow.Author.Needs.{needs}
+use Rattle.disks.proofs.address_of.Statement.{statement}
+use Rattle.disks.proofs.address_of.Tie as tie
+use Rattle.disks.proofs.address_of.Reads as reads
+use Rattle.disks.proofs.address_of.Lts as lts
+
+-- src/lib.rt:33:1
+returns : tie.Need-returns
+unfolding unpacked
+returns c = search needs
+
+pub address-of-spec : {M : Type 1} → statement M
+address-of-spec = tie.close (tie.spec returns)

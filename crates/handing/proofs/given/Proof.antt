@@ -1,0 +1,16 @@
+-- `receiver::given` meets its contract, by its definition.
+use Rattle.handing.proofs.Steps.{giving}
+use Rattle.handing.proofs.given.Statement.{statement}
+use Rattle.handing.proofs.given.Tie as tie
+
+mul-t7 : tie.Need-mul-t7
+mul-t7 c = search giving
+
+add-t9 : tie.Need-add-t9
+add-t9 c = search giving
+
+returns : tie.Need-returns
+returns c = search giving
+
+pub given-spec : {M : Type 1} → statement M
+given-spec = tie.close (tie.spec mul-t7 add-t9 returns)

@@ -1,0 +1,122 @@
+// A hand-in of the cache: its refusals, and the write's bytes.
+use model::Write;
+use rules::Rules;
+ghost use mathlib.Core.Path.{_≡_};
+ghost use mathlib.Core.List.{[], _∷_, _++_};
+ghost use Prim.Native.Nat.{_+_, _<_, _≤_};
+ghost use lib.ListN.{length};
+ghost use lib.Seq.{sets};
+ghost use Rattle.rules.specs.Held.{rulesOf};
+ghost use Rattle.cache.specs.Needs.{needsRing};
+ghost use Rattle.cache.specs.State.{acceptedCount, rulesIn, writesIn, storedIn, entryBytes, handed};
+ghost use Rattle.cache.specs.Calls.{late, given};
+ghost use Rattle.soundness.specs.Parts.{Tabled};
+ghost use Rattle.storing.specs.Given.{lateAt, handFault};
+
+// Hand-in's five values as a write.
+pub fn given(address: u8, name: u8, epoch: u32, first: u16, second: u16) -> Write
+    ensures { λ r. ⌜ r ≡ given address name epoch first second ⌝ }
+{
+    Write {
+        address,
+        name,
+        epoch,
+        block: first as u32 * 65536 + second as u32,
+    }
+}
+
+// Whether write i is stored and depends on w.
+fn late_at(state: &[u8], rules: Rules, w: Write, i: usize) -> bool
+    requires { ⌜ (length (now state) ≡ 1024) × ((rules .count ≤ 32) × (i < 64)) ⌝ }
+    ensures { λ r. ⌜ r ≡ lateAt (rulesOf rules) (now (state .entry)) w i ⌝ }
+{
+    if state[110 + 12 * i] != 1 {
+        return false;
+    }
+    let v = needs::write_in(state, i);
+    rules::depends(rules, v.name, v.epoch, w.name, w.epoch)
+}
+
+// Whether a stored write depends on w.
+fn is_late(state: &[u8], rules: Rules, w: Write) -> bool
+    requires { ⌜ (length (now state) ≡ 1024) × ((rules .count ≤ 32) × (acceptedCount (now state) ≤ 64)) ⌝ }
+    ensures { λ r. ⌜ r ≡ late (rulesOf rules) (writesIn (now (state .entry))) (storedIn (now (state .entry))) w ⌝ }
+{
+    let n = needs::wide(state[1]);
+    let mut i: usize = 0;
+    while i < n {
+        if late_at(state, rules, w, i) {
+            return true;
+        }
+        i += 1;
+    }
+    false
+}
+
+// Whether w would close a ring of needs. rows has the needs of the accepted writes.
+fn closes_ring(rows: &[u64; 64], state: &[u8], rules: Rules, w: Write) -> bool
+    requires { ⌜ (length (now state) ≡ 1024) × ((rules .count ≤ 32) × ((acceptedCount (now state) < 64) × ((rulesOf rules ≡ rulesIn (now state)) × Tabled (now state) (now rows)))) ⌝ }
+    ensures { λ r. ⌜ r ≡ needsRing (rulesOf rules) (writesIn (now (state .entry)) ++ (w ∷ [])) ⌝ }
+{
+    let n = needs::wide(state[1]) + 1;
+    let mut wider = [0u64; 64];
+    needs::fill_with(&mut wider, rows, state, rules, w);
+    relation::close(&mut wider, n);
+    relation::has_loop(&wider, n)
+}
+
+// The number of the refusal that a hand-in meets, or 0.
+pub fn hand_fault(state: &[u8], w: Write) -> u64
+    ensures { λ r. ⌜ (r ≡ handFault w (now (state .entry))) × (r < 256) ⌝ }
+{
+    if state.len() != 1024 {
+        return 14;
+    }
+    let mut rows = [0u64; 64];
+    if !soundness::is_sound(&mut rows, state) {
+        return 15;
+    }
+    if 64 <= state[1] {
+        return 16;
+    }
+    let rules = needs::state_rules(state);
+    if is_late(state, rules, w) {
+        return 17;
+    }
+    if closes_ring(&rows, state, rules, w) {
+        return 18;
+    }
+    0
+}
+
+// Two bytes.
+fn put_pair(bytes: &mut [u8], at: usize, x: u8, y: u8)
+    requires { ⌜ at + 2 ≤ length (now bytes) ⌝ }
+    ensures { λ _. ⌜ now (bytes .exit) ≡ sets (now (bytes .entry)) at (x ∷ y ∷ []) ⌝ }
+{
+    bytes[at] = x;
+    bytes[at + 1] = y;
+}
+
+// A waiting write's 12 bytes.
+fn put_entry(state: &mut [u8], at: usize, w: Write)
+    requires { ⌜ at + 12 ≤ length (now state) ⌝ }
+    ensures { λ _. ⌜ now (state .exit) ≡ sets (now (state .entry)) at (entryBytes w) ⌝ }
+{
+    put_pair(state, at, w.address, w.name);
+    storing::put_word(state, at + 2, w.epoch);
+    storing::put_word(state, at + 6, w.block);
+    put_pair(state, at + 10, 0, 0);
+}
+
+// w is appended, and waits. Answers its place from 1.
+pub fn append(state: &mut [u8], w: Write) -> u64
+    requires { ⌜ (length (now state) ≡ 1024) × (acceptedCount (now state) < 64) ⌝ }
+    ensures { λ r. ⌜ (r ≡ acceptedCount (now (state .entry)) + 1) × (now (state .exit) ≡ handed (now (state .entry)) w) ⌝ }
+{
+    let place = state[1] + 1;
+    let at = 100 + 12 * needs::wide(state[1]);
+    put_entry(state, at, w);
+    state[1] = place;
+    place as u64
+}

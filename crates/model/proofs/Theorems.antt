@@ -1,0 +1,30 @@
+-- The agreement theorems, each put together from its two directions.
+use Rattle.model.specs.Theorem.{Depends, KnownRules, ValidSchedule, CheckHolds, ConsistentDisk, BadSchedule, HoldingTest, Decided}
+use Rattle.model.proofs.RuleLaws.{dependsOn-true, true-dependsOn, known-true, true-known}
+use Rattle.model.proofs.ScheduleLaws.{valid-true, true-valid}
+use Rattle.model.proofs.CheckLaws.{holds-true, true-holds, consistent-true, true-consistent}
+use Rattle.model.proofs.TestLaws.{bad-true, true-bad, testHolds-true, true-testHolds, count-holds, holds-count, holds-or-bad, bad-fails}
+
+pub depends : Depends
+depends rules l m = (true-dependsOn rules l m, dependsOn-true rules l m)
+
+pub known-rules : KnownRules
+known-rules rules = (true-known rules, known-true rules)
+
+pub valid-schedule : ValidSchedule
+valid-schedule rules ws s = (true-valid rules ws s, valid-true rules ws s)
+
+pub check-holds : CheckHolds
+check-holds disk c = (true-holds disk c, holds-true disk c)
+
+pub consistent-disk : ConsistentDisk
+consistent-disk checks disk = (true-consistent disk checks, consistent-true disk checks)
+
+pub bad-schedule : BadSchedule
+bad-schedule rules t s l = (true-bad rules t s, bad-true rules t s l)
+
+pub holding-test : HoldingTest
+holding-test rules t = ((true-testHolds rules t, testHolds-true rules t), (holds-count rules t, count-holds rules t))
+
+pub decided : Decided
+decided rules t = (holds-or-bad rules t, bad-fails rules t)

@@ -1,0 +1,45 @@
+-- The theorems of the definitions: each computed form agrees with its meaning, which speaks of every rule, write, check or schedule.
+-- (Cyclic rules: crate `rules`; candidates and the choice among their sets: crate `findlaws`.)
+use Prim.Native.Nat.{ℕ, _<_}
+use mathlib.Core.Path.{_≡_}
+use mathlib.Core.Logic.{_↔_, _⊎_}
+use mathlib.Core.Bool.{true}
+use mathlib.Core.List.{List}
+use Rattle.model.specs.declared.Write.{Write}
+use Rattle.model.specs.declared.Rule.{Rule}
+use Rattle.model.specs.declared.Check.{Check}
+use Rattle.model.specs.Rules.{Label, DependsOn, dependsOn, Known, known}
+use Rattle.model.specs.Schedule.{Valid, valid}
+use Rattle.model.specs.Check.{Holds, holds, Consistent, consistent}
+use Rattle.model.specs.Test.{Test, schedules, TestHolds, testHolds, Bad, bad, badCount}
+
+-- a label depends on another
+abbrev pub Depends : Type 0
+Depends = (rules : List Rule) (l m : Label) → DependsOn rules l m ↔ dependsOn rules l m ≡ true
+
+-- all predicates are known
+abbrev pub KnownRules : Type 0
+KnownRules = (rules : List Rule) → Known rules ↔ known rules ≡ true
+
+-- a schedule is valid
+abbrev pub ValidSchedule : Type 0
+ValidSchedule = (rules : List Rule) (ws : List Write) (s : ℕ) → Valid rules ws s ↔ valid rules ws s ≡ true
+
+-- a check holds of a disk, and a disk is consistent
+abbrev pub CheckHolds : Type 0
+CheckHolds = (disk : List ℕ) (c : Check) → Holds disk c ↔ holds disk c ≡ true
+
+abbrev pub ConsistentDisk : Type 0
+ConsistentDisk = (checks : List Check) (disk : List ℕ) → Consistent checks disk ↔ consistent checks disk ≡ true
+
+-- a schedule of a test is bad
+abbrev pub BadSchedule : Type 0
+BadSchedule = (rules : List Rule) (t : Test) (s : ℕ) → s < schedules t → Bad rules t s ↔ bad rules t s ≡ true
+
+-- a test holds; and it holds exactly if no bad schedule is counted
+abbrev pub HoldingTest : Type 0
+HoldingTest = (rules : List Rule) (t : Test) → (TestHolds rules t ↔ testHolds rules t ≡ true) × (TestHolds rules t ↔ badCount rules t ≡ 0)
+
+-- a test holds or has a bad schedule, and not both
+abbrev pub Decided : Type 0
+Decided = (rules : List Rule) (t : Test) → (TestHolds rules t ⊎ ((s : ℕ) × Bad rules t s)) × ((s : ℕ) → Bad rules t s → TestHolds rules t → ⊥)

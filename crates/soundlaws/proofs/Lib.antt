@@ -1,0 +1,8 @@
+pub mod GeneralLaws
+pub mod ReadyLaws
+pub mod KeepLaws
+pub mod HandLaws
+pub mod RefusalLaws
+pub mod OpenLaws
+pub mod SoundTheorems
+pub mod SoundExamples
