@@ -6,7 +6,7 @@ use mathlib.Core.List.{List}
 use Prim.Native.Nat.{ℕ, zero, suc, _+_, _≤_, _<_}
 use native.Mathlib.Omega.{arith}
 use borrow.Author.Tests.{not-true, not-false}
-use Rattle.relation.proofs.ListLaws.{and-left, and-right, and-intro, allBelow-true, allBelow-intro, anyBelow-true, anyBelow-false, below-suc}
+use Rattle.relation.proofs.ListLaws.{not-so, and-left, and-right, and-intro, allBelow-true, allBelow-intro, anyBelow-true, anyBelow-false, below-suc}
 use Rattle.relation.specs.Lists.{allBelow, anyBelow}
 use Rattle.model.specs.declared.Rule.{Rule}
 use Rattle.model.specs.Schedule.{Valid, valid}
@@ -14,10 +14,6 @@ use Rattle.model.specs.Check.{Consistent, consistent}
 use Rattle.model.specs.Test.{Test, schedules, diskAfter, TestHolds, testHolds, Bad, bad, countBelow, badCount}
 use Rattle.model.proofs.ScheduleLaws.{valid-true, true-valid}
 use Rattle.model.proofs.CheckLaws.{consistent-true, true-consistent}
-
-not-so : (b : Bool) → (b ≡ true → ⊥) → not b ≡ true
-not-so true h = absurd (h refl)
-not-so false h = refl
 
 module _ (rules : List Rule) (t : Test) where
   pub bad-true : (s : ℕ) → s < schedules t → bad rules t s ≡ true → Bad rules t s

@@ -1,7 +1,7 @@
 -- What `anyBelow`, `allBelow`, `any`, `all` and `tabulate` say of the numbers below a bound and of a list's members. By induction on either.
 use mathlib.Core.Path.{_≡_, refl, sym, ap, _∙_}
 use mathlib.Core.Logic.{_⊎_, inl, inr, ⊎-elim}
-use mathlib.Core.Bool.{Bool, true, false, true≢false, false≢true, _&&_, _||_, or-assoc, and-assoc, and-true}
+use mathlib.Core.Bool.{Bool, true, false, true≢false, false≢true, not, _&&_, _||_, or-assoc, and-assoc, and-true}
 use mathlib.Core.List.{List, [], _∷_, _++_, List·Memᴰ, List·Memᴰ·head, List·Memᴰ·tail}
 use Prim.Native.Nat.{ℕ, zero, suc, _+_, _<_}
 use native.Mathlib.Nat.{eq-or-lt-of-le, add-zero, add-suc}
@@ -11,6 +11,15 @@ use lib.Seq.{getD-at}
 use Rattle.relation.specs.Lists.{anyBelow, allBelow, tabulate, any, all}
 
 -- ---- Booleans
+
+-- what does not hold is false, and its negation true
+pub untrue : (b : Bool) → (b ≡ true → ⊥) → b ≡ false
+untrue true n = absurd (n refl)
+untrue false n = refl
+
+pub not-so : (b : Bool) → (b ≡ true → ⊥) → not b ≡ true
+not-so true n = absurd (n refl)
+not-so false n = refl
 
 pub or-cases : (a b : Bool) → a || b ≡ true → (a ≡ true) ⊎ (b ≡ true)
 or-cases true b e = inl refl

@@ -25,6 +25,8 @@ use Rattle.reader.specs.Encode.{WriteFits}
 use Rattle.cache.specs.Needs.{Needs, NeedsRing, Earliest, needs, met, readyFrom, ready}
 use Rattle.cache.specs.Calls.{Late}
 use Rattle.cache.proofs.NeedsLaws.{needs-true, true-needs, below-needs}
+use Rattle.soundlaws.proofs.ReadyLaws.{needs-left, needs-right, ready-earliest}
+use Rattle.soundlaws.proofs.HandLaws.{closed-with}
 use Rattle.runs.specs.Book.{Entry, entry, Book, accepted, flagAt, appended, flagging, stepped}
 use Rattle.model.specs.Test.{countBelow}
 use Rattle.model.proofs.TestLaws.{count-ext}
@@ -35,14 +37,6 @@ use Rattle.runs.proofs.LayoutLaws.{stateOf, front, flagCount, length-st
 pub length-accepted : (b : Book) → length (accepted b) ≡ length b
 length-accepted b = length-map b (λ e. e .write)
 
-pub needs-left : (rules : List Rule) (ws : List Write) (i j : ℕ) → Needs rules ws i j → i < length ws
-unfolding Needs
-needs-left rules ws i j n = n .0
-
-needs-right : (rules : List Rule) (ws : List Write) (i j : ℕ) → Needs rules ws i j → j < length ws
-unfolding Needs
-needs-right rules ws i j n = n .1
-
 pub needs-by-rule : (rules : List Rule) (ws : List Write) (i j : ℕ) → i < length ws → j < length ws → DependsOn rules (labelAt ws i) (labelAt ws j) → Needs rules ws i j
 unfolding Needs
 needs-by-rule rules ws i j hi hj d = (hi, hj, inl d)
@@ -50,84 +44,6 @@ needs-by-rule rules ws i j hi hj d = (hi, hj, inl d)
 pub needs-by-address : (rules : List Rule) (ws : List Write) (i j : ℕ) → i < length ws → j < length ws → j < i → writeAt ws j .address ≡ writeAt ws i .address → Needs rules ws i j
 unfolding Needs
 needs-by-address rules ws i j hi hj l e = (hi, hj, inr (l, e))
-
--- ---- the earliest ready write
-
-module _ (rules : List Rule) (ws : List Write) (stored : ℕ → Bool) where
-  met-true : (i : ℕ) → met rules ws stored i ≡ true → (j : ℕ) → Needs rules ws i j → stored j ≡ true
-  unfolding met
-  met-true i e j n =
-      implies (needs rules ws i j) (stored j) (allBelow-true _ (length ws) e j (needs-right rules ws i j n)) (true-needs rules ws i j n)
-
-  true-met : (i : ℕ) → i < length ws → ((j : ℕ) → Needs rules ws i j → stored j ≡ true) → met rules ws stored i ≡ true
-  unfolding met
-  true-met i h f = allBelow-intro _ (length ws) (λ j l. implied (needs rules ws i j) (stored j) (λ e. f j (needs-true rules ws i j h l e)))
-
-  -- write i can be stored now
-  abbrev can : ℕ → Bool
-  can i = not (stored i) && met rules ws stored i
-
-  ready-found : (n i k : ℕ) → readyFrom rules ws stored i n ≡ suc k → (i ≤ k) × (k < i + n) × (can k ≡ true) × ((j : ℕ) → i ≤ j → j < k → can j ≡ false)
-  unfolding readyFrom
-  ready-found zero i k e = absurd (omega arith)
-  ready-found (suc n) i k e = go (can i) refl e (ready-found n (suc i) k)
-    where
-      go : (c : Bool) → can i ≡ c → cond c (suc i) (readyFrom rules ws stored (suc i) n) ≡ suc k
-          → (readyFrom rules ws stored (suc i) n ≡ suc k → (suc i ≤ k) × (k < suc i + n) × (can k ≡ true) × ((j : ℕ) → suc i ≤ j → j < k → can j ≡ false))
-          → (i ≤ k) × (k < i + suc n) × (can k ≡ true) × ((j : ℕ) → i ≤ j → j < k → can j ≡ false)
-      go true c q ih = let z : i ≡ k = omega arith in (omega arith, omega arith, subst (λ (x : ℕ). can x ≡ true) z c, λ j a b. absurd (omega arith))
-      go false c q ih =
-          let w = ih q in
-          let a = w .0 in let b = w .1 in (
-            omega arith,
-            omega arith,
-            w .2,
-            λ j l m. elim (ℕ-discrete j i) [
-              | yes z ↦ rw z c
-              | no ne ↦ w .3 j (let d : j ≢ i = ne in omega arith) m
-            ],
-          )
-
-  ready-none : (n i : ℕ) → readyFrom rules ws stored i n ≡ 0 → (j : ℕ) → i ≤ j → j < i + n → can j ≡ false
-  unfolding readyFrom
-  ready-none zero i e j l h = absurd (omega arith)
-  ready-none (suc n) i e j l h = go (can i) refl e (λ q m k. ready-none n (suc i) q j m k)
-    where
-      go : (c : Bool) → can i ≡ c → cond c (suc i) (readyFrom rules ws stored (suc i) n) ≡ 0
-          → (readyFrom rules ws stored (suc i) n ≡ 0 → suc i ≤ j → j < suc i + n → can j ≡ false) → can j ≡ false
-      go true c q ih = absurd (omega arith)
-      go false c q ih = elim (ℕ-discrete j i) [
-        | yes z ↦ rw z c
-        | no ne ↦ ih q (let d : j ≢ i = ne in omega arith) (omega arith)
-      ]
-
-  pub ready-earliest : (i : ℕ) → ready rules ws stored ≡ suc i → Earliest rules ws stored i
-  unfolding ready
-  ready-earliest i e =
-      let w = ready-found (length ws) 0 i e in
-      let l = w .1 in
-      record {
-        accepted = omega arith;
-        waits = not-true (stored i) (and-left (not (stored i)) _ (w .2));
-        met = met-true i (and-right (not (stored i)) _ (w .2));
-        first = λ k h s f. false≢true (sym (w .3 k (omega arith) h) ∙ and-intro (not (stored k)) _ (rw s) (true-met k (omega arith) f));
-      }
-
-  -- without a ring of needs, none is ready only if all are stored
-  pub none-ready : (NeedsRing rules ws → ⊥) → ready rules ws stored ≡ 0 → (i : ℕ) → i < length ws → stored i ≡ true
-  unfolding ready
-  none-ready ringless e i h = go (stored i) refl
-    where
-      no-ring : Ring (Below (length ws) (needs rules ws)) → ⊥
-      no-ring r = ringless (unfold NeedsRing in (r .0, plus-map {R = Below (length ws) (needs rules ws)} {S = Needs rules ws} (λ k. k) (below-needs rules ws) (r .1)))
-
-      go : (b : Bool) → stored i ≡ b → stored i ≡ true
-      go true q = q
-      go false q =
-          let k = Finite.ready (needs rules ws) (length ws) (λ x. not (stored x)) no-ring i h (rw q) in
-          let m = true-met (k .0) (k .1) (λ j n. not-false (stored j) (k .3 j (needs-right rules ws (k .0) j n) (true-needs rules ws (k .0) j n))) in
-          let l = k .1 in
-          absurd (false≢true (sym (ready-none (length ws) 0 e (k .0) (omega arith) (omega arith)) ∙ and-intro (not (stored (k .0))) _ (k .2) m))
 
 -- ---- what stays true
 
@@ -192,27 +108,9 @@ flag-below [] i e = absurd (false≢true e)
 flag-below (x ∷ b) zero e = omega arith
 flag-below (x ∷ b) (suc i) e = let h = flag-below b i e in omega arith
 
-module _ (rules : List Rule) (ws : List Write) (w : Write) where
-  label-old : (i : ℕ) → i < length ws → writeAt (ws ++ (w ∷ [])) i ≡ writeAt ws i
-  label-old i h = List·getD-append ws (w ∷ []) noWrite i h
-
-  label-new : writeAt (ws ++ (w ∷ [])) (length ws) ≡ w
-  label-new = getD-at ws w [] noWrite (length ws) refl
-
-  needs-old : (i j : ℕ) → i < length ws → j < length ws → Needs rules (ws ++ (w ∷ [])) i j → Needs rules ws i j
-  unfolding Needs
-  needs-old i j hi hj n = (hi, hj, rw (label-old i hi, label-old j hj) at (n .2))
-
-  needs-new : (i : ℕ) → i < length ws → Needs rules (ws ++ (w ∷ [])) i (length ws) → DependsOn rules (labelAt ws i) (labelOf w)
-  unfolding Needs
-  needs-new i hi n = ⊎-elim
-      (λ d. rw (label-old i hi, label-new) at d)
-      (λ a. let l = a .0 in absurd (omega arith))
-      (n .2)
-
 pub fine-appended : (rules : List Rule) (b : Book) (w : Write) → Fine rules b → length b < 64 → WriteFits w → (Late rules (accepted b) (flagAt b) w → ⊥)
     → (NeedsRing rules (accepted b ++ (w ∷ [])) → ⊥) → Fine rules (appended b w)
-unfolding appended Late
+unfolding appended
 fine-appended rules b w f h fw late ring =
     record {
       known = f .known;
@@ -239,24 +137,13 @@ fine-appended rules b w f h fw late ring =
         let n′ : Needs rules (accepted b ++ (w ∷ [])) x y = rw (accepted-appended b w) at n in
         let q = length-accepted b in
         let lx : x < suc (length b) = subst (λ (k : ℕ). x < k) (length-appended b w) (flag-below (appended b w) x p) in
-        let ln = length-append (accepted b) (w ∷ []) in
-        let lr = needs-right rules (accepted b ++ (w ∷ [])) x y n′ in
-        let ly : y < suc (length b) = omega arith in
         elim (ℕ-discrete x (length b)) [
           | yes z ↦ absurd (false≢true (sym (flag-new b w) ∙ (rw z at p)))
           | no dx ↦
               (let d : x ≢ length b = dx in
-              let kx : x < length b = omega arith in
-              let old : flagAt b x ≡ true = sym (flag-appended b w x kx) ∙ p in
-              let ax : x < length (accepted b) = omega arith in
-              elim (ℕ-discrete y (length b)) [
-                | yes z ↦ absurd (late ((x, ax, old, needs-new rules (accepted b) w x ax (rw (z ∙ sym q) at n′))))
-                | no dy ↦
-                    (let e : y ≢ length b = dy in
-                    let ky : y < length b = omega arith in
-                    let ay : y < length (accepted b) = omega arith in
-                    flag-appended b w y ky ∙ f .closed x y old (needs-old rules (accepted b) w x y ax ay n′))
-              ])
+              let old : flagAt b x ≡ true = sym (flag-appended b w x (omega arith)) ∙ p in
+              let c = closed-with rules (accepted b) w (flagAt b) (f .closed) late x y (omega arith) old n′ in
+              flag-appended b w y (flag-below b y (c .1)) ∙ c .1)
         ]
 
 -- ---- the bytes of such a book are a sound state

@@ -9,6 +9,7 @@ use native.Mathlib.Decide.{ℕ-discrete}
 use lib.Dec.{eqb, leb, ltb}
 use lib.ListN.{length}
 use borrow.Author.Tests.{eq-eqb, ne-eqb}
+use Rattle.relation.proofs.ListLaws.{untrue}
 use Rattle.model.specs.declared.Write.{Write}
 use Rattle.model.specs.Answer.{Outcome, answer, refused}
 use Rattle.model.specs.Cyclic.{cyclic}
@@ -21,10 +22,6 @@ use Rattle.cache.specs.Calls.{Left, left, late, openWith, openOf, handInOf, che
 use Rattle.soundness.proofs.SoundLaws.{sound-true}
 use Rattle.runs.specs.Run.{Lent, own, other, Wrong, Unsound, lentTo, keptBy}
 use Rattle.runs.specs.Theorem.{Diskless}
-
-pub is-false : (b : Bool) → (b ≡ true → ⊥) → b ≡ false
-is-false true n = absurd (n refl)
-is-false false n = refl
 
 -- ---- lent buffers
 
@@ -62,7 +59,7 @@ checked-length call s d (inr n) = go (eqb (length s) stateSize)
     go false = refl
 
 pub unsound-false : (s : List ℕ) → (Sound s → ⊥) → sound s ≡ false
-unsound-false s n = is-false (sound s) (λ e. n (sound-true s e))
+unsound-false s n = untrue (sound s) (λ e. n (sound-true s e))
 
 pub checked-unsound : (call : List ℕ → List ℕ → Left) (s d : List ℕ) → length s ≡ stateSize → length d ≡ 1024 → (Sound s → ⊥) → checked call s d ≡ left (refused 15 0) s d
 unfolding checked

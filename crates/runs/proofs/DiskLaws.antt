@@ -28,6 +28,8 @@ use Rattle.reader.specs.Encode.{WriteFits}
 use Rattle.encoding.proofs.PartLaws.{number}
 use Rattle.cache.specs.Needs.{Needs}
 use Rattle.cache.specs.State.{storedOn}
+use Rattle.soundlaws.proofs.GeneralLaws.{sets-out, sets-in}
+use Rattle.soundlaws.proofs.KeepLaws.{length-stored}
 use Rattle.runs.specs.Book.{Entry, entry, Book, accepted, flagAt, flagging, applied, scheduleOf, Begins}
 use Rattle.runs.specs.Theorem.{NoneBeyond}
 use Rattle.runs.proofs.BookLaws.{Fine, length-accepted, flag-below, needs-by-address, needs-by-rule}
@@ -110,22 +112,6 @@ valid-book rules b f i j hi hj p d =
 
 -- ---- bytes and blocks
 
-getD-sets-out : (vs l : List ℕ) (i k : ℕ) → (k < i) ⊎ (i + length vs ≤ k) → getD (sets l i vs) k 0 ≡ getD l k 0
-getD-sets-out [] l i k h = refl
-getD-sets-out (v ∷ vs) l i k h =
-    let ne : k ≢ i = ⊎-elim (λ (a : k < i). let d : k ≢ i = omega arith in d) (λ (a : i + length (v ∷ vs) ≤ k). let d : k ≢ i = omega arith in d) h in
-    getD-sets-out vs (set l i v) (suc i) k (⊎-elim (λ (a : k < i). inl (omega arith)) (λ (a : i + length (v ∷ vs) ≤ k). inr (omega arith)) h)
-    ∙ getD-set-other l i k v 0 ne
-
-getD-sets-in : (vs l : List ℕ) (i j : ℕ) → j < length vs → i + length vs ≤ length l → getD (sets l i vs) (i + j) 0 ≡ getD vs j 0
-getD-sets-in [] l i j h k = absurd (omega arith)
-getD-sets-in (v ∷ vs) l i zero h k =
-    let z : i + 0 ≡ i = omega arith in
-    rw z (getD-sets-out vs (set l i v) (suc i) i (inl (omega arith)) ∙ getD-set-same l i v 0 (omega arith))
-getD-sets-in (v ∷ vs) l i (suc j) h k =
-    let z : i + suc j ≡ suc i + j = omega arith in
-    rw z (getD-sets-in vs (set l i v) (suc i) j (omega arith) (rw (length-set l i v) (omega arith)))
-
 module _ (d : List ℕ) (w : Write) (size : length d ≡ 1024) (fits : WriteFits w) where
   block-same : blockIn (storedOn d w) (w .address) ≡ w .block
   unfolding blockIn storedOn word half
@@ -134,8 +120,8 @@ module _ (d : List ℕ) (w : Write) (size : length d ≡ 1024) (fits : WriteFits
       let room : 4 * w .address + 4 ≤ length d = omega arith in
       let z : 4 * w .address ≡ 4 * w .address + 0 = omega arith in
       let y : 4 * w .address + 2 + 1 ≡ 4 * w .address + 3 = omega arith in
-      let b0 : byte (sets d (4 * w .address) (bytes4 (w .block))) (4 * w .address) ≡ w .block / 16777216 % 256 = subst (λ (k : ℕ). byte (sets d (4 * w .address) (bytes4 (w .block))) k ≡ w .block / 16777216 % 256) (sym z) (getD-sets-in (bytes4 (w .block)) d (4 * w .address) 0 (omega arith) room) in
-      rw (b0, getD-sets-in (bytes4 (w .block)) d (4 * w .address) 1 (omega arith) room, getD-sets-in (bytes4 (w .block)) d (4 * w .address) 2 (omega arith) room, y, getD-sets-in (bytes4 (w .block)) d (4 * w .address) 3 (omega arith) room)
+      let b0 : byte (sets d (4 * w .address) (bytes4 (w .block))) (4 * w .address) ≡ w .block / 16777216 % 256 = subst (λ (k : ℕ). byte (sets d (4 * w .address) (bytes4 (w .block))) k ≡ w .block / 16777216 % 256) (sym z) (sets-in 0 (bytes4 (w .block)) d (4 * w .address) 0 (omega arith) room) in
+      rw (b0, sets-in 0 (bytes4 (w .block)) d (4 * w .address) 1 (omega arith) room, sets-in 0 (bytes4 (w .block)) d (4 * w .address) 2 (omega arith) room, y, sets-in 0 (bytes4 (w .block)) d (4 * w .address) 3 (omega arith) room)
       (number (w .block) (fits .block))
 
   block-else : (k : ℕ) → k ≢ w .address → blockIn (storedOn d w) k ≡ blockIn d k
@@ -146,7 +132,7 @@ module _ (d : List ℕ) (w : Write) (size : length d ≡ 1024) (fits : WriteFits
       outside j h = elim (decLt k (w .address)) [ yes l ↦ inl (omega arith) | no g ↦ inr (let n : k ≢ w .address = ne in omega arith) ]
 
       at : (j : ℕ) → j < 4 → byte (sets d (4 * w .address) (bytes4 (w .block))) (4 * k + j) ≡ byte d (4 * k + j)
-      at j h = getD-sets-out (bytes4 (w .block)) d (4 * w .address) (4 * k + j) (outside j h)
+      at j h = sets-out 0 (bytes4 (w .block)) d (4 * w .address) (4 * k + j) (outside j h)
 
       first : byte (sets d (4 * w .address) (bytes4 (w .block))) (4 * k) ≡ byte d (4 * k)
       first = let z : 4 * k + 0 ≡ 4 * k = omega arith in subst (λ (x : ℕ). byte (sets d (4 * w .address) (bytes4 (w .block))) x ≡ byte d x) z (at 0 (omega arith))
@@ -168,10 +154,6 @@ module _ (d : List ℕ) (w : Write) (size : length d ≡ 1024) (fits : WriteFits
             | yes z ↦ rw z (block-same ∙ sym (getD-set-same (tabulate (blockIn d) 256) (w .address) (w .block) 0 (rw (length-tabulate (blockIn d) 256) (fits .address))))
             | no n ↦ block-else k n ∙ sym (getD-set-other (tabulate (blockIn d) 256) (w .address) k (w .block) 0 n ∙ getD-tabulate (blockIn d) 256 k 0 h)
           ]
-
-pub length-stored : (d : List ℕ) (w : Write) → length (storedOn d w) ≡ length d
-unfolding storedOn
-length-stored d w = length-sets d (4 * w .address) (bytes4 (w .block))
 
 pub length-applied : (b : Book) (d : List ℕ) → length (applied b d) ≡ length d
 unfolding applied

@@ -23,14 +23,10 @@ use Rattle.reader.specs.File.{ruleOf, writeOf}
 use Rattle.reader.specs.Encode.{WriteFits}
 use Rattle.encoding.proofs.PartLaws.{write-back}
 use Rattle.cache.specs.State.{ruleBase, writeBase, ruleIn, writeIn, rulesIn, writesIn, storedIn, flagIn, ruleCount, acceptedCount, storedCount, rulesBytes, opened, entryBytes, handed, marked, stateSize}
+use Rattle.soundlaws.proofs.GeneralLaws.{tabulate-getD, count-one-more}
 use Rattle.runs.specs.Book.{Entry, entry, Book, accepted, flagAt, appended, flagging}
 
 -- ---- general facts on lists
-
-pub tabulate-getD : {A : Type 0} (l : List A) (d : A) → tabulate (λ i. getD l i d) (length l) ≡ l
-tabulate-getD l d =
-    ext-getD d (tabulate (λ i. getD l i d) (length l)) l (length-tabulate (λ i. getD l i d) (length l))
-    (λ i h. getD-tabulate (λ k. getD l k d) (length l) i d (rw (length-tabulate (λ k. getD l k d) (length l)) at h))
 
 abbrev zeros : ℕ → List ℕ
 zeros n = replicate n 0
@@ -171,7 +167,7 @@ module _ (rules : List Rule) (b : Book) (hr : length rules ≤ 32) where
   unfolding rulesIn
   state-rules =
       let n : ruleCount (stateOf rules b) ≡ length rules = unfold stateOf front in refl in
-      rw n (tabulate-ext (ruleIn (stateOf rules b)) (λ i. getD rules i noRule) (length rules) rule-at ∙ tabulate-getD rules noRule)
+      rw n (tabulate-ext (ruleIn (stateOf rules b)) (λ i. getD rules i noRule) (length rules) rule-at ∙ tabulate-getD noRule rules)
 
   pub state-accepted : acceptedCount (stateOf rules b) ≡ length b
   unfolding stateOf front
@@ -192,7 +188,7 @@ module _ (rules : List Rule) (b : Book) (hr : length rules ≤ 32) where
         rw state-accepted
         (tabulate-ext (writeIn (stateOf rules b)) (λ i. getD (accepted b) i noWrite) (length b) (λ i h. write-in i h ∙ sym (List·getD-map (λ e. e .write) b i (entry noWrite false)))
         ∙ ap (tabulate (λ i. getD (accepted b) i noWrite)) (sym (length-map b (λ e. e .write)))
-        ∙ tabulate-getD (accepted b) noWrite)
+        ∙ tabulate-getD noWrite (accepted b))
 
   flag-in : (i : ℕ) → i < length b → flagIn (stateOf rules b) i ≡ flagByte (flagAt b i)
   flag-in i h =
@@ -351,19 +347,6 @@ accepted-flagging b zero = refl
 accepted-flagging b (suc i) = map-set-same (λ e. e .write) b i (entry (getD b i (entry noWrite false) .write) true) (entry noWrite false) refl
 
 -- one more passes
-pub count-one-more : (p q : ℕ → Bool) (i n : ℕ) → i < n → p i ≡ false → q i ≡ true → ((j : ℕ) → j ≢ i → q j ≡ p j) → countBelow q n ≡ countBelow p n + 1
-unfolding countBelow
-count-one-more p q i zero h a c e = absurd (omega arith)
-count-one-more p q i (suc n) h a c e = ⊎-elim
-    (λ (z : i ≡ n).
-    let a′ : p n ≡ false = rw z at a in
-    let c′ : q n ≡ true = rw z at c in
-    rw (a′, c′, count-ext q p n (λ j l. e j (λ (y : j ≡ i). absurd (omega arith)))) (omega arith))
-    (λ (l : i < n).
-    let ih = count-one-more p q i n l a c e in
-    rw (e n (λ (y : n ≡ i). absurd (omega arith)), ih) (omega arith))
-    (below-suc i n h)
-
 count-flagging : (b : Book) (i : ℕ) → i < length b → flagAt b i ≡ false → flagCount (flagging (suc i) b) ≡ flagCount b + 1
 unfolding flagCount
 count-flagging b i h e = rw (length-flagging b (suc i)) (count-one-more (flagAt b) (flagAt (flagging (suc i) b)) i (length b) h e (flag-here b i h) (flag-else b i))

@@ -12,7 +12,7 @@ use lib.Dec.{eqb, leb, ltb}
 use lib.ListN.{length}
 use borrow.Author.Tests.{eq-eqb, leb-true, leb-false, ltb-true, ltb-false, le-leb, lt-leb, lt-ltb, le-ltb, not-false}
 use Rattle.relation.specs.Lists.{tabulate}
-use Rattle.relation.proofs.ListLaws.{mem-index, length-tabulate, getD-tabulate}
+use Rattle.relation.proofs.ListLaws.{untrue, mem-index, tabulate-ext, length-tabulate, getD-tabulate}
 use Rattle.relation.specs.Transitive.{Plus}
 use Rattle.model.specs.declared.Write.{Write}
 use Rattle.model.specs.declared.Rule.{Rule}
@@ -35,17 +35,14 @@ use Rattle.runs.specs.Book.{Book, accepted, flagAt, waitingIn, appended,
 use Rattle.runs.specs.Run.{Call, opening, handIn, step, drain, Lent, own, other, Wrong, Unsound, Own, Listed, lentTo, keptBy, stateLent, diskLent, called, kept, isRefused, next, steps, within, Moment, moments}
 use Rattle.runs.specs.Theorem.{Safe, WrongLength, UnsoundLent, Gives, wrong-length, unsound, full, ring, taken, stored, idle, unread, with-tests, with-cycle, Answers, Made, now, later, inside, begun, Demand3}
 use Rattle.runs.specs.Theorem as Theorem
-use Rattle.runs.proofs.LayoutLaws.{stateOf, length-state, state-rules, state-writes, state-accepted, state-flags, handed-state, opened-state, length-flagging, flag-here, flag-else, count-one-more}
-use Rattle.runs.proofs.BookLaws.{Fine, length-accepted, needs-left, ready-earliest, none-ready, fine-stepped, fine-appended, fine-sound}
+use Rattle.soundlaws.proofs.GeneralLaws.{count-one-more}
+use Rattle.soundlaws.proofs.ReadyLaws.{needs-left, ready-earliest, none-ready}
+use Rattle.runs.proofs.LayoutLaws.{stateOf, length-state, state-rules, state-writes, state-accepted, state-flags, handed-state, opened-state, length-flagging, flag-here, flag-else}
+use Rattle.runs.proofs.BookLaws.{Fine, length-accepted, fine-stepped, fine-appended, fine-sound}
 use Rattle.runs.proofs.DiskLaws.{valid-book, consistent-left, length-applied}
 use Rattle.runs.proofs.MomentLaws.{into}
-use Rattle.runs.proofs.CallLaws.{is-false, checked-length, checked-unsound, kept-same, right-length, wrong-lent, decide-wrong, unsound-lent, hand-length, hand-unsound, open-length, open-read}
+use Rattle.runs.proofs.CallLaws.{checked-length, checked-unsound, kept-same, right-length, wrong-lent, decide-wrong, unsound-lent, hand-length, hand-unsound, open-length, open-read}
 use Rattle.runs.proofs.StepLaws.{late-ext, step-book, fine-steps, steps-book, waiting-book, drain-book}
-
-tabulate-ext : {A : Type 0} (f g : ℕ → A) (n : ℕ) → ((i : ℕ) → f i ≡ g i) → tabulate f n ≡ tabulate g n
-unfolding tabulate
-tabulate-ext f g zero h = refl
-tabulate-ext f g (suc n) h = rw (tabulate-ext f g n h, h n)
 
 -- ---- the invariant: the bytes and the disk are those of the book
 
@@ -139,10 +136,10 @@ module _ (rules : List Rule) (disk : List ℕ) (size : length disk ≡ 1024) whe
       outcome-of (checked-unsound drainOn _ _ (right-length stateSize s (stateOf rules b) (own-state b f) (λ w. n (inl w))) (right-length 1024 d (applied b disk) (own-disk b) (λ w. n (inr w))) (unsound-lent s (stateOf rules b) u))
 
   not-late : (b : Book) (w : Write) → (Late rules (accepted b) (flagAt b) w → ⊥) → late rules (accepted b) (flagAt b) w ≡ false
-  not-late b w n = is-false (late rules (accepted b) (flagAt b) w) (λ e. n (late-true rules (accepted b) (flagAt b) w e))
+  not-late b w n = untrue (late rules (accepted b) (flagAt b) w) (λ e. n (late-true rules (accepted b) (flagAt b) w e))
 
   no-ring : (b : Book) (w : Write) → (NeedsRing rules (accepted b ++ (w ∷ [])) → ⊥) → needsRing rules (accepted b ++ (w ∷ [])) ≡ false
-  no-ring b w n = is-false (needsRing rules (accepted b ++ (w ∷ []))) (λ e. n (needsRing-true rules (accepted b ++ (w ∷ [])) e))
+  no-ring b w n = untrue (needsRing rules (accepted b ++ (w ∷ []))) (λ e. n (needsRing-true rules (accepted b ++ (w ∷ [])) e))
 
   handed-so : (b : Book) (w : Write) → Fine rules b → (x y z : Bool) → leb 64 (length b) ≡ x → late rules (accepted b) (flagAt b) w ≡ y → needsRing rules (accepted b ++ (w ∷ [])) ≡ z
       → called (handIn w own) (at rules disk b .held) .outcome ≡ cond x (refused 16 0) (cond y (refused 17 0) (cond z (refused 18 0) (answer (suc (length b)))))
@@ -294,7 +291,7 @@ module _ (rules : List Rule) (disk : List ℕ) (size : length disk ≡ 1024) whe
 
   drain-within : (b : Book) → Fine rules b → within rules (drain own own) (at rules disk b) ≡ tabulate (λ n. steps rules n (at rules disk b)) (waitingIn b)
   unfolding within
-  drain-within b f = rw (waiting-book rules b f) (tabulate-ext _ _ (waitingIn b) (λ n. inside-at b f n ∙ sym (steps-at n b f)))
+  drain-within b f = rw (waiting-book rules b f) (tabulate-ext _ _ (waitingIn b) (λ n h. inside-at b f n ∙ sym (steps-at n b f)))
 
   drain-own : (b : Book) → Fine rules b → Goes rules disk (drain own own) (at rules disk b)
   drain-own b f =

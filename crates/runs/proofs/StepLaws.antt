@@ -25,9 +25,11 @@ use Rattle.cache.specs.Sound.{Sound, sound}
 use Rattle.cache.specs.Calls.{Held, Left, left, Late, late, handInOf, storing, checked, stepped as stepOn, stepOf, waiting, stepsOf, drained as drainOn, drainOf}
 use Rattle.cache.proofs.NeedsLaws.{late-true, true-late, needsRing-true, true-needsRing}
 use Rattle.soundness.proofs.SoundLaws.{true-sound}
+use Rattle.soundlaws.proofs.GeneralLaws.{count-split}
+use Rattle.soundlaws.proofs.ReadyLaws.{ready-earliest}
 use Rattle.runs.specs.Book.{Book, accepted, flagAt, waitingIn, appended, flagging, stepped, steppedBy, applied}
 use Rattle.runs.proofs.LayoutLaws.{stateOf, flagCount, length-state, state-rules, state-writes, state-accepted, state-stored, state-flags, handed-state, marked-state, length-flagging, flag-here, flag-else}
-use Rattle.runs.proofs.BookLaws.{Fine, length-accepted, ready-earliest, none-ready, fine-stepped, fine-sound}
+use Rattle.runs.proofs.BookLaws.{Fine, length-accepted, fine-stepped, fine-sound}
 use Rattle.runs.proofs.DiskLaws.{applied-flagging, length-applied}
 
 -- ---- the earliest ready write depends on flags below the length only
@@ -95,15 +97,6 @@ module _ (rules : List Rule) (disk : List ℕ) (size : length disk ≡ 1024) whe
   steps-book (suc n) b fine = rw (step-book b fine) (steps-book n (stepped rules b) (fine-stepped rules b fine))
 
 -- ---- how many wait
-
-count-split : (p : ℕ → Bool) (n : ℕ) → countBelow p n + countBelow (λ i. not (p i)) n ≡ n
-unfolding countBelow
-count-split p zero = refl
-count-split p (suc n) = go (p n) (count-split p n)
-  where
-    go : (b : Bool) → countBelow p n + countBelow (λ i. not (p i)) n ≡ n → cond b 1 0 + countBelow p n + (cond (not b) 1 0 + countBelow (λ i. not (p i)) n) ≡ suc n
-    go true e = omega arith
-    go false e = omega arith
 
 pub waiting-book : (rules : List Rule) (b : Book) → Fine rules b → waiting (stateOf rules b) ≡ waitingIn b
 unfolding waitingIn flagCount

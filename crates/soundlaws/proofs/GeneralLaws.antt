@@ -12,10 +12,6 @@ use Rattle.relation.proofs.ListLaws.{length-tabulate, getD-tabulate, below-suc}
 use Rattle.model.specs.Test.{countBelow}
 use Rattle.model.proofs.TestLaws.{count-ext}
 
-pub not-so : (b : Bool) → (b ≡ true → ⊥) → b ≡ false
-not-so true n = absurd (n refl)
-not-so false n = refl
-
 -- ---- lists
 
 module _ {A : Type 0} (d : A) where

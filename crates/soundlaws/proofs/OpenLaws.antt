@@ -10,7 +10,7 @@ use lib.Seq.{length-sets}
 use borrow.Author.Tests.{eq-eqb, ne-eqb, lt-ltb, le-ltb}
 use Rattle.relation.specs.Lists.{tabulate}
 use Rattle.relation.specs.Transitive.{Plus}
-use Rattle.relation.proofs.ListLaws.{tabulate-ext}
+use Rattle.relation.proofs.ListLaws.{untrue, tabulate-ext}
 use Rattle.model.specs.declared.Rule.{Rule}
 use Rattle.model.specs.Rules.{Known}
 use Rattle.model.specs.Cyclic.{Cyclic, cyclic, noRule}
@@ -25,7 +25,7 @@ use Rattle.cache.specs.State.{stateSize, ruleCount, acceptedCount, ruleBase, ru
 use Rattle.cache.specs.Sound.{Sound}
 use Rattle.cache.specs.Calls.{openWith, openOf}
 use Rattle.soundlaws.specs.Theorem.{Opens}
-use Rattle.soundlaws.proofs.GeneralLaws.{not-so, part-is, tabulate-getD, sets-out, sets-in}
+use Rattle.soundlaws.proofs.GeneralLaws.{part-is, tabulate-getD, sets-out, sets-in}
 use Rattle.soundlaws.proofs.ReadyLaws.{needs-left}
 
 -- ---- the rules' bytes
@@ -138,7 +138,7 @@ opens file s d =
       cyclic = λ e f r z c. rw (eq-eqb (length s) stateSize e, r, le-ltb 0 (length (f .tests)) (omega arith), true-cyclic (f .rules) c);
       taken = λ e f r z a.
           let l = holding-limits file f r .0 in
-          let c : cyclic (f .rules) ≡ false = not-so (cyclic (f .rules)) (λ q. a (cyclic-true (f .rules) (l .known) q)) in (
+          let c : cyclic (f .rules) ≡ false = untrue (cyclic (f .rules)) (λ q. a (cyclic-true (f .rules) (l .known) q)) in (
             sound-opened (f .rules) (l .rules) (l .known) a,
             rules-opened (f .rules) (l .rules),
             writes-opened (f .rules) (l .rules),

@@ -8,6 +8,7 @@ use native.Mathlib.Omega.{arith}
 use lib.Dec.{eqb}
 use lib.ListN.{length}
 use borrow.Author.Tests.{eq-eqb, ne-eqb}
+use Rattle.relation.proofs.ListLaws.{untrue}
 use Rattle.model.specs.Answer.{Outcome, answer, refused}
 use Rattle.model.specs.Test.{File}
 use Rattle.cache.specs.State.{stateSize}
@@ -15,7 +16,6 @@ use Rattle.cache.specs.Sound.{Sound, sound}
 use Rattle.cache.specs.Calls.{Left, left, openWith, openOf, handInOf, storing, checked, stepped, stepOf, drained, drainOf}
 use Rattle.soundlaws.specs.Theorem.{TurnsDown, Unchanged, Refuses}
 use Rattle.soundness.proofs.SoundLaws.{sound-true}
-use Rattle.soundlaws.proofs.GeneralLaws.{not-so}
 
 -- ---- what is lent stays
 
@@ -56,7 +56,7 @@ refuses s d = (
 -- ---- by what is lent
 
 unsound : (s : List ℕ) → (Sound s → ⊥) → sound s ≡ false
-unsound s n = not-so (sound s) (λ e. n (sound-true s e))
+unsound s n = untrue (sound s) (λ e. n (sound-true s e))
 
 module _ (call : List ℕ → List ℕ → Left) (s d : List ℕ) where
   pub checked-length : (length s ≢ stateSize) ⊎ (length d ≢ 1024) → checked call s d ≡ left (refused 14 0) s d

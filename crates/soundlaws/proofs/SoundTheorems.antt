@@ -9,6 +9,7 @@ use native.Mathlib.Omega.{arith}
 use lib.Dec.{eqb, leb}
 use lib.ListN.{length}
 use borrow.Author.Tests.{eq-eqb, leb-false, le-leb, lt-leb, not-true, not-false}
+use Rattle.relation.proofs.ListLaws.{untrue}
 use Rattle.model.specs.declared.Write.{Write}
 use Rattle.model.specs.Answer.{answer, refused}
 use Rattle.model.proofs.TestLaws.{count-none}
@@ -21,7 +22,7 @@ use Rattle.cache.proofs.NeedsLaws.{late-true, true-late, needsRing-true, true-n
 use Rattle.soundlaws.specs.Theorem.{Decides, Keeps, SomeWaits, AllStored, waitingCount, OneStored, Steps, held, Drains, HandsIn}
 use Rattle.needs.proofs.Steps.{writes-length, write-at}
 use Rattle.soundness.proofs.SoundLaws.{sound-true, true-sound, stored-most}
-use Rattle.soundlaws.proofs.GeneralLaws.{not-so, count-split, count-some}
+use Rattle.soundlaws.proofs.GeneralLaws.{count-split, count-some}
 use Rattle.soundlaws.proofs.ReadyLaws.{ready-earliest, none-ready}
 use Rattle.soundlaws.proofs.HandLaws.{rules-handed, writes-handed, stored-new, stored-old, hand-keeps}
 use Rattle.soundlaws.proofs.RefusalLaws.{checked-length}
@@ -182,9 +183,9 @@ handsIn s d w f fits =
     let e : eqb (length s) stateSize ≡ true = eq-eqb (length s) stateSize size in
     let c : sound s ≡ true = true-sound s f in
     let on-time : (Late (rulesIn s) (writesIn s) (storedIn s) w → ⊥) → late (rulesIn s) (writesIn s) (storedIn s) w ≡ false =
-    λ n. not-so _ (λ q. n (late-true (rulesIn s) (writesIn s) (storedIn s) w q)) in
+    λ n. untrue _ (λ q. n (late-true (rulesIn s) (writesIn s) (storedIn s) w q)) in
     let no-ring : (NeedsRing (rulesIn s) (writesIn s ++ (w ∷ [])) → ⊥) → needsRing (rulesIn s) (writesIn s ++ (w ∷ [])) ≡ false =
-    λ n. not-so _ (λ q. n (needsRing-true (rulesIn s) (writesIn s ++ (w ∷ [])) q)) in
+    λ n. untrue _ (λ q. n (needsRing-true (rulesIn s) (writesIn s ++ (w ∷ [])) q)) in
     record {
       full = λ h. rw (e, c, le-leb 64 (acceptedCount s) h);
       late = λ h l. rw (e, c, lt-leb 64 (acceptedCount s) h, true-late (rulesIn s) (writesIn s) (storedIn s) w l);

@@ -5,6 +5,7 @@ use mathlib.Core.List.{List, [], _∷_}
 use Prim.Native.Nat.{ℕ, zero, suc, _+_, _-_, _*_, _≤_, _<_}
 use native.Mathlib.Numerals.{add-one}
 use native.Mathlib.Omega.{arith}
+use lib.Bits.{bitAnd}
 use lib.Dec.{eqb, leb}
 use lib.ListN.{length, take}
 use lib.Seq.{getD-take, take-suc, length-take-le}
@@ -22,7 +23,8 @@ use Rattle.rules.specs.Held.{rulesOf}
 use Rattle.rules.proofs.Steps.{length-mapped, itemAt}
 use Rattle.cache.specs.State.{acceptedCount, storedIn}
 use Rattle.cache.specs.Sound.{zeros}
-use Rattle.soundness.specs.Parts.{flagFits, partOf, covered}
+use Rattle.relation.specs.Union.{partOf}
+use Rattle.soundness.specs.Parts.{flagFits, covered}
 use Rattle.needs.proofs.Steps.{mask-begun}
 
 -- ---- tests of all numbers below a bound
@@ -179,8 +181,8 @@ pub ruleset knowing = (needs, length-mapped, known-begun, known-more, known-stop
 -- ---- row_covered, all_covered
 
 module _ (row mask i : ℕ) (a : Bool) (e : a ≡ bit mask i) where
-  pub covered-in : a ≡ true → partOf row mask ≡ covered row mask i
-  unfolding covered
+  pub covered-in : a ≡ true → eqb (bitAnd row mask) row ≡ covered row mask i
+  unfolding covered partOf
   covered-in t = rw (← e, t)
 
   pub covered-out : a ≡ false → true ≡ covered row mask i

@@ -8,11 +8,12 @@ use lib.Dec.{eqb}
 use lib.ListN.{length}
 use borrow.Author.Tests.{eqb-true, eq-eqb, leb-true, le-leb, not-true}
 use Rattle.relation.specs.Lists.{allBelow}
-use Rattle.relation.proofs.ListLaws.{and-left, and-right, and-intro, allBelow-true, allBelow-intro}
+use Rattle.relation.proofs.ListLaws.{not-so, and-left, and-right, and-intro, allBelow-true, allBelow-intro}
 use Rattle.relation.proofs.MaskLaws.{implies, implied}
 use Rattle.model.specs.Rules.{known}
 use Rattle.model.specs.Cyclic.{cyclic}
 use Rattle.model.specs.Test.{countBelow}
+use Rattle.model.proofs.TestLaws.{count-most}
 use Rattle.model.proofs.RuleLaws.{known-true, true-known}
 use Rattle.reader.specs.Bytes.{byte}
 use Rattle.rules.proofs.CyclicLaws.{cyclic-true, true-cyclic}
@@ -22,21 +23,8 @@ use Rattle.cache.specs.Sound.{Sound, zeros, layout, sound}
 use Rattle.cache.proofs.NeedsLaws.{needs-true, true-needs, needsRing-true, true-needsRing}
 use Rattle.needs.proofs.Steps.{writes-length}
 
-not-so : (b : Bool) → (b ≡ true → ⊥) → not b ≡ true
-not-so true h = absurd (h refl)
-not-so false h = refl
-
 so-not : (b : Bool) → not b ≡ true → b ≡ true → ⊥
 so-not b h e = false≢true (sym (not-true b h) ∙ e)
-
-count-below : (p : ℕ → Bool) (n : ℕ) → countBelow p n ≤ n
-unfolding countBelow
-count-below p zero = omega arith
-count-below p (suc n) = go (p n) (count-below p n)
-  where
-    go : (b : Bool) → countBelow p n ≤ n → cond b 1 0 + countBelow p n ≤ suc n
-    go true h = omega arith
-    go false h = omega arith
 
 both : (a b : Bool) → a && b ≡ true → (a ≡ true) × (b ≡ true)
 both a b e = (and-left a b e, and-right a b e)
@@ -127,4 +115,4 @@ module _ (s : List ℕ) where
 
   -- no more are stored than accepted
   pub stored-most : Sound s → storedCount s ≤ acceptedCount s
-  stored-most h = rw (h .counted) (count-below (storedIn s) (acceptedCount s))
+  stored-most h = rw (h .counted) (count-most (storedIn s) (acceptedCount s))

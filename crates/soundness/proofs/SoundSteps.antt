@@ -26,7 +26,8 @@ use Rattle.cache.specs.Needs.{needsRing, met}
 use Rattle.cache.specs.Needs as cache
 use Rattle.cache.specs.State.{ruleCount, acceptedCount, storedCount, rulesIn, writesIn, storedIn}
 use Rattle.cache.specs.Sound.{zeros, layout, sound}
-use Rattle.soundness.specs.Parts.{flagFits, partOf, covered, coveredAt, needsHold, Tabled, TabledIf}
+use Rattle.relation.specs.Union.{partOf}
+use Rattle.soundness.specs.Parts.{flagFits, covered, coveredAt, needsHold, Tabled, TabledIf}
 use Rattle.needs.proofs.Steps.{writes-length, row-at}
 
 -- ---- has_layout
@@ -77,7 +78,7 @@ module _ (rules : List Rule) (s rows : List ℕ) (e : take (acceptedCount s) row
 
     -- a row is part of it exactly if all that its write needs is stored
     pub row-met : (i : ℕ) → i < acceptedCount s → partOf (getD rows i 0) mask ≡ met rules (writesIn s) (storedIn s) i
-    unfolding met
+    unfolding met partOf
     row-met i h =
         rw (row-at rules s rows e i h, writes-length s) (mask-part (cache.needs rules (writesIn s) i) (acceptedCount s) mask
         ∙ allBelow-ext _ _ (acceptedCount s) (λ j hj. rw (stored-bit j hj)))

@@ -3,12 +3,12 @@ use Prim.Native.Nat.{ℕ, zero, _+_}
 use mathlib.Core.Path.{_≡_}
 use mathlib.Core.Bool.{Bool, true, not, _&&_, _||_}
 use mathlib.Core.List.{List}
-use lib.Bits.{bitAnd}
 use lib.Dec.{eqb, leb}
 use lib.ListN.{getD, take}
 use Rattle.relation.specs.Bits.{bit}
 use Rattle.relation.specs.Lists.{allBelow}
 use Rattle.relation.specs.Finite.{rowsOf}
+use Rattle.relation.specs.Union.{partOf}
 use Rattle.model.specs.declared.Rule.{Rule}
 use Rattle.reader.specs.Bytes.{byte}
 use Rattle.cache.specs.Needs.{needs, needsRing, met}
@@ -24,10 +24,6 @@ TabledIf b s rows = b ≡ true → Tabled s rows
 -- the last two bytes of write i's place are a flag and zero
 unfoldable pub flagFits : List ℕ → ℕ → Bool
 flagFits s i = leb (flagIn s i) 1 && eqb (byte s (writeBase i + 11)) 0
-
--- all members of a row are in a mask
-abbrev pub partOf : ℕ → ℕ → Bool
-partOf row mask = eqb (bitAnd row mask) row
 
 -- the row of i, where i is in a mask, is part of the mask
 unfoldable pub covered : ℕ → ℕ → ℕ → Bool

@@ -5,6 +5,7 @@ use mathlib.Core.List.{List}
 use Prim.Native.Nat.{ℕ, zero, suc, _+_, _-_, _*_, _/_, _%_, _≤_, _<_}
 use native.Mathlib.Numerals.{add-one}
 use native.Mathlib.Omega.{arith}
+use lib.Bits.{bitAnd}
 use lib.Dec.{eqb, eqb·suc-zero}
 use lib.ListN.{length, getD, set}
 use lib.Seq.{sets}
@@ -21,7 +22,8 @@ use Rattle.cache.specs.Needs.{readyFrom, ready}
 use Rattle.cache.specs.State.{ruleCount, acceptedCount, storedCount, rulesIn, writesIn, writeIn, storedIn, marked, storedOn}
 use Rattle.cache.specs.Sound.{sound}
 use Rattle.cache.specs.Calls.{Left, Held, left, storing, checked, stepped, stepsOf, drained}
-use Rattle.soundness.specs.Parts.{partOf, Tabled, TabledIf}
+use Rattle.relation.specs.Union.{partOf}
+use Rattle.soundness.specs.Parts.{Tabled, TabledIf}
 use Rattle.needs.proofs.Steps.{writes-length, write-at}
 use Rattle.soundness.proofs.SoundSteps.{stored-bit, row-met}
 use Rattle.soundness.proofs.SoundLaws.{sound-true, stored-most}
@@ -64,7 +66,8 @@ module _ (row mask i : ℕ) (a : Bool) (e : a ≡ bit mask i) where
   pub ready-stored : a ≡ true → false ≡ not (bit mask i) && partOf row mask
   ready-stored t = rw (← e, t)
 
-  pub ready-part : a ≡ false → partOf row mask ≡ not (bit mask i) && partOf row mask
+  pub ready-part : a ≡ false → eqb (bitAnd row mask) row ≡ not (bit mask i) && partOf row mask
+  unfolding partOf
   ready-part f = rw (← e, f)
 
 -- the first of the k numbers from i on that passes a test, counted from 1; 0 if there is none

@@ -12,7 +12,8 @@ ghost use Rattle.cache.specs.Needs.{ready};
 ghost use Rattle.cache.specs.State.{acceptedCount, storedCount, writeIn, rulesIn, writesIn, storedIn, marked, storedOn};
 ghost use Rattle.cache.specs.Sound.{sound};
 ghost use Rattle.cache.specs.Calls.{stepped, drained};
-ghost use Rattle.soundness.specs.Parts.{partOf, Tabled, TabledIf};
+ghost use Rattle.relation.specs.Union.{partOf};
+ghost use Rattle.soundness.specs.Parts.{Tabled, TabledIf};
 ghost use Rattle.storing.specs.Given.{out, codedLeft, callFault};
 
 // A number in four bytes, big-endian.
