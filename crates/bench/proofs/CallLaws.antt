@@ -5,7 +5,7 @@ use mathlib.Core.Bool.{Bool}
 use mathlib.Core.List.{List, [], _∷_}
 use Prim.Native.Nat.{ℕ, _-_}
 use Rattle.model.specs.declared.Write.{Write}
-use Rattle.reader.specs.Encode.{ruleFields}
+use Rattle.format.specs.Encode.{ruleFields}
 use Rattle.cache.specs.State.{ruleBase, ruleCount, writeBase, acceptedCount}
 use Rattle.cache.specs.Sound.{layout, sound}
 use Rattle.cache.specs.Calls.{Left, openOf, handInOf, checked, stepOf}

@@ -23,9 +23,9 @@ use Rattle.model.specs.Check.{rangeHolds, holds, consistent}
 use Rattle.model.specs.Test.{Test, File, file, initialDisk, Bad, bad, testHolds, schedules, countBelow, validCount, badCount}
 use Rattle.model.specs.Find.{before, picked, pairing, inserted, fromWrite, fromTrace, candidatesOf, suffices, preferred, chosenBelow, chosen}
 use Rattle.model.proofs.TestLaws.{bad-true, true-bad, bad-fails, count-holds}
-use Rattle.reader.specs.Bytes.{half, word, writeBytes, ruleBytes}
-use Rattle.reader.specs.Encode.{fieldBytes, ruleFields, writeFields, checkField, checkFields, testBytes, testsBytes, fileBytes}
-use Rattle.reader.specs.File.{isTag, isCheck, bodyLength, ruleOf, writeOf, checkOf, countsOf, outOfOrder, overTest, overLimit, ruleFault, bodyFault, faultOf, grown, finished, readFrom, nothing, readOf}
+use Rattle.format.specs.Bytes.{half, word, writeBytes, ruleBytes}
+use Rattle.format.specs.Encode.{fieldBytes, ruleFields, writeFields, checkField, checkFields, testBytes, testsBytes, fileBytes}
+use Rattle.format.specs.File.{isTag, isCheck, bodyLength, ruleOf, writeOf, checkOf, countsOf, outOfOrder, overTest, overLimit, ruleFault, bodyFault, faultOf, grown, finished, readFrom, nothing, readOf}
 use Rattle.rules.proofs.Examples.{K5-not-cyclic, K6-cyclic}
 use Rattle.judging.specs.Judge.{Case, caseOf, caseIn}
 use Rattle.log.specs.Puts.{start, after, putWrites, writesOf, afterAll, logTest}

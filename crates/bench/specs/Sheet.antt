@@ -14,7 +14,7 @@ use Rattle.model.specs.Cyclic.{Cyclic, cyclic}
 use Rattle.model.specs.Check.{holds}
 use Rattle.model.specs.Test.{Test, test, file, TestHolds, Bad, validCount, badCount}
 use Rattle.rules.specs.Examples.{rule}
-use Rattle.reader.specs.Encode.{ruleFields, fileBytes}
+use Rattle.format.specs.Encode.{ruleFields, fileBytes}
 use Rattle.judging.specs.Judge.{caseIn}
 use Rattle.log.specs.Puts.{Put, logTest}
 use Rattle.finding.specs.Finder.{Found, found, findOf}

@@ -14,7 +14,7 @@ use Rattle.model.specs.Rules.{labelOf, DependsOn, dependsOn}
 use Rattle.model.specs.Cyclic.{cyclic}
 use Rattle.model.specs.Schedule.{writeAt, labelAt}
 use Rattle.model.specs.Test.{File}
-use Rattle.reader.specs.File.{readOf}
+use Rattle.format.specs.File.{readOf}
 use Rattle.cache.specs.Needs.{needsRing, ready}
 use Rattle.cache.specs.State.{stateSize, acceptedCount, storedCount, rulesIn, writesIn, storedIn, opened, handed, marked, storedOn}
 use Rattle.cache.specs.Sound.{sound}

@@ -9,7 +9,7 @@ use Rattle.relation.specs.Lists.{allBelow}
 use Rattle.model.specs.Rules.{Known, known}
 use Rattle.model.specs.Cyclic.{Cyclic, cyclic}
 use Rattle.model.specs.Test.{countBelow}
-use Rattle.reader.specs.Bytes.{byte}
+use Rattle.format.specs.Bytes.{byte}
 use Rattle.cache.specs.Needs.{Needs, NeedsRing, needs, needsRing, met}
 use Rattle.cache.specs.State.{stateSize, ruleCount, acceptedCount, storedCount, ruleBase, writeBase, flagIn, rulesIn, writesIn, storedIn}
 

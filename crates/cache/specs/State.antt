@@ -9,8 +9,8 @@ use lib.Seq.{sets}
 use Rattle.relation.specs.Lists.{tabulate}
 use Rattle.model.specs.declared.Write.{Write}
 use Rattle.model.specs.declared.Rule.{Rule}
-use Rattle.reader.specs.Bytes.{byte, bytes4, writeBytes, ruleBytes}
-use Rattle.reader.specs.File.{ruleOf, writeOf}
+use Rattle.format.specs.Bytes.{byte, bytes4, writeBytes, ruleBytes}
+use Rattle.format.specs.File.{ruleOf, writeOf}
 
 abbrev pub stateSize : ℕ
 stateSize = 1024

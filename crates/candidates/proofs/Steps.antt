@@ -18,12 +18,12 @@ use Rattle.model.specs.Rules.{Label, label, labelOf}
 use Rattle.model.specs.Schedule.{noWrite, labelAt}
 use Rattle.model.specs.Test.{Test}
 use Rattle.model.specs.Find.{before, pairing, inserted, fromWrite, fromTrace, candidatesOf, picked}
-use Rattle.reader.specs.declared.Extent.{Extent}
-use Rattle.reader.specs.declared.Scan.{Scan}
-use Rattle.reader.specs.declared.Scan.the-variants.{Accepted, Refused}
-use Rattle.reader.specs.File.{readOf}
-use Rattle.reader.specs.Scan.{writeField, writesAt, mainPlace, testAt}
-use Rattle.reader.specs.Held.{noTest, Tells, Inside}
+use Rattle.format.specs.declared.Extent.{Extent}
+use Rattle.format.specs.declared.Scan.{Scan}
+use Rattle.format.specs.declared.Scan.the-variants.{Accepted, Refused}
+use Rattle.format.specs.File.{readOf}
+use Rattle.format.specs.Scan.{writeField, writesAt, mainPlace, testAt}
+use Rattle.format.specs.Held.{noTest, Tells, Inside}
 use Rattle.reader.proofs.CallerLaws.{refused-read, accepted-file, accepted-read, accepted-tests, accepted-inside, accepted-test}
 use Rattle.rules.specs.declared.Rules.{Rules}
 use Rattle.rules.specs.Held.{rulesOf}

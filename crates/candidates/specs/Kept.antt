@@ -10,7 +10,7 @@ use Rattle.model.specs.Answer.{Outcome, answer, refused}
 use Rattle.model.specs.Rules.{Label}
 use Rattle.model.specs.Test.{Test, File}
 use Rattle.model.specs.Find.{before, pairing, inserted}
-use Rattle.reader.specs.File.{readOf}
+use Rattle.format.specs.File.{readOf}
 use Rattle.rules.specs.declared.Rules.{Rules}
 use Rattle.rules.specs.Held.{rulesOf}
 

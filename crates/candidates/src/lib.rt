@@ -1,8 +1,8 @@
 // The candidates of a file, sorted, and the sets of them.
+use format::Extent;
+use format::Scan;
 use model::Rule;
 use model::Write;
-use reader::Extent;
-use reader::Scan;
 use rules::Rules;
 ghost use mathlib.Core.Path.{_≡_};
 ghost use mathlib.Core.Bool.{cond};
@@ -12,8 +12,8 @@ ghost use lib.ListN.{length, getD, take, drop};
 ghost use Rattle.relation.specs.Bits.{bit};
 ghost use Rattle.model.specs.Rules.{label, labelOf};
 ghost use Rattle.model.specs.Find.{before, pairing, inserted, fromWrite, fromTrace, candidatesOf, picked};
-ghost use Rattle.reader.specs.Scan.{writesAt, testAt};
-ghost use Rattle.reader.specs.Held.{noTest, Inside};
+ghost use Rattle.format.specs.Scan.{writesAt, testAt};
+ghost use Rattle.format.specs.Held.{noTest, Inside};
 ghost use Rattle.rules.specs.Held.{rulesOf};
 ghost use Rattle.candidates.specs.Kept.{placeOf, paired, testsIn, Keeps, Follows};
 
@@ -147,11 +147,11 @@ fn from_write(c: Rules, file: &[u8], at: usize, n: usize, i: usize) -> Rules
     requires { ⌜ (c .count ≤ 17) × ((n ≤ 64) × ((i < n) × (at + 13 * n ≤ length (now file)))) ⌝ }
     ensures { λ r. ⌜ (r .count ≤ 17) × Follows (fromWrite (writesAt (now (file .entry)) at n) i n) c r ⌝ }
 {
-    let w = reader::write_at(file, at + 13 * i);
+    let w = format::write_at(file, at + 13 * i);
     let mut out = c;
     let mut j: usize = 0;
     while j < n {
-        let v = reader::write_at(file, at + 13 * j);
+        let v = format::write_at(file, at + 13 * j);
         out = with_pair(out, i, j, w.name, w.epoch, v);
         j += 1;
     }

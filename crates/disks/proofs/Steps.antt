@@ -20,8 +20,8 @@ use Rattle.model.specs.declared.Check.the-variants.{Range, Pair, Pointer}
 use Rattle.model.specs.Disk.{empty, firstOf, secondOf, blockAt}
 use Rattle.model.specs.Schedule.{store, run}
 use Rattle.model.specs.Check.{rangeHolds, holds, consistent}
-use Rattle.reader.specs.Scan.{writeField, writesAt}
-use Rattle.reader.proofs.FieldLaws.{writes-cons}
+use Rattle.format.specs.Scan.{writeField, writesAt}
+use Rattle.format.proofs.FieldLaws.{writes-cons}
 use Rattle.disks.specs.Packed.{unpacked, Packs, Loads, heldFrom}
 
 -- ---- the disk of a schedule

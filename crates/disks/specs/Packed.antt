@@ -4,7 +4,7 @@ use mathlib.Core.Path.{_≡_}
 use mathlib.Core.List.{List, [], _∷_}
 use lib.ListN.{getD, set}
 use Rattle.model.specs.declared.Write.{Write}
-use Rattle.reader.specs.Scan.{writeField}
+use Rattle.format.specs.Scan.{writeField}
 
 -- the write of a number; its label is lost
 unfoldable pub unpacked : ℕ → Write

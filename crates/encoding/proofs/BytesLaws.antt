@@ -15,11 +15,11 @@ use Rattle.model.specs.declared.Rule.{Rule}
 use Rattle.model.specs.declared.Check.{Check}
 use Rattle.model.specs.Answer.{answer, refused}
 use Rattle.model.specs.Test.{test, File, file}
-use Rattle.reader.specs.declared.Counts.{Counts}
-use Rattle.reader.specs.Bytes.{byte, half}
-use Rattle.reader.specs.File.{isTag, bodyLength, outOfOrder, faultOf, fieldEnd, bodyAt, ruleOf, writeOf, checkOf, Progress, progress, countsOf, grown, finished, readFrom, readOf, nothing}
+use Rattle.format.specs.declared.Counts.{Counts}
+use Rattle.format.specs.Bytes.{byte, half}
+use Rattle.format.specs.File.{isTag, bodyLength, outOfOrder, faultOf, fieldEnd, bodyAt, ruleOf, writeOf, checkOf, Progress, progress, countsOf, grown, finished, readFrom, readOf, nothing}
 use Rattle.reader.specs.Limits.{Within}
-use Rattle.reader.specs.Encode.{fieldBytes, ruleFields, writeFields, checkField, checkFields, testBytes, testsBytes, fileBytes, FileFits}
+use Rattle.format.specs.Encode.{fieldBytes, ruleFields, writeFields, checkField, checkFields, testBytes, testsBytes, fileBytes, FileFits}
 use Rattle.reader.proofs.LimitLaws.{Clean, clean, by-tag, within-counted}
 use Rattle.reader.proofs.CallerLaws.{holding-limits}
 use Rattle.reader.proofs.TellsLaws.{counts-grown}

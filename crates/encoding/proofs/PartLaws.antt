@@ -11,9 +11,9 @@ use Rattle.relation.proofs.ListLaws.{length-tabulate, getD-tabulate}
 use Rattle.model.specs.declared.Write.{Write}
 use Rattle.model.specs.declared.Rule.{Rule}
 use Rattle.model.specs.declared.Check.the-variants.{Pair}
-use Rattle.reader.specs.Bytes.{byte, half, word, bytes4, writeBytes, ruleBytes}
-use Rattle.reader.specs.File.{writeOf, ruleOf, checkOf}
-use Rattle.reader.specs.Encode.{WriteFits, fieldBytes, checkField}
+use Rattle.format.specs.Bytes.{byte, half, word, bytes4, writeBytes, ruleBytes}
+use Rattle.format.specs.File.{writeOf, ruleOf, checkOf}
+use Rattle.format.specs.Encode.{WriteFits, fieldBytes, checkField}
 
 -- ---- numbers
 

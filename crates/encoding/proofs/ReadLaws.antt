@@ -16,11 +16,11 @@ use Rattle.model.specs.declared.Check.the-variants.{Range, Pair, Pointer}
 use Rattle.model.specs.Answer.{answer, refused}
 use Rattle.model.specs.Rules.{Known}
 use Rattle.model.specs.Test.{Test, test, File, file}
-use Rattle.reader.specs.declared.Counts.{Counts}
-use Rattle.reader.specs.Bytes.{byte, half, bytes4, writeBytes, ruleBytes}
-use Rattle.reader.specs.File.{isTag, isCheck, bodyLength, outOfOrder, overTest, overLimit, ruleFault, bodyFault, faultOf, checkOf, Progress, progress, countsOf, grown, finished, readFrom, readOf, nothing}
+use Rattle.format.specs.declared.Counts.{Counts}
+use Rattle.format.specs.Bytes.{byte, half, bytes4, writeBytes, ruleBytes}
+use Rattle.format.specs.File.{isTag, isCheck, bodyLength, outOfOrder, overTest, overLimit, ruleFault, bodyFault, faultOf, checkOf, Progress, progress, countsOf, grown, finished, readFrom, readOf, nothing}
 use Rattle.reader.specs.Limits.{TestLimits, FileLimits}
-use Rattle.reader.specs.Encode.{fieldBytes, ruleFields, checkField, testBytes, testsBytes, fileBytes, RuleFits, WriteFits, CheckFits, TestFits, FileFits}
+use Rattle.format.specs.Encode.{fieldBytes, ruleFields, checkField, testBytes, testsBytes, fileBytes, RuleFits, WriteFits, CheckFits, TestFits, FileFits}
 use Rattle.reader.proofs.LimitLaws.{Clean}
 use Rattle.encoding.proofs.RunLaws.{ruleField, writeField, rule-run, write-run, check-run, test-run, run-on}
 use Rattle.encoding.proofs.PartLaws.{write-back, rule-back, pair-back}

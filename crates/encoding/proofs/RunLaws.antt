@@ -6,8 +6,8 @@ use native.Mathlib.Omega.{arith}
 use lib.ListN.{length, length-append}
 use Rattle.model.specs.declared.Write.{Write}
 use Rattle.model.specs.declared.Rule.{Rule}
-use Rattle.reader.specs.Bytes.{writeBytes, ruleBytes}
-use Rattle.reader.specs.Encode.{fieldBytes, ruleFields, writeFields, checkField, checkFields, testBytes, testsBytes}
+use Rattle.format.specs.Bytes.{writeBytes, ruleBytes}
+use Rattle.format.specs.Encode.{fieldBytes, ruleFields, writeFields, checkField, checkFields, testBytes, testsBytes}
 
 -- `all` is the bytes of a list whose elements have these bytes
 pub record Run {A : Type 0} (bytes : A → List ℕ) (all : List A → List ℕ) : Type 0 where

@@ -6,10 +6,10 @@ use mathlib.Core.List.{List}
 use lib.ListN.{length}
 use Rattle.model.specs.Answer.{answer}
 use Rattle.model.specs.Test.{File}
-use Rattle.reader.specs.Bytes.{byte}
-use Rattle.reader.specs.File.{readOf}
+use Rattle.format.specs.Bytes.{byte}
+use Rattle.format.specs.File.{readOf}
 use Rattle.reader.specs.Limits.{FileLimits}
-use Rattle.reader.specs.Encode.{fileBytes, FileFits}
+use Rattle.format.specs.Encode.{fileBytes, FileFits}
 
 -- numbers below 256
 abbrev pub Small : List ℕ → Type 0

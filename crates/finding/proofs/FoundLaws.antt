@@ -15,13 +15,13 @@ use Rattle.model.specs.declared.Rule.{Rule}
 use Rattle.model.specs.Answer.{refused, refusal, coded}
 use Rattle.model.specs.Test.{Test}
 use Rattle.model.specs.Find.{candidatesOf, picked, Chosen, chosen}
-use Rattle.reader.specs.declared.Extent.{Extent}
-use Rattle.reader.specs.declared.Scan.{Scan}
-use Rattle.reader.specs.declared.Scan.the-variants.{Accepted, Refused}
-use Rattle.reader.specs.Bytes.{ruleBytes}
-use Rattle.reader.specs.Encode.{fieldBytes, ruleFields}
-use Rattle.reader.specs.File.{readOf}
-use Rattle.reader.specs.Held.{Tells}
+use Rattle.format.specs.declared.Extent.{Extent}
+use Rattle.format.specs.declared.Scan.{Scan}
+use Rattle.format.specs.declared.Scan.the-variants.{Accepted, Refused}
+use Rattle.format.specs.Bytes.{ruleBytes}
+use Rattle.format.specs.Encode.{fieldBytes, ruleFields}
+use Rattle.format.specs.File.{readOf}
+use Rattle.format.specs.Held.{Tells}
 use Rattle.reader.proofs.CallerLaws.{refused-read, refused-most, accepted-read, accepted-rules, accepted-tests}
 use Rattle.rules.specs.declared.Rules.{Rules}
 use Rattle.rules.specs.Held.{rulesOf}

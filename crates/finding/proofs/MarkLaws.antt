@@ -23,9 +23,9 @@ use Rattle.model.specs.Disk.{emptyDisk}
 use Rattle.model.specs.Schedule.{run, written}
 use Rattle.model.specs.Check.{consistent}
 use Rattle.model.specs.Test.{Test, initialDisk}
-use Rattle.reader.specs.declared.Extent.{Extent}
-use Rattle.reader.specs.Scan.{writesAt, checksAt, mainPlace, checksPlace, testAt}
-use Rattle.reader.specs.Held.{noTest}
+use Rattle.format.specs.declared.Extent.{Extent}
+use Rattle.format.specs.Scan.{writesAt, checksAt, mainPlace, checksPlace, testAt}
+use Rattle.format.specs.Held.{noTest}
 use Rattle.rules.specs.declared.Rules.{Rules}
 use Rattle.rules.specs.Held.{rulesOf}
 use Rattle.disks.specs.Packed.{Loads, heldFrom}

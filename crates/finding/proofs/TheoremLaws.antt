@@ -11,8 +11,8 @@ use Rattle.model.specs.declared.Rule.{Rule}
 use Rattle.model.specs.Answer.{Outcome, answer, refused}
 use Rattle.model.specs.Test.{Test, File}
 use Rattle.model.specs.Find.{Suffices, NoneSuffices, Fewest, candidatesOf, picked, chosen}
-use Rattle.reader.specs.Encode.{ruleFields}
-use Rattle.reader.specs.File.{readOf}
+use Rattle.format.specs.Encode.{ruleFields}
+use Rattle.format.specs.File.{readOf}
 use Rattle.reader.proofs.CallerLaws.{refused-limits}
 use Rattle.findlaws.proofs.ChosenLaws.{given, refused as unmet}
 use Rattle.finding.specs.Finder.{Found, found, over, wrote, findAmong, findIn, findOf}

@@ -9,8 +9,8 @@ use Rattle.model.specs.declared.Rule.{Rule}
 use Rattle.model.specs.Answer.{Outcome, answer, refused, coded}
 use Rattle.model.specs.Test.{Test, File}
 use Rattle.model.specs.Find.{candidatesOf, picked, chosen}
-use Rattle.reader.specs.Encode.{ruleFields}
-use Rattle.reader.specs.File.{readOf}
+use Rattle.format.specs.Encode.{ruleFields}
+use Rattle.format.specs.File.{readOf}
 
 -- what a call leaves: its outcome and its buffer
 pub record Found : Type 0 where

@@ -7,8 +7,8 @@ use Rattle.model.specs.declared.Rule.{Rule}
 use Rattle.model.specs.Answer.{answer, refused}
 use Rattle.model.specs.Test.{File}
 use Rattle.model.specs.Find.{Suffices, NoneSuffices, Fewest}
-use Rattle.reader.specs.Encode.{ruleFields}
-use Rattle.reader.specs.File.{readOf}
+use Rattle.format.specs.Encode.{ruleFields}
+use Rattle.format.specs.File.{readOf}
 use Rattle.finding.specs.Finder.{over, findOf}
 
 -- what is answered: acyclic rules under which all tests of the file hold, no such rules are fewer, and their fields stand at the front of the buffer

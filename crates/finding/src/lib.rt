@@ -1,8 +1,8 @@
 // Finding the smallest sufficient rule set. What is right is in specs/.
+use format::Extent;
+use format::Scan;
 use model::Check;
 use model::Rule;
-use reader::Extent;
-use reader::Scan;
 use rules::Rules;
 ghost use mathlib.Core.Path.{_≡_};
 ghost use mathlib.Core.Bool.{cond};
@@ -11,9 +11,9 @@ ghost use lib.ListN.{length, take, set};
 ghost use lib.Seq.{sets};
 ghost use Rattle.relation.specs.Lists.{anyBelow};
 ghost use Rattle.model.specs.Find.{chosenBelow, chosen};
-ghost use Rattle.reader.specs.Encode.{ruleFields};
-ghost use Rattle.reader.specs.Scan.{writesAt, testAt};
-ghost use Rattle.reader.specs.Held.{Inside};
+ghost use Rattle.format.specs.Encode.{ruleFields};
+ghost use Rattle.format.specs.Scan.{writesAt, testAt};
+ghost use Rattle.format.specs.Held.{Inside};
 ghost use Rattle.rules.specs.Held.{rulesOf};
 ghost use Rattle.disks.specs.Packed.{heldFrom};
 ghost use Rattle.judging.specs.Rows.{validBy};

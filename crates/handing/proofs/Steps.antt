@@ -19,7 +19,7 @@ use Rattle.model.specs.declared.Write.{Write}
 use Rattle.model.specs.Answer.{refused, answer, refusal, coded}
 use Rattle.model.specs.Disk.{block}
 use Rattle.model.specs.Rules.{labelOf, dependsOn}
-use Rattle.reader.specs.Bytes.{byte, bytes4, writeBytes}
+use Rattle.format.specs.Bytes.{byte, bytes4, writeBytes}
 use Rattle.rules.specs.declared.Rules.{Rules}
 use Rattle.rules.specs.Held.{rulesOf}
 use Rattle.cache.specs.Needs.{needsRing}

@@ -20,13 +20,13 @@ use Rattle.model.specs.Schedule.{written, run, valid}
 use Rattle.model.specs.Check.{consistent}
 use Rattle.model.specs.Test.{Test, File, initialDisk, bad, TestHolds, testHolds, Bad, countBelow, validCount, badCount}
 use Rattle.model.proofs.TestLaws.{bad-true, testHolds-true, count-ext, count-most}
-use Rattle.reader.specs.declared.Extent.{Extent}
-use Rattle.reader.specs.declared.Scan.{Scan}
-use Rattle.reader.specs.declared.Scan.the-variants.{Accepted, Refused}
-use Rattle.reader.specs.File.{readOf}
+use Rattle.format.specs.declared.Extent.{Extent}
+use Rattle.format.specs.declared.Scan.{Scan}
+use Rattle.format.specs.declared.Scan.the-variants.{Accepted, Refused}
+use Rattle.format.specs.File.{readOf}
 use Rattle.reader.specs.Limits.{longest}
-use Rattle.reader.specs.Scan.{rulesAt, writesAt, checksAt, mainPlace, checksPlace, testAt}
-use Rattle.reader.specs.Held.{Tells, Inside, testOf}
+use Rattle.format.specs.Scan.{rulesAt, writesAt, checksAt, mainPlace, checksPlace, testAt}
+use Rattle.format.specs.Held.{Tells, Inside, testOf}
 use Rattle.reader.proofs.CallerLaws.{refused-read, refused-most, accepted-file, accepted-read, accepted-tests, accepted-most, accepted-inside, accepted-test, accepted-at, accepted-long}
 use Rattle.rules.specs.declared.Rules.{Rules}
 use Rattle.rules.specs.Held.{rulesOf}

@@ -20,7 +20,7 @@ use Rattle.model.specs.declared.Rule.{Rule}
 use Rattle.model.specs.declared.Write.{Write}
 use Rattle.model.specs.Rules.{dependsOn, labelOf}
 use Rattle.model.specs.Schedule.{noWrite, labelAt, flagged, store, run, written, valid}
-use Rattle.reader.specs.Scan.{writeField, writesAt}
+use Rattle.format.specs.Scan.{writeField, writesAt}
 use Rattle.judging.specs.Rows.{rowOf, rowsFrom, needed, validBy, Validates}
 
 pub writes-length : (s : List ℕ) (at n : ℕ) → length (writesAt s at n) ≡ n

@@ -21,7 +21,7 @@ use Rattle.model.specs.declared.Write.{Write}
 use Rattle.model.specs.Rules.{Label, labelOf, matches, dependsOn}
 use Rattle.model.specs.Disk.{emptyDisk}
 use Rattle.model.specs.Schedule.{run, written}
-use Rattle.reader.specs.Scan.{writeField, writesAt}
+use Rattle.format.specs.Scan.{writeField, writesAt}
 use Rattle.rules.specs.declared.Rules.{Rules}
 use Rattle.rules.specs.Held.{rulesOf}
 use Rattle.rules.proofs.Steps.{itemAt, length-mapped, depends-next}

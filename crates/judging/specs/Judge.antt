@@ -14,11 +14,11 @@ use Rattle.model.specs.Cyclic.{cyclic}
 use Rattle.model.specs.Schedule.{run}
 use Rattle.model.specs.Check.{consistent}
 use Rattle.model.specs.Test.{Test, File, TestHolds, Bad, countBelow, validCount, badCount}
-use Rattle.reader.specs.File.{readOf}
-use Rattle.reader.specs.declared.Extent.{Extent}
+use Rattle.format.specs.File.{readOf}
+use Rattle.format.specs.declared.Extent.{Extent}
 use Rattle.reader.specs.Limits.{longest}
-use Rattle.reader.specs.Scan.{rulesAt, testAt}
-use Rattle.reader.specs.Held.{testOf, Inside}
+use Rattle.format.specs.Scan.{rulesAt, testAt}
+use Rattle.format.specs.Held.{testOf, Inside}
 use Rattle.judging.specs.declared.Gate.{Gate}
 use Rattle.judging.specs.declared.Gate.the-variants.{Open, Shut}
 use Rattle.judging.specs.declared.Judged.{Judged}

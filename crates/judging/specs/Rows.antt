@@ -14,7 +14,7 @@ use Rattle.model.specs.declared.Check.{Check}
 use Rattle.model.specs.Rules.{Label, labelOf, matches, dependsOn}
 use Rattle.model.specs.Schedule.{run, valid}
 use Rattle.model.specs.Check.{consistent}
-use Rattle.reader.specs.Scan.{writeField}
+use Rattle.format.specs.Scan.{writeField}
 
 -- which of the n writes from a place on a rule pairs with a label
 unfoldable pub ruleRow : Rule → Label → List ℕ → ℕ → ℕ → ℕ

@@ -1,9 +1,9 @@
 // Judging a test under a file's rules, over all its crash schedules.
+use format::Extent;
+use format::Scan;
 use model::Check;
 use model::Rule;
 use model::Write;
-use reader::Extent;
-use reader::Scan;
 use rules::Rules;
 ghost use mathlib.Core.Path.{_≡_};
 ghost use mathlib.Core.Bool.{cond};
@@ -13,11 +13,11 @@ ghost use Rattle.relation.specs.Bits.{withBit};
 ghost use Rattle.model.specs.Rules.{label, labelOf, matches};
 ghost use Rattle.model.specs.Disk.{emptyDisk};
 ghost use Rattle.model.specs.Schedule.{written};
-ghost use Rattle.reader.specs.Scan.{writesAt};
+ghost use Rattle.format.specs.Scan.{writesAt};
 ghost use Rattle.disks.specs.Packed.{heldFrom};
 ghost use Rattle.rules.specs.Held.{rulesOf};
 ghost use Rattle.judging.specs.Rows.{ruleRow, rowOf, rowsFrom, validBy, badBy, Validates};
-ghost use Rattle.reader.specs.Held.{Inside};
+ghost use Rattle.format.specs.Held.{Inside};
 ghost use Rattle.judging.specs.Judge.{caseAt, caseIn, Judges, Decides, Gates, Judging, Deciding, Few, FewDecided, Finds, tallied, Tallies, after, badAfter, Gains};
 
 // The judge's three numbers: valid schedules, bad ones, and one of these, or 0 where there is none.
@@ -73,7 +73,7 @@ fn rule_row(rule: Rule, file: &[u8], at: usize, n: usize, name: u8, epoch: u32) 
     let mut mask: u64 = 0;
     let mut j: usize = 0;
     while j < n {
-        let w = reader::write_at(file, at + 13 * j);
+        let w = format::write_at(file, at + 13 * j);
         mask = with_match(mask, j, rule, name, epoch, w);
         j += 1;
     }
@@ -101,7 +101,7 @@ fn fill(rows: &mut [u64], rules: Rules, file: &[u8], at: usize, n: usize)
 {
     let mut i: usize = 0;
     while i < n {
-        let w = reader::write_at(file, at + 13 * i);
+        let w = format::write_at(file, at + 13 * i);
         rows[i] = row(rules, file, at, n, w.name, w.epoch);
         i += 1;
     }

@@ -11,9 +11,9 @@ use borrow.Author.Needs.{needs}
 use Rattle.relation.specs.Lists.{tabulate}
 use Rattle.model.specs.declared.Rule.{Rule}
 use Rattle.model.specs.declared.Check.{Check}
-use Rattle.reader.specs.Bytes.{byte}
-use Rattle.reader.specs.File.{isCheck, fieldEnd}
-use Rattle.reader.specs.Scan.{ruleField, rulesAt, checkField, checkPlace, checksAt}
+use Rattle.format.specs.Bytes.{byte}
+use Rattle.format.specs.File.{isCheck, fieldEnd}
+use Rattle.format.specs.Scan.{ruleField, rulesAt, checkField, checkPlace, checksAt}
 use Rattle.loading.specs.Loaded.{ChecksIn}
 
 module _ (s : List ℕ) where

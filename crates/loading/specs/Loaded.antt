@@ -4,9 +4,9 @@ use mathlib.Core.Path.{_≡_}
 use mathlib.Core.Bool.{true}
 use mathlib.Core.List.{List}
 use lib.ListN.{length}
-use Rattle.reader.specs.Bytes.{byte}
-use Rattle.reader.specs.File.{isCheck, fieldEnd}
-use Rattle.reader.specs.Scan.{checkPlace}
+use Rattle.format.specs.Bytes.{byte}
+use Rattle.format.specs.File.{isCheck, fieldEnd}
+use Rattle.format.specs.Scan.{checkPlace}
 
 -- n checks stand one behind the other from a place on, inside the file
 abbrev pub ChecksIn : List ℕ → ℕ → ℕ → Type 0

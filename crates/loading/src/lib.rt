@@ -6,7 +6,7 @@ ghost use mathlib.Core.Path.{_≡_};
 ghost use Prim.Native.Nat.{_*_, _≤_};
 ghost use lib.ListN.{length, take};
 ghost use Rattle.rules.specs.Held.{rulesOf};
-ghost use Rattle.reader.specs.Scan.{rulesAt, checksAt};
+ghost use Rattle.format.specs.Scan.{rulesAt, checksAt};
 ghost use Rattle.loading.specs.Loaded.{ChecksIn};
 
 // The first n fields of a file, which are rules.
@@ -21,7 +21,7 @@ pub fn file_rules(file: &[u8], n: usize) -> Rules
     }; 32];
     let mut i: usize = 0;
     while i < n {
-        items[i] = reader::rule_at(file, 6 * i);
+        items[i] = format::rule_at(file, 6 * i);
         i += 1;
     }
     Rules { items, count: n }
@@ -36,8 +36,8 @@ pub fn file_checks(file: &[u8], from: usize, n: usize) -> [Check; 16]
     let mut at = from;
     let mut i: usize = 0;
     while i < n {
-        checks[i] = reader::check_at(file, at);
-        at = reader::end_of(file, at);
+        checks[i] = format::check_at(file, at);
+        at = format::end_of(file, at);
         i += 1;
     }
     checks

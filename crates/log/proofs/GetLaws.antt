@@ -9,7 +9,7 @@ use native.Mathlib.Omega.{arith}
 use native.Mathlib.Decide.{decLt}
 use Rattle.log.specs.Get.{keyed, Gets, getFrom}
 use Rattle.model.specs.Disk.{secondOf}
-use Rattle.reader.specs.Bytes.{blockIn}
+use Rattle.format.specs.Bytes.{blockIn}
 
 module _ (disk : List ℕ) (key head : ℕ) where
   -- one address more, which has not the key

@@ -11,7 +11,7 @@ use borrow.Author.Needs.{needs}
 use borrow.Author.Tests.{eq-eqb, ne-eqb, lt-ltb, le-ltb}
 use Rattle.model.specs.Answer.{refusal}
 use Rattle.model.specs.Disk.{empty, firstOf, secondOf}
-use Rattle.reader.specs.Bytes.{word, blockIn}
+use Rattle.format.specs.Bytes.{word, blockIn}
 use Rattle.log.specs.Get.{keyed, getFrom, getOf, valueCode, getCode, getAnswer}
 
 pub block-word : (d : List ℕ) (a r : ℕ) → r ≡ word d (4 * a) → r ≡ blockIn d a

@@ -10,7 +10,7 @@ use lib.Dec.{eqb, ltb}
 use lib.ListN.{length}
 use Rattle.model.specs.Answer.{Outcome, answer, refused}
 use Rattle.model.specs.Disk.{firstOf, secondOf}
-use Rattle.reader.specs.Bytes.{blockIn}
+use Rattle.format.specs.Bytes.{blockIn}
 use Rattle.log.specs.Get.{Gets, getFrom, getOf}
 use Rattle.log.specs.Theorem.{Highest, Answered}
 use Rattle.log.proofs.GetLaws.{getFrom-gets, gets-one}

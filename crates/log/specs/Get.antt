@@ -8,7 +8,7 @@ use lib.Dec.{eqb, ltb}
 use lib.ListN.{length}
 use Rattle.model.specs.Answer.{Outcome, answer, refused, refusal}
 use Rattle.model.specs.Disk.{empty, firstOf, secondOf}
-use Rattle.reader.specs.Bytes.{blockIn}
+use Rattle.format.specs.Bytes.{blockIn}
 
 -- block a is non-empty and has this key
 unfoldable pub keyed : List ℕ → ℕ → ℕ → Bool

@@ -10,8 +10,8 @@ use Rattle.model.specs.declared.Check.the-variants.{Range}
 use Rattle.model.specs.Answer.{Outcome, answer, refused}
 use Rattle.model.specs.Disk.{block}
 use Rattle.model.specs.Test.{Test, test}
-use Rattle.reader.specs.Bytes.{half}
-use Rattle.reader.specs.Encode.{testBytes}
+use Rattle.format.specs.Bytes.{half}
+use Rattle.format.specs.Encode.{testBytes}
 
 -- *put*: a key and a value
 pub record Put : Type 0 where

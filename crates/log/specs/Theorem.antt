@@ -6,7 +6,7 @@ use mathlib.Core.List.{List}
 use mathlib.Core.Option.{Option}
 use Rattle.model.specs.Answer.{answer}
 use Rattle.model.specs.Disk.{firstOf, secondOf}
-use Rattle.reader.specs.Bytes.{blockIn}
+use Rattle.format.specs.Bytes.{blockIn}
 use Rattle.log.specs.Get.{Gets, getFrom, getOf}
 
 -- `getFrom` computes the value at the highest address, and there is no other

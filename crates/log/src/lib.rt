@@ -2,7 +2,7 @@
 ghost use mathlib.Core.Path.{_≡_};
 ghost use Prim.Native.Nat.{_*_, _-_, _<_, _≤_};
 ghost use lib.ListN.{length};
-ghost use Rattle.reader.specs.Bytes.{blockIn};
+ghost use Rattle.format.specs.Bytes.{blockIn};
 ghost use Rattle.log.specs.Get.{keyed, getFrom, valueCode, getAnswer};
 
 // The number of block a of a disk.
@@ -10,7 +10,7 @@ fn block_at(disk: &[u8], a: usize) -> u32
     requires { ⌜ (length (now disk) ≡ 1024) × (a < 256) ⌝ }
     ensures { λ r. ⌜ r ≡ blockIn (now (disk .entry)) a ⌝ }
 {
-    reader::word_at(disk, 4 * a)
+    format::word_at(disk, 4 * a)
 }
 
 // Whether block a is non-empty and has this key.

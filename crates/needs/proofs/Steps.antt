@@ -22,7 +22,7 @@ use Rattle.model.specs.declared.Write.{Write}
 use Rattle.model.specs.Rules.{Label, label, labelOf, stands, matches, dependsOn}
 use Rattle.model.specs.Cyclic.{noRule, ruleAt}
 use Rattle.model.specs.Schedule.{noWrite, writeAt}
-use Rattle.reader.specs.Scan.{ruleField, writeField}
+use Rattle.format.specs.Scan.{ruleField, writeField}
 use Rattle.rules.specs.declared.Rules.{Rules}
 use Rattle.rules.specs.Held.{rulesOf}
 use Rattle.rules.proofs.Steps.{length-mapped, itemAt}

@@ -35,7 +35,7 @@ pub fn state_rules(state: &[u8]) -> Rules
     }; 32];
     let mut i: usize = 0;
     while i < n {
-        items[i] = reader::rule_at(state, 1 + 3 * i);
+        items[i] = format::rule_at(state, 1 + 3 * i);
         i += 1;
     }
     Rules { items, count: n }
@@ -46,7 +46,7 @@ pub fn write_in(state: &[u8], i: usize) -> Write
     requires { ⌜ (length (now state) ≡ 1024) × (i < 64) ⌝ }
     ensures { λ r. ⌜ r ≡ writeIn (now (state .entry)) i ⌝ }
 {
-    reader::write_at(state, 97 + 12 * i)
+    format::write_at(state, 97 + 12 * i)
 }
 
 // mask, with bit i set where `set` holds.

@@ -12,13 +12,13 @@ use borrow.Author.Tests.{eq-eqb, ne-eqb, lt-ltb, le-ltb}
 use Rattle.model.specs.declared.Rule.{Rule}
 use Rattle.model.specs.Answer.{answer, refused, refusal, coded}
 use Rattle.model.specs.Cyclic.{cyclic}
-use Rattle.reader.specs.declared.Extent.{Extent}
-use Rattle.reader.specs.declared.Scan.{Scan}
-use Rattle.reader.specs.declared.Scan.the-variants.{Accepted, Refused}
-use Rattle.reader.specs.Bytes.{ruleBytes}
-use Rattle.reader.specs.File.{readOf}
-use Rattle.reader.specs.Scan.{rulesAt}
-use Rattle.reader.specs.Held.{Tells}
+use Rattle.format.specs.declared.Extent.{Extent}
+use Rattle.format.specs.declared.Scan.{Scan}
+use Rattle.format.specs.declared.Scan.the-variants.{Accepted, Refused}
+use Rattle.format.specs.Bytes.{ruleBytes}
+use Rattle.format.specs.File.{readOf}
+use Rattle.format.specs.Scan.{rulesAt}
+use Rattle.format.specs.Held.{Tells}
 use Rattle.reader.proofs.CallerLaws.{refused-read, refused-most, accepted-read, accepted-tests, accepted-most, accepted-at, accepted-long}
 use Rattle.rules.specs.declared.Rules.{Rules}
 use Rattle.rules.specs.Held.{rulesOf}

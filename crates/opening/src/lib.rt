@@ -5,7 +5,7 @@ ghost use mathlib.Core.Path.{_≡_};
 ghost use Prim.Native.Nat.{_+_, _≤_};
 ghost use lib.ListN.{length, replicate};
 ghost use lib.Seq.{sets};
-ghost use Rattle.reader.specs.Bytes.{ruleBytes};
+ghost use Rattle.format.specs.Bytes.{ruleBytes};
 ghost use Rattle.rules.specs.Held.{rulesOf};
 ghost use Rattle.cache.specs.State.{opened};
 ghost use Rattle.storing.specs.Given.{kept, openedBy};

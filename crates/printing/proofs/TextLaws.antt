@@ -11,13 +11,13 @@ use borrow.Author.Tests.{le-leb}
 use Rattle.model.specs.Answer.{Outcome, answer, refused}
 use Rattle.model.specs.Cyclic.{cyclic}
 use Rattle.model.specs.Test.{File, validCount, badCount}
-use Rattle.reader.specs.declared.Extent.{Extent}
-use Rattle.reader.specs.declared.Scan.{Scan}
-use Rattle.reader.specs.declared.Scan.the-variants.{Accepted, Refused}
-use Rattle.reader.specs.File.{readOf}
+use Rattle.format.specs.declared.Extent.{Extent}
+use Rattle.format.specs.declared.Scan.{Scan}
+use Rattle.format.specs.declared.Scan.the-variants.{Accepted, Refused}
+use Rattle.format.specs.File.{readOf}
 use Rattle.reader.specs.Limits.{longest}
-use Rattle.reader.specs.Scan.{rulesAt}
-use Rattle.reader.specs.Held.{Tells, testOf}
+use Rattle.format.specs.Scan.{rulesAt}
+use Rattle.format.specs.Held.{Tells, testOf}
 use Rattle.reader.proofs.CallerLaws.{refused-read, refused-most, accepted-file, accepted-read, accepted-tests, accepted-most, accepted-at, accepted-long}
 use Rattle.rules.specs.declared.Rules.{Rules}
 use Rattle.rules.specs.Held.{rulesOf}

@@ -7,8 +7,8 @@ use lib.ListN.{length}
 use Rattle.model.specs.Answer.{Outcome, answer, refused}
 use Rattle.model.specs.Cyclic.{cyclic}
 use Rattle.model.specs.Test.{File, validCount, badCount}
-use Rattle.reader.specs.File.{readOf}
-use Rattle.reader.specs.Held.{testOf}
+use Rattle.format.specs.File.{readOf}
+use Rattle.format.specs.Held.{testOf}
 use Rattle.judging.specs.Judge.{Case, caseIn}
 use Rattle.printing.specs.Decimal.{decimal}
 

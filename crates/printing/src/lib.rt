@@ -1,6 +1,6 @@
 // The judging program's lines.
+use format::Scan;
 use judging::Judged;
-use reader::Scan;
 ghost use mathlib.Core.Path.{_≡_};
 ghost use mathlib.Core.Bool.{cond};
 ghost use Prim.Native.Nat.{_+_, _*_, _<_, _≤_};

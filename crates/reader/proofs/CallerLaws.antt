@@ -6,13 +6,13 @@ use native.Mathlib.Omega.{arith}
 use lib.ListN.{length}
 use Rattle.relation.proofs.ListLaws.{length-tabulate}
 use Rattle.model.specs.Test.{File}
-use Rattle.reader.specs.declared.Extent.{Extent}
-use Rattle.reader.specs.declared.Scan.the-variants.{Accepted, Refused}
+use Rattle.format.specs.declared.Extent.{Extent}
+use Rattle.format.specs.declared.Scan.the-variants.{Accepted, Refused}
 use Rattle.model.specs.Answer.{Outcome, answer, refused}
-use Rattle.reader.specs.File.{readOf}
-use Rattle.reader.specs.Scan.{rulesAt, ruleField, testAt}
+use Rattle.format.specs.File.{readOf}
+use Rattle.format.specs.Scan.{rulesAt, ruleField, testAt}
 use Rattle.reader.specs.Limits.{FileLimits, Limited, longest}
-use Rattle.reader.specs.Held.{Tells, Inside, testOf}
+use Rattle.format.specs.Held.{Tells, Inside, testOf}
 use Rattle.reader.proofs.PrefixLaws.{limited}
 
 pub refused-limits : (s : List ℕ) (number place : ℕ) → readOf s ≡ refused number place → (1 ≤ number) × (number ≤ 7) × (place ≤ longest)

@@ -7,9 +7,9 @@ use native.Mathlib.Omega.{arith}
 use lib.ListN.{length, getD, take, drop}
 use lib.Dec.{eqb}
 use borrow.Author.Tests.{eq-eqb, ne-eqb, lt-ltb, le-ltb, not-true, not-false}
-use Rattle.reader.specs.declared.Counts.{Counts}
-use Rattle.reader.specs.Bytes.{byte, half}
-use Rattle.reader.specs.File.{isTag, bodyLength, outOfOrder, overLimit, bodyFault, faultOf}
+use Rattle.format.specs.declared.Counts.{Counts}
+use Rattle.format.specs.Bytes.{byte, half}
+use Rattle.format.specs.File.{isTag, bodyLength, outOfOrder, overLimit, bodyFault, faultOf}
 
 module _ (s : List ℕ) (at : ℕ) (c : Counts) where
   pub short : length s - at < 3 → 1 ≡ faultOf s at c

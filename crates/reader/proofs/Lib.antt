@@ -1,5 +1,4 @@
 pub mod FaultLaws
-pub mod FieldLaws
 pub mod LimitLaws
 pub mod ReadLaws
 pub mod TellsLaws

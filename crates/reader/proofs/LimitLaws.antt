@@ -8,10 +8,10 @@ use native.Mathlib.Omega.{arith}
 use lib.ListN.{length}
 use lib.Dec.{eqb, ltb, leb, lit<}
 use borrow.Author.Tests.{eqb-true, ltb-false, leb-false, leb-true, not-false}
-use Rattle.reader.specs.declared.Counts.{Counts}
-use Rattle.reader.specs.Bytes.{byte, half}
-use Rattle.reader.specs.File.{isTag, isCheck, bodyLength, outOfOrder, overTest, overLimit, bodyFault, faultOf, fieldEnd, bodyAt}
-use Rattle.reader.specs.Scan.{counted}
+use Rattle.format.specs.declared.Counts.{Counts}
+use Rattle.format.specs.Bytes.{byte, half}
+use Rattle.format.specs.File.{isTag, isCheck, bodyLength, outOfOrder, overTest, overLimit, bodyFault, faultOf, fieldEnd, bodyAt}
+use Rattle.format.specs.Scan.{counted}
 use Rattle.reader.specs.Limits.{Within, longest}
 
 -- what is known of a field that is not refused

@@ -13,10 +13,10 @@ use borrow.Author.Needs.{needs}
 use borrow.Author.Tests.{lt-ltb, le-ltb, ltb-true, ltb-false, eqb-true, eqb-false}
 use Rattle.model.specs.Rules.{Known}
 use Rattle.model.specs.Test.{Test, file}
-use Rattle.reader.specs.declared.Counts.{Counts}
+use Rattle.format.specs.declared.Counts.{Counts}
 use Rattle.model.specs.Answer.{answer, refused}
-use Rattle.reader.specs.Bytes.{byte, half}
-use Rattle.reader.specs.File.{isTag, bodyLength, outOfOrder, overLimit, ruleFault, bodyFault, faultOf, bodyAt, fieldEnd, ruleOf, Progress, countsOf, grown, finished, readFrom, readOf, nothing}
+use Rattle.format.specs.Bytes.{byte, half}
+use Rattle.format.specs.File.{isTag, bodyLength, outOfOrder, overLimit, ruleFault, bodyFault, faultOf, bodyAt, fieldEnd, ruleOf, Progress, countsOf, grown, finished, readFrom, readOf, nothing}
 use Rattle.reader.specs.Limits.{Within, longest, longestField, TestLimits, Limited}
 use Rattle.reader.specs.Theorem.{WithinLimits, PrefixEnough}
 use Rattle.reader.proofs.LimitLaws.{Clean, clean, by-tag, within-counted, spread, spread-counted, spread-longest}

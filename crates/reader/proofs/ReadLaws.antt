@@ -6,12 +6,12 @@ use native.Mathlib.Omega.{arith}
 use lib.ListN.{length}
 use borrow.Author.Needs.{needs}
 use borrow.Author.Tests.{lt-ltb, le-ltb, eq-eqb, ne-eqb}
-use Rattle.reader.specs.declared.ScanState.{ScanState}
-use Rattle.reader.specs.declared.Scan.{Scan}
-use Rattle.reader.specs.declared.Scan.the-variants.{Accepted, Refused}
-use Rattle.reader.specs.Bytes.{byte}
-use Rattle.reader.specs.File.{bodyLength, faultOf, fieldEnd}
-use Rattle.reader.specs.Scan.{advanced, ended, scanFrom, started, scanOf}
+use Rattle.format.specs.declared.ScanState.{ScanState}
+use Rattle.format.specs.declared.Scan.{Scan}
+use Rattle.format.specs.declared.Scan.the-variants.{Accepted, Refused}
+use Rattle.format.specs.Bytes.{byte}
+use Rattle.format.specs.File.{bodyLength, faultOf, fieldEnd}
+use Rattle.format.specs.Scan.{advanced, ended, scanFrom, started, scanOf}
 use Rattle.reader.specs.Limits.{Within}
 use Rattle.reader.proofs.LimitLaws.{Clean, clean, clean-fits, within-counted}
 

@@ -13,16 +13,16 @@ use lib.Dec.{eqb, ltb}
 use borrow.Author.Tests.{ltb-false, eqb-true, eqb-false}
 use Rattle.relation.specs.Lists.{tabulate}
 use Rattle.model.specs.Test.{test, file}
-use Rattle.reader.specs.declared.Counts.{Counts}
-use Rattle.reader.specs.declared.Extent.{Extent}
-use Rattle.reader.specs.declared.ScanState.{ScanState}
-use Rattle.reader.specs.declared.Scan.{Scan}
-use Rattle.reader.specs.declared.Scan.the-variants.{Accepted, Refused}
+use Rattle.format.specs.declared.Counts.{Counts}
+use Rattle.format.specs.declared.Extent.{Extent}
+use Rattle.format.specs.declared.ScanState.{ScanState}
+use Rattle.format.specs.declared.Scan.{Scan}
+use Rattle.format.specs.declared.Scan.the-variants.{Accepted, Refused}
 use Rattle.model.specs.Answer.{answer, refused}
-use Rattle.reader.specs.Bytes.{byte}
-use Rattle.reader.specs.File.{isTag, isCheck, bodyLength, outOfOrder, faultOf, bodyAt, fieldEnd, ruleOf, writeOf, checkOf, Progress, progress, countsOf, grown, finished, readFrom, readOf, nothing}
-use Rattle.reader.specs.Scan.{ruleField, writeField, checkField, rulesAt, writesAt, checkPlace, checksAt, testAt, extent, counts, counted, testFrom, found, advanced, ended, scanFrom, started, scanOf}
-use Rattle.reader.specs.Held.{Inside, noTest, Tells}
+use Rattle.format.specs.Bytes.{byte}
+use Rattle.format.specs.File.{isTag, isCheck, bodyLength, outOfOrder, faultOf, bodyAt, fieldEnd, ruleOf, writeOf, checkOf, Progress, progress, countsOf, grown, finished, readFrom, readOf, nothing}
+use Rattle.format.specs.Scan.{ruleField, writeField, checkField, rulesAt, writesAt, checkPlace, checksAt, testAt, extent, counts, counted, testFrom, found, advanced, ended, scanFrom, started, scanOf}
+use Rattle.format.specs.Held.{Inside, noTest, Tells}
 use Rattle.reader.specs.Limits.{Within}
 use Rattle.reader.specs.Theorem.{Told}
 use Rattle.reader.proofs.LimitLaws.{clean, clean-fits, by-tag, within-counted}

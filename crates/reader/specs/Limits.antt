@@ -6,7 +6,7 @@ use mathlib.Core.List.{List, List·Memᴰ}
 use lib.ListN.{length}
 use Rattle.model.specs.Rules.{Known}
 use Rattle.model.specs.Test.{Test, File}
-use Rattle.reader.specs.declared.Counts.{Counts}
+use Rattle.format.specs.declared.Counts.{Counts}
 use Rattle.model.specs.Answer.{Outcome, answer, refused}
 
 -- counts that a file read without refusal can have

@@ -3,10 +3,10 @@ use Prim.Native.Nat.{ℕ, _+_, _≤_}
 use mathlib.Core.Path.{_≡_}
 use mathlib.Core.List.{List}
 use lib.ListN.{length, take}
-use Rattle.reader.specs.File.{readOf}
+use Rattle.format.specs.File.{readOf}
 use Rattle.reader.specs.Limits.{longest, longestField, Limited}
-use Rattle.reader.specs.Scan.{scanOf}
-use Rattle.reader.specs.Held.{Tells}
+use Rattle.format.specs.Scan.{scanOf}
+use Rattle.format.specs.Held.{Tells}
 
 -- what is read is within the limits; a refusal's number is one of 1 to 7, so the fuel is never used up, and its place is at most 19,376
 abbrev pub WithinLimits : Type 0

@@ -9,7 +9,7 @@ use Rattle.model.specs.declared.Write.{Write}
 use Rattle.model.specs.Answer.{Outcome, answer, refused}
 use Rattle.model.specs.Cyclic.{cyclic}
 use Rattle.model.specs.Test.{File}
-use Rattle.reader.specs.File.{readOf}
+use Rattle.format.specs.File.{readOf}
 use Rattle.cache.specs.Needs.{needsRing}
 use Rattle.cache.specs.State.{acceptedCount, rulesIn, writesIn, storedIn}
 use Rattle.cache.specs.Sound.{sound}

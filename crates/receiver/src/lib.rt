@@ -1,6 +1,6 @@
 // The write-back cache for the receiver's C host: a state of 1,024 lent bytes, a disk of 1,024 lent
 // bytes. Every refusal is `refusal number place` and leaves all bytes.
-use reader::Scan;
+use format::Scan;
 ghost use mathlib.Core.Path.{_≡_};
 ghost use mathlib.Core.List.{[]};
 ghost use Rattle.cache.specs.Calls.{openOf, handInOf, given, stepOf, drainOf};

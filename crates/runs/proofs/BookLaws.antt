@@ -21,7 +21,7 @@ use Rattle.model.specs.declared.Rule.{Rule}
 use Rattle.model.specs.Rules.{Known, DependsOn, labelOf}
 use Rattle.model.specs.Cyclic.{Cyclic}
 use Rattle.model.specs.Schedule.{noWrite, writeAt, labelAt}
-use Rattle.reader.specs.Encode.{WriteFits}
+use Rattle.format.specs.Encode.{WriteFits}
 use Rattle.cache.specs.Needs.{Needs, NeedsRing, Earliest, needs, met, readyFrom, ready}
 use Rattle.cache.specs.Calls.{Late}
 use Rattle.cache.proofs.NeedsLaws.{needs-true, true-needs, below-needs}

@@ -14,7 +14,7 @@ use Rattle.model.specs.declared.Write.{Write}
 use Rattle.model.specs.Answer.{Outcome, answer, refused}
 use Rattle.model.specs.Cyclic.{cyclic}
 use Rattle.model.specs.Test.{File}
-use Rattle.reader.specs.File.{readOf}
+use Rattle.format.specs.File.{readOf}
 use Rattle.cache.specs.Needs.{needsRing}
 use Rattle.cache.specs.State.{stateSize, rulesIn, writesIn, storedIn, acceptedCount}
 use Rattle.cache.specs.Sound.{Sound, sound}

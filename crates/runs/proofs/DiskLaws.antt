@@ -23,8 +23,8 @@ use Rattle.model.specs.Rules.{DependsOn, labelOf}
 use Rattle.model.specs.Check.{Consistent}
 use Rattle.model.specs.Test.{Test, initialDisk, diskAfter, TestHolds}
 use Rattle.model.specs.Schedule.{noWrite, writeAt, labelAt, store, run, Valid}
-use Rattle.reader.specs.Bytes.{byte, half, word, bytes4, blockIn, blocksOf}
-use Rattle.reader.specs.Encode.{WriteFits}
+use Rattle.format.specs.Bytes.{byte, half, word, bytes4, blockIn, blocksOf}
+use Rattle.format.specs.Encode.{WriteFits}
 use Rattle.encoding.proofs.PartLaws.{number}
 use Rattle.cache.specs.Needs.{Needs}
 use Rattle.cache.specs.State.{storedOn}

@@ -24,8 +24,8 @@ use Rattle.model.specs.Check.{rangeHolds, holds, consistent, Consistent}
 use Rattle.model.specs.Test.{Test, test, file, initialDisk, bad, countBelow, badCount, TestHolds}
 use Rattle.model.proofs.RuleLaws.{true-dependsOn}
 use Rattle.model.proofs.TestLaws.{count-holds}
-use Rattle.reader.specs.Bytes.{half, word, writeBytes, ruleBytes, blockIn, blocksOf}
-use Rattle.reader.specs.File.{isTag, isCheck, bodyLength, ruleOf, writeOf, countsOf, outOfOrder, overTest, overLimit, ruleFault, bodyFault, faultOf, grown, finished, readFrom, nothing, readOf}
+use Rattle.format.specs.Bytes.{half, word, writeBytes, ruleBytes, blockIn, blocksOf}
+use Rattle.format.specs.File.{isTag, isCheck, bodyLength, ruleOf, writeOf, countsOf, outOfOrder, overTest, overLimit, ruleFault, bodyFault, faultOf, grown, finished, readFrom, nothing, readOf}
 use Rattle.cache.specs.Needs.{needs, needsRing, met, readyFrom, ready}
 use Rattle.cache.specs.State.{stateSize, ruleIn, writeIn, rulesIn, writesIn, storedIn, rulesBytes, opened, entryBytes, handed, marked, storedOn}
 use Rattle.cache.specs.Sound.{Sound, zeros, layout, sound}

@@ -18,9 +18,9 @@ use Rattle.model.specs.Cyclic.{noRule}
 use Rattle.model.specs.Schedule.{noWrite, writeAt}
 use Rattle.model.specs.Test.{countBelow}
 use Rattle.model.proofs.TestLaws.{count-ext}
-use Rattle.reader.specs.Bytes.{byte, bytes4, writeBytes, ruleBytes}
-use Rattle.reader.specs.File.{ruleOf, writeOf}
-use Rattle.reader.specs.Encode.{WriteFits}
+use Rattle.format.specs.Bytes.{byte, bytes4, writeBytes, ruleBytes}
+use Rattle.format.specs.File.{ruleOf, writeOf}
+use Rattle.format.specs.Encode.{WriteFits}
 use Rattle.encoding.proofs.PartLaws.{write-back}
 use Rattle.cache.specs.State.{ruleBase, writeBase, ruleIn, writeIn, rulesIn, writesIn, storedIn, flagIn, ruleCount, acceptedCount, storedCount, rulesBytes, opened, entryBytes, handed, marked, stateSize}
 use Rattle.soundlaws.proofs.GeneralLaws.{tabulate-getD, count-one-more}

@@ -20,8 +20,8 @@ use Rattle.model.specs.Answer.{Outcome, answer, refused}
 use Rattle.model.specs.Cyclic.{cyclic}
 use Rattle.model.specs.Test.{File}
 use Rattle.model.proofs.TestLaws.{count-none, none-count}
-use Rattle.reader.specs.File.{readOf}
-use Rattle.reader.specs.Encode.{WriteFits}
+use Rattle.format.specs.File.{readOf}
+use Rattle.format.specs.Encode.{WriteFits}
 use Rattle.reader.proofs.CallerLaws.{holding-limits}
 use Rattle.rules.proofs.CyclicLaws.{true-cyclic, cyclic-true}
 use Rattle.cache.specs.Needs.{Needs, NeedsRing, Earliest, needsRing, ready}

@@ -18,7 +18,7 @@ use Rattle.model.specs.Rules.{labelOf, dependsOn}
 use Rattle.model.specs.Schedule.{writeAt, labelAt}
 use Rattle.model.specs.Test.{countBelow}
 use Rattle.model.proofs.TestLaws.{count-none, none-count}
-use Rattle.reader.specs.Encode.{WriteFits}
+use Rattle.format.specs.Encode.{WriteFits}
 use Rattle.cache.specs.Needs.{Needs, NeedsRing, Earliest, needs, needsRing, met, readyFrom, ready}
 use Rattle.cache.specs.State.{stateSize, rulesIn, writesIn, storedIn, acceptedCount, storedCount, storedOn, marked, handed}
 use Rattle.cache.specs.Sound.{Sound, sound}

@@ -9,7 +9,7 @@ use Rattle.relation.specs.Lists.{tabulate}
 use Rattle.model.specs.declared.Write.{Write}
 use Rattle.model.specs.declared.Rule.{Rule}
 use Rattle.model.specs.Answer.{Outcome, answer, refused}
-use Rattle.reader.specs.Encode.{WriteFits}
+use Rattle.format.specs.Encode.{WriteFits}
 use Rattle.cache.specs.State.{stateSize}
 use Rattle.cache.specs.Sound.{Sound}
 use Rattle.cache.specs.Calls.{Left, Held, openOf, handInOf, stepOf, drainOf, stepsOf, waiting}

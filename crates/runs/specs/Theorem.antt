@@ -14,8 +14,8 @@ use Rattle.model.specs.Cyclic.{Cyclic}
 use Rattle.model.specs.Schedule.{labelAt, Valid}
 use Rattle.model.specs.Check.{Consistent}
 use Rattle.model.specs.Test.{Test, File, initialDisk, TestHolds}
-use Rattle.reader.specs.Bytes.{blocksOf}
-use Rattle.reader.specs.File.{readOf}
+use Rattle.format.specs.Bytes.{blocksOf}
+use Rattle.format.specs.File.{readOf}
 use Rattle.cache.specs.Needs.{Earliest, NeedsRing}
 use Rattle.cache.specs.State.{stateSize}
 use Rattle.cache.specs.Sound.{Sound}

@@ -20,9 +20,9 @@ use Rattle.model.specs.Rules.{DependsOn, labelOf}
 use Rattle.model.specs.Schedule.{noWrite, writeAt, labelAt}
 use Rattle.model.specs.Test.{countBelow}
 use Rattle.model.proofs.TestLaws.{count-ext}
-use Rattle.reader.specs.Bytes.{byte, writeBytes}
-use Rattle.reader.specs.File.{writeOf}
-use Rattle.reader.specs.Encode.{WriteFits}
+use Rattle.format.specs.Bytes.{byte, writeBytes}
+use Rattle.format.specs.File.{writeOf}
+use Rattle.format.specs.Encode.{WriteFits}
 use Rattle.encoding.proofs.PartLaws.{write-back}
 use Rattle.cache.specs.Needs.{Needs, NeedsRing}
 use Rattle.cache.specs.State.{ruleCount, acceptedCount, writeBase, writeIn, flagIn, rulesIn, writesIn, storedIn, entryBytes, handed}

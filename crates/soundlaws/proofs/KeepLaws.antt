@@ -12,8 +12,8 @@ use lib.Seq.{length-sets, getD-set-same, getD-set-other}
 use borrow.Author.Tests.{eq-eqb, ne-eqb}
 use Rattle.relation.proofs.ListLaws.{tabulate-ext}
 use Rattle.model.specs.declared.Write.{Write}
-use Rattle.reader.specs.Bytes.{byte, bytes4}
-use Rattle.reader.specs.File.{ruleOf, writeOf}
+use Rattle.format.specs.Bytes.{byte, bytes4}
+use Rattle.format.specs.File.{ruleOf, writeOf}
 use Rattle.cache.specs.Needs.{Needs, Earliest, met, ready}
 use Rattle.cache.specs.State.{stateSize, ruleCount, acceptedCount, storedCount, ruleBase, writeBase, ruleIn, writeIn, flagIn, rulesIn, writesIn, storedIn, marked, storedOn}
 use Rattle.cache.specs.Sound.{Sound, sound}

@@ -15,8 +15,8 @@ use Rattle.model.specs.declared.Rule.{Rule}
 use Rattle.model.specs.Rules.{Known}
 use Rattle.model.specs.Cyclic.{Cyclic, cyclic, noRule}
 use Rattle.model.specs.Test.{countBelow}
-use Rattle.reader.specs.Bytes.{byte, ruleBytes}
-use Rattle.reader.specs.File.{ruleOf}
+use Rattle.format.specs.Bytes.{byte, ruleBytes}
+use Rattle.format.specs.File.{ruleOf}
 use Rattle.reader.proofs.CallerLaws.{holding-limits}
 use Rattle.encoding.proofs.PartLaws.{rule-back}
 use Rattle.rules.proofs.CyclicLaws.{cyclic-true, true-cyclic}

@@ -15,9 +15,9 @@ use Rattle.model.specs.Rules.{stands, matches, dependsOn, known}
 use Rattle.model.specs.Cyclic.{noRule, leads, has, equalLeads, meets, cyclic}
 use Rattle.model.specs.Schedule.{noWrite}
 use Rattle.model.specs.Test.{countBelow}
-use Rattle.reader.specs.Bytes.{half, word, writeBytes, ruleBytes}
-use Rattle.reader.specs.Encode.{WriteFits}
-use Rattle.reader.specs.File.{ruleOf, writeOf}
+use Rattle.format.specs.Bytes.{half, word, writeBytes, ruleBytes}
+use Rattle.format.specs.Encode.{WriteFits}
+use Rattle.format.specs.File.{ruleOf, writeOf}
 use Rattle.cache.specs.Needs.{needs, needsRing, met}
 use Rattle.cache.specs.State.{ruleIn, writeIn, rulesIn, writesIn, storedIn, rulesBytes, opened, entryBytes, handed, marked}
 use Rattle.cache.specs.Sound.{Sound, zeros, layout, sound}

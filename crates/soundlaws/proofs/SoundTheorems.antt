@@ -13,7 +13,7 @@ use Rattle.relation.proofs.ListLaws.{untrue}
 use Rattle.model.specs.declared.Write.{Write}
 use Rattle.model.specs.Answer.{answer, refused}
 use Rattle.model.proofs.TestLaws.{count-none}
-use Rattle.reader.specs.Encode.{WriteFits}
+use Rattle.format.specs.Encode.{WriteFits}
 use Rattle.cache.specs.Needs.{NeedsRing, Earliest, needsRing, ready}
 use Rattle.cache.specs.State.{stateSize, acceptedCount, storedCount, rulesIn, writesIn, writeIn, storedIn, handed, marked, storedOn}
 use Rattle.cache.specs.Sound.{Sound, sound}

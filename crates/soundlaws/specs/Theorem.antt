@@ -10,8 +10,8 @@ use Rattle.model.specs.declared.Write.{Write}
 use Rattle.model.specs.Answer.{answer, refused}
 use Rattle.model.specs.Cyclic.{Cyclic}
 use Rattle.model.specs.Test.{File, countBelow}
-use Rattle.reader.specs.File.{readOf}
-use Rattle.reader.specs.Encode.{WriteFits}
+use Rattle.format.specs.File.{readOf}
+use Rattle.format.specs.Encode.{WriteFits}
 use Rattle.cache.specs.Needs.{NeedsRing, Earliest}
 use Rattle.cache.specs.State.{stateSize, acceptedCount, rulesIn, writesIn, writeIn, storedIn, opened, handed, marked, storedOn}
 use Rattle.cache.specs.Sound.{Sound, sound}

@@ -17,7 +17,7 @@ use Rattle.relation.proofs.ListLaws.{allBelow-true, and-intro, all-true, all-ap
 use Rattle.model.specs.Rules.{known}
 use Rattle.model.specs.Cyclic.{noRule}
 use Rattle.model.specs.Test.{countBelow}
-use Rattle.reader.specs.Bytes.{byte}
+use Rattle.format.specs.Bytes.{byte}
 use Rattle.rules.specs.declared.Rules.{Rules}
 use Rattle.rules.specs.Held.{rulesOf}
 use Rattle.rules.proofs.Steps.{length-mapped, itemAt}

@@ -15,7 +15,7 @@ use Rattle.model.specs.Cyclic.{cyclic}
 use Rattle.model.specs.Test.{countBelow}
 use Rattle.model.proofs.TestLaws.{count-most}
 use Rattle.model.proofs.RuleLaws.{known-true, true-known}
-use Rattle.reader.specs.Bytes.{byte}
+use Rattle.format.specs.Bytes.{byte}
 use Rattle.rules.proofs.CyclicLaws.{cyclic-true, true-cyclic}
 use Rattle.cache.specs.Needs.{Needs, needs, needsRing, met}
 use Rattle.cache.specs.State.{ruleCount, acceptedCount, storedCount, ruleBase, writeBase, rulesIn, writesIn, storedIn}

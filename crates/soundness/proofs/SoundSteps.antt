@@ -19,7 +19,7 @@ use Rattle.model.specs.declared.Rule.{Rule}
 use Rattle.model.specs.Rules.{known}
 use Rattle.model.specs.Cyclic.{cyclic}
 use Rattle.model.specs.Test.{countBelow}
-use Rattle.reader.specs.Bytes.{byte}
+use Rattle.format.specs.Bytes.{byte}
 use Rattle.rules.specs.declared.Rules.{Rules}
 use Rattle.rules.specs.Held.{rulesOf}
 use Rattle.cache.specs.Needs.{needsRing, met}

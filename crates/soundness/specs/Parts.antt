@@ -10,7 +10,7 @@ use Rattle.relation.specs.Lists.{allBelow}
 use Rattle.relation.specs.Finite.{rowsOf}
 use Rattle.relation.specs.Union.{partOf}
 use Rattle.model.specs.declared.Rule.{Rule}
-use Rattle.reader.specs.Bytes.{byte}
+use Rattle.format.specs.Bytes.{byte}
 use Rattle.cache.specs.Needs.{needs, needsRing, met}
 use Rattle.cache.specs.State.{acceptedCount, writeBase, flagIn, rulesIn, writesIn, storedIn}
 

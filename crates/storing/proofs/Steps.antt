@@ -16,7 +16,7 @@ use Rattle.relation.proofs.BitLaws.{mask-ext}
 use Rattle.relation.proofs.MaskLaws.{mask-with}
 use Rattle.model.specs.declared.Write.{Write}
 use Rattle.model.specs.Answer.{refused, refusal, coded}
-use Rattle.reader.specs.Bytes.{bytes4}
+use Rattle.format.specs.Bytes.{bytes4}
 use Rattle.rules.specs.declared.Rules.{Rules}
 use Rattle.cache.specs.Needs.{readyFrom, ready}
 use Rattle.cache.specs.State.{ruleCount, acceptedCount, storedCount, rulesIn, writesIn, writeIn, storedIn, marked, storedOn}

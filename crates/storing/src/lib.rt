@@ -7,7 +7,7 @@ ghost use lib.Dec.{eqb};
 ghost use lib.ListN.{length};
 ghost use lib.Seq.{sets};
 ghost use Rattle.relation.specs.Bits.{bit, withBit, maskOf};
-ghost use Rattle.reader.specs.Bytes.{bytes4};
+ghost use Rattle.format.specs.Bytes.{bytes4};
 ghost use Rattle.cache.specs.Needs.{ready};
 ghost use Rattle.cache.specs.State.{acceptedCount, storedCount, writeIn, rulesIn, writesIn, storedIn, marked, storedOn};
 ghost use Rattle.cache.specs.Sound.{sound};

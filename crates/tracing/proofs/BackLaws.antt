@@ -17,9 +17,9 @@ use Rattle.model.specs.declared.Check.the-variants.{Range}
 use Rattle.model.specs.Answer.{Outcome, answer, refused}
 use Rattle.model.specs.Disk.{block}
 use Rattle.model.specs.Test.{Test, test, file}
-use Rattle.reader.specs.Bytes.{half, word, bytes4, writeBytes}
-use Rattle.reader.specs.Encode.{fieldBytes, testBytes, WriteFits, CheckFits, TestFits}
-use Rattle.reader.specs.File.{readOf}
+use Rattle.format.specs.Bytes.{half, word, bytes4, writeBytes}
+use Rattle.format.specs.Encode.{fieldBytes, testBytes, WriteFits, CheckFits, TestFits}
+use Rattle.format.specs.File.{readOf}
 use Rattle.reader.specs.Limits.{TestLimits}
 use Rattle.encoding.specs.Theorem.{Small}
 use Rattle.encoding.proofs.PartLaws.{Bounded}

@@ -17,8 +17,8 @@ use Rattle.model.specs.declared.Write.{Write}
 use Rattle.model.specs.declared.Check.the-variants.{Range}
 use Rattle.model.specs.Disk.{block}
 use Rattle.model.specs.Test.{Test, test}
-use Rattle.reader.specs.Bytes.{half, word, writeBytes}
-use Rattle.reader.specs.Encode.{fieldBytes, writeFields, checkField, checkFields, testBytes}
+use Rattle.format.specs.Bytes.{half, word, writeBytes}
+use Rattle.format.specs.Encode.{fieldBytes, writeFields, checkField, checkFields, testBytes}
 use Rattle.log.specs.Puts.{Put, Log, log, start, putWrites, after, afterAll, writesOf, putsOf, emptyPut, logTest, traced, traceOf}
 use Rattle.model.specs.Answer.{answer, refused, refusal, coded}
 use Rattle.writing.specs.Writing.{Wrote}

@@ -12,8 +12,8 @@ use borrow.Author.Tests.{eq-eqb, ne-eqb}
 use Rattle.relation.specs.Lists.{anyBelow}
 use Rattle.relation.proofs.ListLaws.{anyBelow-intro}
 use Rattle.model.specs.declared.Write.{Write}
-use Rattle.reader.specs.Bytes.{word, bytes4, writeBytes}
-use Rattle.reader.specs.Encode.{fieldBytes}
+use Rattle.format.specs.Bytes.{word, bytes4, writeBytes}
+use Rattle.format.specs.Encode.{fieldBytes}
 use Rattle.writing.specs.Writing.{Wrote}
 use Rattle.writing.proofs.WroteLaws.{wrote-then, wrote-none}
 use Rattle.tracing.specs.Traced.{putFields, programFields, emptyBelow, endFields}

@@ -5,7 +5,7 @@ use mathlib.Core.List.{List, [], _∷_}
 use lib.ListN.{take}
 use Rattle.model.specs.Answer.{answer}
 use Rattle.model.specs.Test.{file}
-use Rattle.reader.specs.File.{readOf}
+use Rattle.format.specs.File.{readOf}
 use Rattle.encoding.specs.Theorem.{Small}
 use Rattle.log.specs.Puts.{putsOf, logTest, traceOf}
 

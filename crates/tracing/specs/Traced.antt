@@ -7,8 +7,8 @@ use Rattle.relation.specs.Lists.{anyBelow}
 use mathlib.Core.List.{List, [], _∷_, _++_}
 use Rattle.model.specs.declared.Write.{Write}
 use Rattle.model.specs.Answer.{coded}
-use Rattle.reader.specs.Bytes.{word, writeBytes}
-use Rattle.reader.specs.Encode.{fieldBytes}
+use Rattle.format.specs.Bytes.{word, writeBytes}
+use Rattle.format.specs.Encode.{fieldBytes}
 use Rattle.log.specs.Puts.{traceOf}
 
 -- the fields of one put of a block: log block at tail, superblock (1, tail + 1)

@@ -4,8 +4,8 @@ ghost use mathlib.Core.Path.{_≡_};
 ghost use Prim.Native.Nat.{_+_, _*_, _/_, _<_, _≤_};
 ghost use lib.ListN.{length, take};
 ghost use Rattle.relation.specs.Lists.{any};
-ghost use Rattle.reader.specs.Bytes.{word, writeBytes};
-ghost use Rattle.reader.specs.Encode.{fieldBytes, writeFields};
+ghost use Rattle.format.specs.Bytes.{word, writeBytes};
+ghost use Rattle.format.specs.Encode.{fieldBytes, writeFields};
 ghost use Rattle.writing.specs.Writing.{Wrote};
 ghost use Rattle.log.specs.Puts.{log, writesOf, putsOf, emptyPut};
 ghost use Rattle.tracing.specs.Traced.{putFields, programFields, emptyBelow, endFields, sizeOf, testFields, traceFault, traceOut, traceAnswer};
@@ -61,7 +61,7 @@ fn put_program(
     let mut at = from;
     let mut i: usize = 0;
     while i < n {
-        let b = reader::word_at(program, 4 * i);
+        let b = format::word_at(program, 4 * i);
         at = put_put(out, at, tag, tail + (i as u8), epoch + (i as u32), b);
         i += 1;
     }
@@ -75,7 +75,7 @@ fn has_empty(program: &[u8], n: usize) -> bool
 {
     let mut i: usize = 0;
     while i < n {
-        if reader::word_at(program, 4 * i) == 0 {
+        if format::word_at(program, 4 * i) == 0 {
             return true;
         }
         i += 1;

@@ -11,13 +11,13 @@ use Rattle.model.specs.Answer.{answer, coded, refusal}
 use Rattle.model.specs.Cyclic.{cyclic}
 use Rattle.rules.specs.declared.Rules.{Rules}
 use Rattle.rules.specs.Held.{rulesOf}
-use Rattle.reader.specs.declared.Extent.{Extent}
-use Rattle.reader.specs.declared.Scan.{Scan}
-use Rattle.reader.specs.declared.Scan.the-variants.{Accepted, Refused}
-use Rattle.reader.specs.File.{readOf}
-use Rattle.reader.specs.Scan.{scanOf, checksPlace, rulesAt}
+use Rattle.format.specs.declared.Extent.{Extent}
+use Rattle.format.specs.declared.Scan.{Scan}
+use Rattle.format.specs.declared.Scan.the-variants.{Accepted, Refused}
+use Rattle.format.specs.File.{readOf}
+use Rattle.format.specs.Scan.{scanOf, checksPlace, rulesAt}
 use Rattle.reader.specs.Limits.{longest}
-use Rattle.reader.specs.Held.{Tells, Inside}
+use Rattle.format.specs.Held.{Tells, Inside}
 use Rattle.reader.proofs.CallerLaws.{refused-read, refused-most, accepted-read, accepted-rules, accepted-tests, accepted-most, accepted-inside, accepted-at, accepted-long}
 use Rattle.workbench.specs.File.{sizes, readAnswer, located, locateAnswer, cyclicIn, cyclicAnswer, Packed}
 

@@ -4,14 +4,14 @@ use mathlib.Core.Bool.{cond, _&&_}
 use mathlib.Core.List.{List}
 use lib.ListN.{length}
 use lib.Dec.{leb}
-use Rattle.reader.specs.declared.Extent.{Extent}
-use Rattle.reader.specs.declared.Scan.{Scan}
-use Rattle.reader.specs.declared.Scan.the-variants.{Accepted, Refused}
+use Rattle.format.specs.declared.Extent.{Extent}
+use Rattle.format.specs.declared.Scan.{Scan}
+use Rattle.format.specs.declared.Scan.the-variants.{Accepted, Refused}
 use Rattle.model.specs.Answer.{Outcome, answer, refused}
 use Rattle.model.specs.Test.{File}
 use Rattle.model.specs.Cyclic.{cyclic}
-use Rattle.reader.specs.File.{readOf}
-use Rattle.reader.specs.Scan.{scanOf}
+use Rattle.format.specs.File.{readOf}
+use Rattle.format.specs.Scan.{scanOf}
 use Rattle.reader.specs.Limits.{longest}
 
 -- how many rules and tests a file holds

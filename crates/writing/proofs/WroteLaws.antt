@@ -7,7 +7,7 @@ use native.Mathlib.Omega.{arith}
 use lib.ListN.{length, set, length-append}
 use lib.Seq.{sets}
 use borrow.Author.Needs.{needs}
-use Rattle.reader.specs.Bytes.{bytes4}
+use Rattle.format.specs.Bytes.{bytes4}
 use Rattle.writing.specs.Writing.{Wrote}
 
 pub sets-append : (l : List ℕ) (i : ℕ) (vs ws : List ℕ) → sets l i (vs ++ ws) ≡ sets (sets l i vs) (i + length vs) ws

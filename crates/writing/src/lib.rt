@@ -2,7 +2,7 @@
 ghost use mathlib.Core.List.{_∷_, []};
 ghost use Prim.Native.Nat.{_+_, _<_, _≤_};
 ghost use lib.ListN.{length};
-ghost use Rattle.reader.specs.Bytes.{bytes4};
+ghost use Rattle.format.specs.Bytes.{bytes4};
 ghost use Rattle.writing.specs.Writing.{Wrote};
 
 // One byte at a place; answers the next place.

@@ -1,7 +1,7 @@
 -- `candidates::from_trace` meets its contract. The invariant: the rules from the writes below i are inserted.
 use Prim.Native.Nat.{_-_, _≤_}
 use Rattle.model.specs.Find.{fromTrace}
-use Rattle.reader.specs.Scan.{writesAt}
+use Rattle.format.specs.Scan.{writesAt}
 use Rattle.candidates.specs.Kept.{Follows}
 use Rattle.candidates.proofs.Steps.{steps}
 use Rattle.candidates.proofs.from_trace.Statement.{statement}

@@ -1,7 +1,7 @@
 -- `candidates::from_write` meets its contract. The invariant: the rules to the writes below j are inserted.
 use Prim.Native.Nat.{_-_, _≤_}
 use Rattle.model.specs.Find.{fromWrite}
-use Rattle.reader.specs.Scan.{writesAt}
+use Rattle.format.specs.Scan.{writesAt}
 use Rattle.candidates.specs.Kept.{Follows}
 use Rattle.candidates.proofs.Steps.{steps}
 use Rattle.candidates.proofs.from_write.Statement.{statement}

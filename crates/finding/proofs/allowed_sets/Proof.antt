@@ -1,6 +1,6 @@
 -- `finding::allowed_sets` meets its contract. The invariant: the sets have the bits below c.
 use Prim.Native.Nat.{_-_, _≤_, _^_}
-use Rattle.reader.specs.Scan.{writesAt}
+use Rattle.format.specs.Scan.{writesAt}
 use Rattle.rules.specs.Held.{rulesOf}
 use Rattle.finding.specs.Table.{Sets}
 use Rattle.finding.proofs.Steps.{allowing}

@@ -2,7 +2,7 @@
 use mathlib.Core.Path.{_≡_}
 use Prim.Native.Nat.{_-_, _≤_}
 use lib.ListN.{length, take}
-use Rattle.reader.specs.Encode.{ruleFields}
+use Rattle.format.specs.Encode.{ruleFields}
 use Rattle.finding.specs.Finder.{over}
 use Rattle.finding.proofs.Steps.{putting}
 use Rattle.finding.proofs.put_rules.Statement.{statement}

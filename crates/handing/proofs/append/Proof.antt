@@ -1,4 +1,4 @@
--- `receiver::append` meets its contract: the entry's bytes and the count are those of the definition.
+-- `handing::append` meets its contract: the entry's bytes and the count are those of the definition.
 use Rattle.handing.proofs.Steps.{appending}
 use Rattle.handing.proofs.append.Statement.{statement}
 use Rattle.handing.proofs.append.Tie as tie

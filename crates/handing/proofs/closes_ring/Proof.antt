@@ -1,4 +1,4 @@
--- `receiver::closes_ring` meets its contract: the closure of the table with w has a loop exactly if there is a ring (`ring-closed`).
+-- `handing::closes_ring` meets its contract: the closure of the table with w has a loop exactly if there is a ring (`ring-closed`).
 use Rattle.handing.proofs.Steps.{ringing}
 use Rattle.handing.proofs.closes_ring.Statement.{statement}
 use Rattle.handing.proofs.closes_ring.Tie as tie

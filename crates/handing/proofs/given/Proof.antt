@@ -1,4 +1,4 @@
--- `receiver::given` meets its contract, by its definition.
+-- `handing::given` meets its contract, by its definition.
 use Rattle.handing.proofs.Steps.{giving}
 use Rattle.handing.proofs.given.Statement.{statement}
 use Rattle.handing.proofs.given.Tie as tie

@@ -1,4 +1,4 @@
--- `receiver::hand_fault` meets its contract: one law for each of its returns.
+-- `handing::hand_fault` meets its contract: one law for each of its returns.
 use Rattle.handing.proofs.Steps.{faulting}
 use Rattle.handing.proofs.hand_fault.Statement.{statement}
 use Rattle.handing.proofs.hand_fault.Tie as tie

@@ -1,4 +1,4 @@
--- `receiver::late_at` meets its contract: one law for each of its returns.
+-- `handing::late_at` meets its contract: one law for each of its returns.
 use Rattle.handing.proofs.Steps.{lateness}
 use Rattle.handing.proofs.late_at.Statement.{statement}
 use Rattle.handing.proofs.late_at.Tie as tie

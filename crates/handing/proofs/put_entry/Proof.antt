@@ -1,4 +1,4 @@
--- `receiver::put_entry` meets its contract: four runs of bytes, one behind the other, are the entry's.
+-- `handing::put_entry` meets its contract: four runs of bytes, one behind the other, are the entry's.
 use Rattle.handing.proofs.Steps.{appending}
 use Rattle.handing.proofs.put_entry.Statement.{statement}
 use Rattle.handing.proofs.put_entry.Tie as tie

@@ -1,4 +1,4 @@
--- `receiver::put_pair` meets its contract: the two bytes are those of the definition.
+-- `handing::put_pair` meets its contract: the two bytes are those of the definition.
 use Rattle.handing.proofs.Steps.{appending}
 use Rattle.handing.proofs.put_pair.Statement.{statement}
 use Rattle.handing.proofs.put_pair.Tie as tie

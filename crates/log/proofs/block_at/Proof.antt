@@ -4,7 +4,7 @@ use Rattle.log.proofs.block_at.Statement.{statement}
 use Rattle.log.proofs.block_at.Tie as tie
 use Rattle.log.proofs.block_at.Reads as reads
 use Rattle.log.proofs.block_at.Lts as lts
-use Rattle.reader.proofs.word_at.Reads as word-at-reads
+use Rattle.format.proofs.word_at.Reads as word-at-reads
 
 -- src/lib.rt:13:27
 mul-word-at : tie.Need-mul-word-at

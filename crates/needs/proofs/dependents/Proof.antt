@@ -1,4 +1,4 @@
--- `soundness::dependents` meets its contract. The invariant: the mask has the bits below j.
+-- `needs::dependents` meets its contract. The invariant: the mask has the bits below j.
 use mathlib.Core.Path.{_≡_}
 use Prim.Native.Nat.{_≤_, _-_}
 use Rattle.rules.specs.Held.{rulesOf}

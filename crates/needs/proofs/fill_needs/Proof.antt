@@ -1,4 +1,4 @@
--- `soundness::fill_needs` meets its contract. The invariant: n is the count of the accepted writes, epochs says how the epochs stand to t, and the first i rows are filled.
+-- `needs::fill_needs` meets its contract. The invariant: n is the count of the accepted writes, epochs says how the epochs stand to t, and the first i rows are filled.
 use mathlib.Core.Path.{_≡_}
 use Prim.Native.Nat.{_≤_, _-_}
 use lib.ListN.{length, take}

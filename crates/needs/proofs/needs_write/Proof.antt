@@ -1,4 +1,4 @@
--- `soundness::needs_write` meets its contract: one law for each of its returns.
+-- `needs::needs_write` meets its contract: one law for each of its returns.
 use Rattle.needs.proofs.Steps.{masks}
 use Rattle.needs.proofs.needs_write.Statement.{statement}
 use Rattle.needs.proofs.needs_write.Tie as tie

@@ -1,4 +1,4 @@
--- `soundness::next_epochs` meets its contract: one law for each of its returns.
+-- `needs::next_epochs` meets its contract: one law for each of its returns.
 use Rattle.needs.proofs.Steps.{comparing}
 use Rattle.needs.proofs.next_epochs.Statement.{statement}
 use Rattle.needs.proofs.next_epochs.Tie as tie

@@ -1,4 +1,4 @@
--- `soundness::row` meets its contract: what u depends on and the earlier writes to its address are joined (`row-joined`).
+-- `needs::row` meets its contract: what u depends on and the earlier writes to its address are joined (`row-joined`).
 use Rattle.needs.proofs.Steps.{pairing}
 use Rattle.needs.proofs.row.Statement.{statement}
 use Rattle.needs.proofs.row.Tie as tie

@@ -1,4 +1,4 @@
--- `soundness::standing` meets its contract: one law for each of its returns.
+-- `needs::standing` meets its contract: one law for each of its returns.
 use Rattle.needs.proofs.Steps.{pairing}
 use Rattle.needs.proofs.standing.Statement.{statement}
 use Rattle.needs.proofs.standing.Tie as tie

@@ -1,4 +1,4 @@
--- `soundness::state_rules` meets its contract. The invariant: the first i rules are read.
+-- `needs::state_rules` meets its contract. The invariant: the first i rules are read.
 use mathlib.Core.Path.{_≡_}
 use Prim.Native.Nat.{_≤_, _-_}
 use lib.ListN.{length, take}

@@ -1,4 +1,4 @@
--- `soundness::with_bit_if` meets its contract: one law for each of its returns.
+-- `needs::with_bit_if` meets its contract: one law for each of its returns.
 use Rattle.needs.proofs.Steps.{masks}
 use Rattle.needs.proofs.with_bit_if.Statement.{statement}
 use Rattle.needs.proofs.with_bit_if.Tie as tie

@@ -1,4 +1,4 @@
--- `soundness::with_rule` meets its contract: one law for each of its returns.
+-- `needs::with_rule` meets its contract: one law for each of its returns.
 use Rattle.needs.proofs.Steps.{pairing}
 use Rattle.needs.proofs.with_rule.Statement.{statement}
 use Rattle.needs.proofs.with_rule.Tie as tie

@@ -1,4 +1,4 @@
--- `soundness::write_in` meets its contract: the body of that field is the write.
+-- `needs::write_in` meets its contract: the body of that field is the write.
 use Rattle.needs.proofs.Steps.{steps}
 use Rattle.needs.proofs.write_in.Statement.{statement}
 use Rattle.needs.proofs.write_in.Tie as tie

@@ -1,4 +1,4 @@
--- `receiver::open_with` meets its contract: one law for each of its returns.
+-- `opening::open_with` meets its contract: one law for each of its returns.
 use Rattle.opening.proofs.Steps.{beginning}
 use Rattle.opening.proofs.open_with.Statement.{statement}
 use Rattle.opening.proofs.open_with.Tie as tie

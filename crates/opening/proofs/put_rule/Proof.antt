@@ -1,4 +1,4 @@
--- `receiver::put_rule` meets its contract: the three bytes are those of the definition.
+-- `opening::put_rule` meets its contract: the three bytes are those of the definition.
 use Rattle.opening.proofs.Steps.{putting}
 use Rattle.opening.proofs.put_rule.Statement.{statement}
 use Rattle.opening.proofs.put_rule.Tie as tie

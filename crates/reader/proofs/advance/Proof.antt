@@ -1,4 +1,4 @@
-use Rattle.reader.specs.Scan.{advanced}
+use Rattle.format.specs.Scan.{advanced}
 use borrow.Author.Needs.{needs}
 use Rattle.reader.proofs.advance.Statement.{statement}
 use Rattle.reader.proofs.advance.Tie as tie

@@ -1,4 +1,4 @@
-use Rattle.reader.specs.Scan.{testFrom}
+use Rattle.format.specs.Scan.{testFrom}
 use Rattle.relation.proofs.Cases.{cases}
 use borrow.Author.Needs.{needs}
 use Rattle.reader.proofs.begin_at.Statement.{statement}

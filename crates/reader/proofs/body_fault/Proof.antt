@@ -1,5 +1,5 @@
 use mathlib.Core.Path.{_∙_}
-use Rattle.reader.specs.File.{bodyFault, bodyLength}
+use Rattle.format.specs.File.{bodyFault, bodyLength}
 use Rattle.relation.proofs.Cases.{cases}
 use Rattle.reader.proofs.body_fault.Statement.{statement}
 use Rattle.reader.proofs.body_fault.Tie as tie

@@ -1,4 +1,4 @@
-use Rattle.reader.specs.Scan.{counted}
+use Rattle.format.specs.Scan.{counted}
 use Rattle.relation.proofs.Cases.{cases}
 use borrow.Author.Needs.{needs}
 use Rattle.reader.proofs.count_field.Statement.{statement}

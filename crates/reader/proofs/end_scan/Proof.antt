@@ -1,4 +1,4 @@
-use Rattle.reader.specs.Scan.{ended}
+use Rattle.format.specs.Scan.{ended}
 use Rattle.relation.proofs.Cases.{cases}
 use borrow.Author.Needs.{needs}
 use Rattle.reader.proofs.end_scan.Statement.{statement}

@@ -5,8 +5,8 @@ use Rattle.reader.proofs.fault.Tie as tie
 use Rattle.reader.proofs.fault.Reads as reads
 use Rattle.reader.proofs.fault.Lts as lts
 use Rattle.reader.proofs.body_fault.Reads as body-fault-reads
-use Rattle.reader.proofs.body_length.Reads as body-length-reads
-use Rattle.reader.proofs.half_at.Reads as half-at-reads
+use Rattle.format.proofs.body_length.Reads as body-length-reads
+use Rattle.format.proofs.half_at.Reads as half-at-reads
 use Rattle.reader.proofs.is_tag.Reads as is-tag-reads
 use Rattle.reader.proofs.out_of_order.Reads as out-of-order-reads
 use Rattle.reader.proofs.over_limit.Reads as over-limit-reads

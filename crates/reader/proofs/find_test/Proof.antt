@@ -1,4 +1,4 @@
-use Rattle.reader.specs.Scan.{found}
+use Rattle.format.specs.Scan.{found}
 use Rattle.relation.proofs.Cases.{cases}
 use borrow.Author.Needs.{needs}
 use Rattle.reader.proofs.find_test.Statement.{statement}

@@ -1,4 +1,4 @@
-use Rattle.reader.specs.File.{isCheck}
+use Rattle.format.specs.File.{isCheck}
 use Rattle.relation.proofs.Cases.{cases}
 use Rattle.reader.proofs.is_check.Statement.{statement}
 use Rattle.reader.proofs.is_check.Tie as tie

@@ -1,4 +1,4 @@
-use Rattle.reader.specs.File.{isTag}
+use Rattle.format.specs.File.{isTag}
 use Rattle.relation.proofs.Cases.{cases}
 use Rattle.reader.proofs.is_tag.Statement.{statement}
 use Rattle.reader.proofs.is_tag.Tie as tie

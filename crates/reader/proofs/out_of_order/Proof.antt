@@ -1,4 +1,4 @@
-use Rattle.reader.specs.File.{outOfOrder}
+use Rattle.format.specs.File.{outOfOrder}
 use Rattle.relation.proofs.Cases.{cases}
 use Rattle.reader.proofs.out_of_order.Statement.{statement}
 use Rattle.reader.proofs.out_of_order.Tie as tie

@@ -1,4 +1,4 @@
-use Rattle.reader.specs.File.{overLimit}
+use Rattle.format.specs.File.{overLimit}
 use Rattle.relation.proofs.Cases.{calls}
 use borrow.Author.Needs.{needs}
 use Rattle.reader.proofs.over_limit.Statement.{statement}

@@ -1,4 +1,4 @@
-use Rattle.reader.specs.File.{overTest}
+use Rattle.format.specs.File.{overTest}
 use Rattle.relation.proofs.Cases.{calls}
 use borrow.Author.Needs.{needs}
 use Rattle.reader.proofs.over_test.Statement.{statement}

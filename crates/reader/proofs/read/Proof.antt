@@ -1,7 +1,7 @@
 use borrow.Author.Needs.{needs}
 use Prim.Native.Nat.{_-_}
 use lib.ListN.{length}
-use Rattle.reader.specs.Scan.{started}
+use Rattle.format.specs.Scan.{started}
 use Rattle.reader.proofs.ReadLaws.{Going, reads-on}
 use Rattle.reader.proofs.TellsLaws.{tells-of}
 use Rattle.reader.proofs.read.Statement.{statement}
@@ -9,7 +9,7 @@ use Rattle.reader.proofs.read.Tie as tie
 use Rattle.reader.proofs.read.Reads as reads
 use Rattle.reader.proofs.read.Lts as lts
 use Rattle.reader.proofs.advance.Reads as advance-reads
-use Rattle.reader.proofs.body_length.Reads as body-length-reads
+use Rattle.format.proofs.body_length.Reads as body-length-reads
 use Rattle.reader.proofs.end_scan.Reads as end-scan-reads
 use Rattle.reader.proofs.fault.Reads as fault-reads
 

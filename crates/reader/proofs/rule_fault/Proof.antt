@@ -1,4 +1,4 @@
-use Rattle.reader.specs.File.{ruleFault}
+use Rattle.format.specs.File.{ruleFault}
 use Rattle.relation.proofs.Cases.{cases}
 use borrow.Author.Needs.{needs}
 use Rattle.reader.proofs.rule_fault.Statement.{statement}

@@ -1,4 +1,4 @@
--- `receiver::drain_sound` meets its contract. The invariant: the state is sound, rows has its needs and done its stored writes, and the steps that are left lead to where all of them lead.
+-- `storing::drain_sound` meets its contract. The invariant: the state is sound, rows has its needs and done its stored writes, and the steps that are left lead to where all of them lead.
 use mathlib.Core.Path.{_≡_}
 use mathlib.Core.Bool.{true}
 use Prim.Native.Nat.{_≤_, _-_}

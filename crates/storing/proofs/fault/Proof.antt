@@ -1,4 +1,4 @@
--- `receiver::fault` meets its contract, by the cases of its definition.
+-- `storing::fault` meets its contract, by the cases of its definition.
 use Rattle.relation.proofs.Cases.{calls}
 use Rattle.soundness.proofs.SoundSteps.{untabled}
 use Rattle.storing.specs.Given.{faultBy, callFault}

@@ -1,4 +1,4 @@
--- `receiver::is_ready` meets its contract: one law for each of its returns.
+-- `storing::is_ready` meets its contract: one law for each of its returns.
 use Rattle.storing.proofs.Steps.{readying}
 use Rattle.storing.proofs.is_ready.Statement.{statement}
 use Rattle.storing.proofs.is_ready.Tie as tie

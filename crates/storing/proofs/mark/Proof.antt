@@ -1,4 +1,4 @@
--- `receiver::mark` meets its contract: the two bytes are those of the definition.
+-- `storing::mark` meets its contract: the two bytes are those of the definition.
 use Rattle.storing.proofs.Steps.{storing-steps}
 use Rattle.storing.proofs.mark.Statement.{statement}
 use Rattle.storing.proofs.mark.Tie as tie

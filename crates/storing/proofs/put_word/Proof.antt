@@ -1,4 +1,4 @@
--- `receiver::put_word` meets its contract: the four bytes are those of the definition.
+-- `storing::put_word` meets its contract: the four bytes are those of the definition.
 use Rattle.storing.proofs.Steps.{storing-steps}
 use Rattle.storing.proofs.put_word.Statement.{statement}
 use Rattle.storing.proofs.put_word.Tie as tie

@@ -1,4 +1,4 @@
--- `receiver::ready` meets its contract. The invariant: no write below i is the one.
+-- `storing::ready` meets its contract. The invariant: no write below i is the one.
 use Prim.Native.Nat.{_≤_, _-_}
 use Rattle.storing.proofs.Steps.{readyBy, Sought}
 use Rattle.storing.proofs.Steps.{readying}

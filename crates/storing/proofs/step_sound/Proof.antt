@@ -1,4 +1,4 @@
--- `receiver::step_sound` meets its contract: one law for each of its returns.
+-- `storing::step_sound` meets its contract: one law for each of its returns.
 use Rattle.storing.proofs.Steps.{stepping}
 use Rattle.storing.proofs.step_sound.Statement.{statement}
 use Rattle.storing.proofs.step_sound.Tie as tie

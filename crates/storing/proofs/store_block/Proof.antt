@@ -1,4 +1,4 @@
--- `receiver::store_block` meets its contract: block a stands at 4a.
+-- `storing::store_block` meets its contract: block a stands at 4a.
 use Rattle.storing.proofs.Steps.{storing-steps}
 use Rattle.storing.proofs.store_block.Statement.{statement}
 use Rattle.storing.proofs.store_block.Tie as tie

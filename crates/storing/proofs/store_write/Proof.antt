@@ -1,4 +1,4 @@
--- `receiver::store_write` meets its contract: its callees' promises together.
+-- `storing::store_write` meets its contract: its callees' promises together.
 use Rattle.storing.proofs.Steps.{stepping}
 use Rattle.storing.proofs.store_write.Statement.{statement}
 use Rattle.storing.proofs.store_write.Tie as tie

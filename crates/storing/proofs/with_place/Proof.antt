@@ -1,4 +1,4 @@
--- `receiver::with_place` meets its contract: one law for each of its returns.
+-- `storing::with_place` meets its contract: one law for each of its returns.
 use Rattle.storing.proofs.Steps.{placing}
 use Rattle.storing.proofs.with_place.Statement.{statement}
 use Rattle.storing.proofs.with_place.Tie as tie

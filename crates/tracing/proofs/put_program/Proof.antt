@@ -8,7 +8,7 @@ use Rattle.tracing.proofs.put_program.Statement.{statement}
 use Rattle.tracing.proofs.put_program.Tie as tie
 use Rattle.tracing.proofs.put_program.Reads as reads
 use Rattle.tracing.proofs.put_program.Lts as lts
-use Rattle.reader.proofs.word_at.Reads as word-at-reads
+use Rattle.format.proofs.word_at.Reads as word-at-reads
 use Rattle.tracing.proofs.put_put.Reads as put-put-reads
 
 abbrev Inv-loop : tie.InvT-loop

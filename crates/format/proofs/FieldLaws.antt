@@ -14,9 +14,9 @@ use Rattle.model.specs.declared.Rule.{Rule}
 use Rattle.model.specs.declared.Write.{Write}
 use Rattle.model.specs.declared.Check.{Check}
 use Rattle.model.specs.declared.Check.the-variants.{Range, Pair, Pointer}
-use Rattle.reader.specs.Bytes.{byte, half, word}
-use Rattle.reader.specs.File.{isCheck, bodyLength, ruleOf, writeOf, checkOf}
-use Rattle.reader.specs.Scan.{ruleField, writeField, checkField, writesAt}
+use Rattle.format.specs.Bytes.{byte, half, word}
+use Rattle.format.specs.File.{isCheck, bodyLength, ruleOf, writeOf, checkOf}
+use Rattle.format.specs.Scan.{ruleField, writeField, checkField, writesAt}
 
 pub word-read : (s : List ℕ) (i h l : ℕ) → h ≡ half s i → l ≡ half s (i + 2) → h * 65536 + l ≡ word s i
 unfolding word

@@ -5,13 +5,13 @@ use mathlib.Core.Path.{_≡_}
 use mathlib.Core.List.{List, []}
 use lib.ListN.{length, getD}
 use Rattle.model.specs.Test.{Test, test, File, file}
-use Rattle.reader.specs.declared.Extent.{Extent}
-use Rattle.reader.specs.declared.Scan.{Scan}
-use Rattle.reader.specs.declared.Scan.the-variants.{Accepted, Refused}
+use Rattle.format.specs.declared.Extent.{Extent}
+use Rattle.format.specs.declared.Scan.{Scan}
+use Rattle.format.specs.declared.Scan.the-variants.{Accepted, Refused}
 use Rattle.model.specs.Answer.{Outcome, answer, refused}
-use Rattle.reader.specs.Bytes.{byte}
-use Rattle.reader.specs.File.{isCheck, fieldEnd, readOf}
-use Rattle.reader.specs.Scan.{rulesAt, checkPlace, checksPlace, testAt}
+use Rattle.format.specs.Bytes.{byte}
+use Rattle.format.specs.File.{isCheck, fieldEnd, readOf}
+use Rattle.format.specs.Scan.{rulesAt, checkPlace, checksPlace, testAt}
 
 unfoldable pub noTest : Test
 noTest = test [] [] []

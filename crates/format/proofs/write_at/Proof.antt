@@ -1,10 +1,10 @@
-use Rattle.reader.proofs.FieldLaws.{fields}
+use Rattle.format.proofs.FieldLaws.{fields}
 use borrow.Author.Needs.{needs}
-use Rattle.reader.proofs.write_at.Statement.{statement}
-use Rattle.reader.proofs.write_at.Tie as tie
-use Rattle.reader.proofs.write_at.Reads as reads
-use Rattle.reader.proofs.write_at.Lts as lts
-use Rattle.reader.proofs.read_write.Reads as read-write-reads
+use Rattle.format.proofs.write_at.Statement.{statement}
+use Rattle.format.proofs.write_at.Tie as tie
+use Rattle.format.proofs.write_at.Reads as reads
+use Rattle.format.proofs.write_at.Lts as lts
+use Rattle.format.proofs.read_write.Reads as read-write-reads
 
 -- src/lib.rt:431:13
 add-b : tie.Need-add-b

@@ -1,10 +1,10 @@
-use Rattle.reader.proofs.FieldLaws.{fields}
+use Rattle.format.proofs.FieldLaws.{fields}
 use borrow.Author.Needs.{needs}
-use Rattle.reader.proofs.rule_at.Statement.{statement}
-use Rattle.reader.proofs.rule_at.Tie as tie
-use Rattle.reader.proofs.rule_at.Reads as reads
-use Rattle.reader.proofs.rule_at.Lts as lts
-use Rattle.reader.proofs.read_rule.Reads as read-rule-reads
+use Rattle.format.proofs.rule_at.Statement.{statement}
+use Rattle.format.proofs.rule_at.Tie as tie
+use Rattle.format.proofs.rule_at.Reads as reads
+use Rattle.format.proofs.rule_at.Lts as lts
+use Rattle.format.proofs.read_rule.Reads as read-rule-reads
 
 -- src/lib.rt:422:13
 add-b : tie.Need-add-b

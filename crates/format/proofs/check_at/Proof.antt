@@ -1,11 +1,11 @@
-use Rattle.reader.proofs.FieldLaws.{fields}
+use Rattle.format.proofs.FieldLaws.{fields}
 use borrow.Author.Needs.{needs}
-use Rattle.reader.proofs.check_at.Statement.{statement}
-use Rattle.reader.proofs.check_at.Tie as tie
-use Rattle.reader.proofs.check_at.Reads as reads
-use Rattle.reader.proofs.check_at.Lts as lts
-use Rattle.reader.proofs.body_length.Reads as body-length-reads
-use Rattle.reader.proofs.read_check.Reads as read-check-reads
+use Rattle.format.proofs.check_at.Statement.{statement}
+use Rattle.format.proofs.check_at.Tie as tie
+use Rattle.format.proofs.check_at.Reads as reads
+use Rattle.format.proofs.check_at.Lts as lts
+use Rattle.format.proofs.body_length.Reads as body-length-reads
+use Rattle.format.proofs.read_check.Reads as read-check-reads
 
 -- src/lib.rt:440:15
 shared-slice-read-tag : tie.Need-shared-slice-read-tag

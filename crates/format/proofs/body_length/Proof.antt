@@ -1,9 +1,9 @@
-use Rattle.reader.specs.File.{bodyLength}
+use Rattle.format.specs.File.{bodyLength}
 use Rattle.relation.proofs.Cases.{cases}
-use Rattle.reader.proofs.body_length.Statement.{statement}
-use Rattle.reader.proofs.body_length.Tie as tie
-use Rattle.reader.proofs.body_length.Reads as reads
-use Rattle.reader.proofs.body_length.Lts as lts
+use Rattle.format.proofs.body_length.Statement.{statement}
+use Rattle.format.proofs.body_length.Tie as tie
+use Rattle.format.proofs.body_length.Reads as reads
+use Rattle.format.proofs.body_length.Lts as lts
 
 -- src/lib.rt:57:9
 returns : tie.Need-returns

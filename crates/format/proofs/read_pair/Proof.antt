@@ -1,10 +1,10 @@
-use Rattle.reader.specs.File.{checkOf}
+use Rattle.format.specs.File.{checkOf}
 use borrow.Author.Needs.{needs}
-use Rattle.reader.proofs.read_pair.Statement.{statement}
-use Rattle.reader.proofs.read_pair.Tie as tie
-use Rattle.reader.proofs.read_pair.Reads as reads
-use Rattle.reader.proofs.read_pair.Lts as lts
-use Rattle.reader.proofs.word_at.Reads as word-at-reads
+use Rattle.format.proofs.read_pair.Statement.{statement}
+use Rattle.format.proofs.read_pair.Tie as tie
+use Rattle.format.proofs.read_pair.Reads as reads
+use Rattle.format.proofs.read_pair.Lts as lts
+use Rattle.format.proofs.word_at.Reads as word-at-reads
 
 -- src/lib.rt:397:12
 shared-slice-read-t3 : tie.Need-shared-slice-read-t3

@@ -7,7 +7,7 @@ use Rattle.model.specs.declared.Rule.{Rule}
 use Rattle.model.specs.declared.Check.{Check}
 use Rattle.model.specs.declared.Check.the-variants.{Range, Pair, Pointer}
 use Rattle.model.specs.Test.{Test, File}
-use Rattle.reader.specs.Bytes.{bytes4, writeBytes, ruleBytes}
+use Rattle.format.specs.Bytes.{bytes4, writeBytes, ruleBytes}
 
 -- *field*: one-byte tag, two-byte length, body
 unfoldable pub fieldBytes : ℕ → List ℕ → List ℕ

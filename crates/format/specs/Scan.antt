@@ -9,13 +9,13 @@ use Rattle.model.specs.declared.Write.{Write}
 use Rattle.model.specs.declared.Rule.{Rule}
 use Rattle.model.specs.declared.Check.{Check}
 use Rattle.model.specs.Test.{Test, test}
-use Rattle.reader.specs.declared.Counts.{Counts}
-use Rattle.reader.specs.declared.Extent.{Extent}
-use Rattle.reader.specs.declared.ScanState.{ScanState}
-use Rattle.reader.specs.declared.Scan.{Scan}
-use Rattle.reader.specs.declared.Scan.the-variants.{Accepted, Refused}
-use Rattle.reader.specs.Bytes.{byte}
-use Rattle.reader.specs.File.{bodyLength, isCheck, faultOf, fieldEnd, bodyAt, ruleOf, writeOf, checkOf}
+use Rattle.format.specs.declared.Counts.{Counts}
+use Rattle.format.specs.declared.Extent.{Extent}
+use Rattle.format.specs.declared.ScanState.{ScanState}
+use Rattle.format.specs.declared.Scan.{Scan}
+use Rattle.format.specs.declared.Scan.the-variants.{Accepted, Refused}
+use Rattle.format.specs.Bytes.{byte}
+use Rattle.format.specs.File.{bodyLength, isCheck, faultOf, fieldEnd, bodyAt, ruleOf, writeOf, checkOf}
 
 -- ---- fields by their places
 

@@ -1,11 +1,11 @@
 use native.Mathlib.Omega.{arith}
-use Rattle.reader.specs.Bytes.{half}
+use Rattle.format.specs.Bytes.{half}
 use borrow.Author.Needs.{needs}
-use Rattle.reader.proofs.half_at.Statement.{statement}
-use Rattle.reader.proofs.half_at.Tie as tie
-use Rattle.reader.proofs.half_at.Reads as reads
-use Rattle.reader.proofs.half_at.Lts as lts
-use Rattle.reader.proofs.wide.Reads as wide-reads
+use Rattle.format.proofs.half_at.Statement.{statement}
+use Rattle.format.proofs.half_at.Tie as tie
+use Rattle.format.proofs.half_at.Reads as reads
+use Rattle.format.proofs.half_at.Lts as lts
+use Rattle.format.proofs.wide.Reads as wide-reads
 
 -- src/lib.rt:31:10
 shared-slice-read-wide : tie.Need-shared-slice-read-wide

@@ -1,10 +1,10 @@
 use mathlib.Core.Path.{refl}
-use Rattle.reader.specs.File.{ruleOf}
+use Rattle.format.specs.File.{ruleOf}
 use borrow.Author.Needs.{needs}
-use Rattle.reader.proofs.read_rule.Statement.{statement}
-use Rattle.reader.proofs.read_rule.Tie as tie
-use Rattle.reader.proofs.read_rule.Reads as reads
-use Rattle.reader.proofs.read_rule.Lts as lts
+use Rattle.format.proofs.read_rule.Statement.{statement}
+use Rattle.format.proofs.read_rule.Tie as tie
+use Rattle.format.proofs.read_rule.Reads as reads
+use Rattle.format.proofs.read_rule.Lts as lts
 
 -- src/lib.rt:374:16
 shared-slice-read-t3 : tie.Need-shared-slice-read-t3

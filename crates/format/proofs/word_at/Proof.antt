@@ -1,10 +1,10 @@
-use Rattle.reader.proofs.FieldLaws.{fields}
+use Rattle.format.proofs.FieldLaws.{fields}
 use borrow.Author.Needs.{needs}
-use Rattle.reader.proofs.word_at.Statement.{statement}
-use Rattle.reader.proofs.word_at.Tie as tie
-use Rattle.reader.proofs.word_at.Reads as reads
-use Rattle.reader.proofs.word_at.Lts as lts
-use Rattle.reader.proofs.half_at.Reads as half-at-reads
+use Rattle.format.proofs.word_at.Statement.{statement}
+use Rattle.format.proofs.word_at.Tie as tie
+use Rattle.format.proofs.word_at.Reads as reads
+use Rattle.format.proofs.word_at.Lts as lts
+use Rattle.format.proofs.half_at.Reads as half-at-reads
 
 -- src/lib.rt:365:6
 half-at-requires : tie.Need-half-at-requires

@@ -10,8 +10,8 @@ use Rattle.model.specs.declared.Check.{Check}
 use Rattle.model.specs.declared.Check.the-variants.{Range, Pair, Pointer}
 use Rattle.model.specs.Answer.{Outcome, answer, refused}
 use Rattle.model.specs.Test.{Test, test, File, file}
-use Rattle.reader.specs.declared.Counts.{Counts}
-use Rattle.reader.specs.Bytes.{byte, half, word}
+use Rattle.format.specs.declared.Counts.{Counts}
+use Rattle.format.specs.Bytes.{byte, half, word}
 
 -- ---- fields. Tags: 1 initial write, 2 main write, 3 rule, 4 range, 5 pair, 6 pointer, 7 end of test
 

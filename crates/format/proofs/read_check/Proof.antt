@@ -1,9 +1,9 @@
-use Rattle.reader.proofs.FieldLaws.{fields}
-use Rattle.reader.proofs.read_check.Statement.{statement}
-use Rattle.reader.proofs.read_check.Tie as tie
-use Rattle.reader.proofs.read_check.Reads as reads
-use Rattle.reader.proofs.read_check.Lts as lts
-use Rattle.reader.proofs.read_pair.Reads as read-pair-reads
+use Rattle.format.proofs.FieldLaws.{fields}
+use Rattle.format.proofs.read_check.Statement.{statement}
+use Rattle.format.proofs.read_check.Tie as tie
+use Rattle.format.proofs.read_check.Reads as reads
+use Rattle.format.proofs.read_check.Lts as lts
+use Rattle.format.proofs.read_pair.Reads as read-pair-reads
 
 -- src/lib.rt:409:29
 shared-slice-read-t5 : tie.Need-shared-slice-read-t5

@@ -1,0 +1,5 @@
+pub mod Bytes
+pub mod File
+pub mod Scan
+pub mod Held
+pub mod Encode
