@@ -140,6 +140,10 @@ c_tests() {
 case "${1:-}" in
 '')
     install_missing
+    # First, since it takes no time.
+    part 'tests of documents and edits' rust test -p documents
+    # shellcheck disable=SC2046
+    add $(cargo_test_counts)
     part 'rt ci' rt ci
     # shellcheck disable=SC2046
     add $(last_line_counts '')
