@@ -1,20 +1,22 @@
 -- The theorem over the bench sheet: each line computes, and what speaks of every schedule or of labels follows from what is computed.
-use mathlib.Core.Path.{_≡_, refl, _∙_}
-use mathlib.Core.Bool.{Bool, true, not, _||_}
-use mathlib.Core.List.{List, [], _∷_}
+use mathlib.Core.Path.{_≡_, refl, sym, ap, _∙_}
+use mathlib.Core.Bool.{Bool, true, cond, not, _||_}
+use mathlib.Core.List.{List, [], _∷_, _++_, append-nil}
 use Prim.{tt}
-use Prim.Native.Nat.{ℕ}
+use Prim.Native.Nat.{ℕ, _≤_}
+use native.Mathlib.Omega.{arith}
 use lib.Count.{ones, onesIn}
-use lib.Dec.{eqb, lit<}
-use lib.ListN.{length}
-use borrow.Author.Tests.{eqb-true, le-ltb}
+use lib.Dec.{eqb, ltb, lit<}
+use lib.ListN.{length, drop}
+use lib.Seq.{drop-length}
+use borrow.Author.Tests.{eqb-true, lt-ltb, le-ltb}
 use Rattle.relation.specs.Bits.{bit, withBit, maskOf}
 use Rattle.relation.specs.Lists.{any, all, anyBelow, allBelow, tabulate}
 use Rattle.relation.specs.Finite.{related, rowsOf, joined, round, closed, loops, hasRing}
 use Rattle.relation.proofs.ListLaws.{allBelow-true}
 use Rattle.relation.proofs.MaskLaws.{implies}
 use Rattle.model.specs.declared.Rule.{Rule}
-use Rattle.model.specs.Answer.{Outcome, answer}
+use Rattle.model.specs.Answer.{Outcome, answer, refused}
 use Rattle.model.specs.Disk.{block, firstOf, secondOf, empty, emptyDisk}
 use Rattle.model.specs.Rules.{stands, matches, dependsOn, known}
 use Rattle.model.specs.Cyclic.{noRule, leads, has, equalLeads, meets, cyclic}
@@ -28,13 +30,15 @@ use Rattle.format.specs.Encode.{fieldBytes, ruleFields, writeFields, checkField
 use Rattle.format.specs.File.{isTag, isCheck, bodyLength, ruleOf, writeOf, checkOf, countsOf, outOfOrder, overTest, overLimit, ruleFault, bodyFault, faultOf, grown, finished, readFrom, nothing, readOf}
 use Rattle.rules.proofs.Examples.{K5-not-cyclic, K6-cyclic}
 use Rattle.judging.specs.Judge.{Case, caseOf, caseIn}
-use Rattle.log.specs.Puts.{start, after, putWrites, writesOf, afterAll, logTest}
+use Rattle.log.specs.Puts.{start, after, putWrites, writesOf, afterAll, logTest, putsOf, emptyPut, Traced, traced, traceOf}
+use Rattle.printing.specs.Decimal.{decimalWith, decimal}
+use Rattle.printing.specs.Lines.{refusedLine, testLine, lines, textOf, programText}
 use Rattle.finding.specs.Finder.{Found, over, wrote, findAmong, findIn, findOf}
 use Rattle.cache.specs.Needs.{needs, needsRing, met, readyFrom, ready}
 use Rattle.cache.specs.State.{ruleIn, writeIn, rulesIn, writesIn, storedIn, rulesBytes, opened, entryBytes, handed, marked, storedOn}
 use Rattle.cache.specs.Calls.{openWith, openOf, late, storing, stepped}
 use Rattle.bench.proofs.CallLaws.{all-called}
-use Rattle.bench.specs.Sheet.{K, together, Finding, RangeAt, Call, Gave, gave, blank, Calling, Sheet}
+use Rattle.bench.specs.Sheet.{put, K, together, Finding, RangeAt, Call, Gave, gave, blank, Calling, Sheet, K-initial, K-main, Unstarred}
 
 -- ---- what the lines are computed by: to unfold one of these is to unfold all that it unfolds
 
@@ -72,6 +76,16 @@ searched tests buffer = findAmong tests buffer
 called : List Call → Gave
 unfolding judged ringed fileRead all-called openOf openWith opened rulesBytes stepped storing late known countBelow met needs needsRing readyFrom ready rulesIn writesIn storedIn ruleIn writeIn handed marked storedOn entryBytes
 called cs = all-called cs blank blank .0
+
+-- traces of puts
+made : List ℕ → List ℕ → List ℕ → Traced
+unfolding counted fileRead traceOf putsOf emptyPut tabulate
+made initial main buffer = traceOf initial main buffer
+
+-- what the program prints
+printed : List ℕ → List ℕ
+unfolding counted ringed fileRead programText textOf lines testLine refusedLine decimal decimalWith
+printed s = programText s
 
 -- ---- from what is computed to what the lines say
 
@@ -114,4 +128,35 @@ sheet =
       K10 = calling _ _ _ (unfold called in refl);
       K11 = calling _ _ _ (unfold called in refl);
       K12 = (range _ _ _ (λ disk. unfold judged in refl), range _ _ _ (λ disk. unfold judged in refl), range _ _ _ (λ disk. unfold judged in refl));
+    }
+
+-- ---- the lines without a star
+
+-- a trace of one put and of K, by the room that there is
+abbrev Roomed : List ℕ → List ℕ → Test → ℕ → Type 0
+Roomed initial main t size = (buffer : List ℕ) → traceOf initial main buffer
+    ≡ cond (ltb (length buffer) size) (traced (refused 12 0) buffer) (traced (answer size) (testBytes t ++ drop size buffer))
+
+one-traced : Roomed [] K-initial (logTest [] (put 0 42 ∷ [])) 33
+unfolding made
+one-traced buffer = refl
+
+K-traced : Roomed K-initial K-main K 85
+unfolding made
+K-traced buffer = refl
+
+pub unstarred : Unstarred
+unstarred =
+    record {
+      put-empty = λ buffer. unfold made in refl;
+      put-accepted = λ buffer l. rw (one-traced buffer, le-ltb (length buffer) 33 l);
+      room = λ buffer e.
+          K-traced buffer
+          ∙ rw (le-ltb (length buffer) 85 (omega arith))
+          (ap (λ (l : List ℕ). traced (answer 85) (testBytes K ++ l)) (ap (λ (n : ℕ). drop n buffer) (sym e) ∙ drop-length buffer)
+          ∙ ap (traced (answer 85)) (append-nil (testBytes K)));
+      no-room = λ buffer e. K-traced buffer ∙ rw (lt-ltb (length buffer) 85 (omega arith));
+      K3-prints = unfold printed in refl;
+      one-byte-prints = unfold printed in refl;
+      empty-prints = unfold printed in refl;
     }

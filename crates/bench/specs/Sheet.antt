@@ -1,9 +1,10 @@
 -- The bench sheet of document 01: its starred lines as one table about the definitions that the contracts cite.
--- `Sheet` is the table, one field a line; `proofs/Proved.antt: sheet` is the theorem over it.
+-- `Sheet` is the table, one field a line; `proofs/Proved.antt: sheet` is the theorem over it. `Unstarred` has the lines that need no proof, and
+-- what the judging program prints; `proofs/Proved.antt: unstarred` proves them all the same.
 use Prim.Native.Nat.{ℕ, _≤_}
 use mathlib.Core.Path.{_≡_}
 use mathlib.Core.Bool.{Bool, true, false}
-use mathlib.Core.List.{List, [], _∷_}
+use mathlib.Core.List.{List, [], _∷_, _++_}
 use lib.ListN.{length, drop, replicate}
 use Rattle.model.specs.declared.Rule.{Rule}
 use Rattle.model.specs.declared.Write.{Write}
@@ -14,9 +15,10 @@ use Rattle.model.specs.Cyclic.{Cyclic, cyclic}
 use Rattle.model.specs.Check.{holds}
 use Rattle.model.specs.Test.{Test, test, file, TestHolds, Bad, validCount, badCount}
 use Rattle.rules.specs.Examples.{rule}
-use Rattle.format.specs.Encode.{ruleFields, fileBytes}
+use Rattle.format.specs.Encode.{ruleFields, testBytes, fileBytes}
 use Rattle.judging.specs.Judge.{caseIn}
-use Rattle.log.specs.Puts.{Put, logTest}
+use Rattle.log.specs.Puts.{Put, logTest, traced, traceOf}
+use Rattle.printing.specs.Lines.{refusedText, failsText, programText}
 use Rattle.finding.specs.Finder.{Found, found, findOf}
 use Rattle.cache.specs.State.{storedOn}
 use Rattle.cache.specs.Calls.{Left, openOf, handInOf, stepOf, given}
@@ -158,3 +160,28 @@ pub record Sheet : Type 0 where
       (storedOn blank (named1 6 2))
   -- range block (5,5) holds, (1,257) fails, (300,200) holds
   pub K12 : RangeAt 5 5 true × RangeAt 1 257 false × RangeAt 300 200 true
+
+-- ---- the lines without a star, and the program's
+
+-- K's puts as bytes: key 2, value 2
+abbrev pub K-initial : List ℕ
+K-initial = 0 ∷ 0 ∷ 0 ∷ 42 ∷ []
+
+abbrev pub K-main : List ℕ
+K-main = 0 ∷ 1 ∷ 0 ∷ 81 ∷ 0 ∷ 2 ∷ 0 ∷ 37 ∷ []
+
+pub record Unstarred : Type 0 where
+  -- put (0,0) is 20
+  pub put-empty : (buffer : List ℕ) → traceOf [] (0 ∷ 0 ∷ 0 ∷ 0 ∷ []) buffer ≡ traced (refused 20 0) buffer
+  -- (0,42) accepted: a test of 33 bytes
+  pub put-accepted : (buffer : List ℕ) → 33 ≤ length buffer → traceOf [] K-initial buffer .outcome ≡ answer 33
+  -- 85 bytes hold K
+  pub room : (buffer : List ℕ) → length buffer ≡ 85 → traceOf K-initial K-main buffer ≡ traced (answer 85) (testBytes K)
+  -- 84 give 12
+  pub no-room : (buffer : List ℕ) → length buffer ≡ 84 → traceOf K-initial K-main buffer ≡ traced (refused 12 0) buffer
+  -- K3 prints exactly `1 9 1 fails`
+  pub K3-prints : programText (fileBytes (file K3-rules (K ∷ []))) ≡ 49 ∷ 32 ∷ 57 ∷ 32 ∷ 49 ∷ 32 ∷ (failsText ++ (10 ∷ []))
+  -- a file of the one byte 01 prints `refused 1 0`
+  pub one-byte-prints : programText (1 ∷ []) ≡ refusedText ++ (32 ∷ 49 ∷ 32 ∷ 48 ∷ 10 ∷ [])
+  -- the empty file prints nothing
+  pub empty-prints : programText [] ≡ []
