@@ -26,11 +26,11 @@ use Rattle.reader.proofs.CallerLaws.{refused-read, refused-most, accepted-read,
 use Rattle.rules.specs.declared.Rules.{Rules}
 use Rattle.rules.specs.Held.{rulesOf}
 use Rattle.rules.proofs.Steps.{itemAt}
-use Rattle.candidates.specs.Kept.{testsOf, testsIn, Keeps}
-use Rattle.candidates.proofs.KeepLaws.{keeps-short, keeps-same, keeps-long}
+use Rattle.rulesets.specs.Kept.{testsOf, testsIn, Keeps}
+use Rattle.rulesets.proofs.KeepLaws.{keeps-short, keeps-same, keeps-long}
 use Rattle.findlaws.proofs.ChosenLaws.{some-chosen}
-use Rattle.finding.specs.Table.{choiceCode, ruleBlock}
-use Rattle.finding.specs.Finder.{found, over, wrote, findAmong, findIn, findOf, out, foundCoded}
+use Rattle.choosing.specs.Choice.{choiceCode}
+use Rattle.finding.specs.Finder.{ruleBlock, found, over, wrote, findAmong, findIn, findOf, out, foundCoded}
 
 -- ---- put_rule
 

@@ -1,7 +1,7 @@
 -- Finding rules for a file's tests.
 use Prim.Native.Nat.{ℕ}
 use mathlib.Core.Bool.{cond}
-use mathlib.Core.List.{List, _++_}
+use mathlib.Core.List.{List, [], _∷_, _++_}
 use mathlib.Core.Option.{Option, none, some}
 use lib.Dec.{ltb}
 use lib.ListN.{length, drop}
@@ -59,3 +59,7 @@ out n b = record { number = n; buffer = b }
 
 unfoldable pub foundCoded : Found → Coded
 foundCoded f = out (coded (f .outcome)) (f .buffer)
+
+-- a rule's field
+unfoldable pub ruleBlock : Rule → List ℕ
+ruleBlock r = 3 ∷ 0 ∷ 3 ∷ r .first ∷ r .predicate ∷ r .second ∷ []

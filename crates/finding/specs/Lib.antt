@@ -1,3 +1,2 @@
 pub mod Finder
-pub mod Table
 pub mod Theorem

@@ -1,243 +1,17 @@
 // Finding the smallest sufficient rule set. What is right is in specs/.
-use format::Extent;
 use format::Scan;
-use model::Check;
 use model::Rule;
 use rules::Rules;
 ghost use mathlib.Core.Path.{_≡_};
-ghost use mathlib.Core.Bool.{cond};
-ghost use Prim.Native.Nat.{_+_, _*_, _^_, _<_, _≤_};
-ghost use lib.ListN.{length, take, set};
+ghost use Prim.Native.Nat.{_+_, _≤_};
+ghost use lib.ListN.{length};
 ghost use lib.Seq.{sets};
-ghost use Rattle.relation.specs.Lists.{anyBelow};
-ghost use Rattle.model.specs.Find.{chosenBelow, chosen};
+ghost use Rattle.model.specs.Find.{chosen};
 ghost use Rattle.format.specs.Encode.{ruleFields};
-ghost use Rattle.format.specs.Scan.{writesAt, testAt};
-ghost use Rattle.format.specs.Held.{Inside};
 ghost use Rattle.rules.specs.Held.{rulesOf};
-ghost use Rattle.disks.specs.Packed.{heldFrom};
-ghost use Rattle.judging.specs.Rows.{validBy};
-ghost use Rattle.findlaws.specs.Hit.{marks, marked};
-ghost use Rattle.candidates.specs.Kept.{testsIn};
-ghost use Rattle.finding.specs.Table.{withValid, validUnder, Grown, Sets, Bounded, spoilt, Adds, Blank, Shows, either, Lowered, Spreads, passing, spare, better, choiceCode, ruleBlock};
-ghost use Rattle.finding.specs.Finder.{over, out, foundCoded, findAmong, findOf};
-
-// mask, with bit c set where schedule s is valid by the unions.
-fn with_valid(mask: u64, c: usize, low: &[u64; 64], high: &[u64; 64], s: u64) -> u64
-    requires { ⌜ c < 64 ⌝ }
-    ensures { λ r. ⌜ r ≡ withValid (validBy (now (low .entry)) (now (high .entry))) c s mask ⌝ }
-{
-    if judging::is_valid(low, high, s) {
-        return relation::with_bit(mask, c);
-    }
-    mask
-}
-
-// Bit c of each schedule's set, by the unions of candidate c.
-fn allow(allowed: &mut [u64], c: usize, low: &[u64; 64], high: &[u64; 64], n: usize)
-    requires { ⌜ (length (now allowed) ≡ 4096) × ((c < 64) × (n ≤ 12)) ⌝ }
-    ensures { λ _. ⌜ Grown (withValid (validBy (now (low .entry)) (now (high .entry))) c) (now (allowed .entry)) (now (allowed .exit)) (2 ^ n) ⌝ }
-{
-    let total = 1usize << n;
-    let mut s: usize = 0;
-    while s < total {
-        allowed[s] = with_valid(allowed[s], c, low, high, s as u64);
-        s += 1;
-    }
-}
-
-// Bit c of each schedule's set: whether it is valid under the rule alone.
-fn allow_rule(allowed: &mut [u64], c: usize, rule: Rule, file: &[u8], at: usize, n: usize)
-    requires { ⌜ (length (now allowed) ≡ 4096) × ((c < 64) × ((n ≤ 12) × (at + 13 * n ≤ length (now file)))) ⌝ }
-    ensures { λ _. ⌜ Grown (withValid (validUnder rule (writesAt (now (file .entry)) at n)) c) (now (allowed .entry)) (now (allowed .exit)) (2 ^ n) ⌝ }
-{
-    let mut low = [0u64; 64];
-    let mut high = [0u64; 64];
-    judging::prepare(&mut low, &mut high, candidates::one(rule), file, at, n);
-    allow(allowed, c, &low, &high, n);
-}
-
-// For each schedule of the n writes from `at` on the set of the candidates that leave it valid.
-fn allowed_sets(cands: Rules, file: &[u8], at: usize, n: usize) -> [u64; 4096]
-    requires { ⌜ (cands .count ≤ 16) × ((n ≤ 12) × (at + 13 * n ≤ length (now file))) ⌝ }
-    ensures { λ r. ⌜ Sets (rulesOf cands) (writesAt (now (file .entry)) at n) (2 ^ n) (cands .count) r ⌝ }
-{
-    let mut allowed = [0u64; 4096];
-    let mut c: usize = 0;
-    while c < cands.count {
-        allow_rule(&mut allowed, c, cands.items[c], file, at, n);
-        c += 1;
-    }
-    allowed
-}
-
-// Marks the set x of a schedule, unless that leaves a consistent disk.
-fn mark_one(table: &mut [u8], x: usize, consistent: bool)
-    requires { ⌜ x < length (now table) ⌝ }
-    ensures { λ _. ⌜ now (table .exit) ≡ cond consistent (now (table .entry)) (set (now (table .entry)) x 1) ⌝ }
-{
-    if consistent {
-        return;
-    }
-    table[x] = 1;
-}
-
-// Marks the sets of all inconsistent schedules of the first n writes held.
-fn mark(
-    table: &mut [u8],
-    allowed: [u64; 4096],
-    base: [u32; 256],
-    writes: &[u64; 64],
-    n: usize,
-    checks: [Check; 16],
-    m: usize,
-)
-    requires { ⌜ (length (now table) ≡ 65536) × ((Bounded allowed n) × ((n ≤ 12) × (m ≤ 16))) ⌝ }
-    ensures { λ _. ⌜ Adds (spoilt (take m checks) (heldFrom (now (writes .entry)) 0 n) base allowed (2 ^ n)) (now (table .entry)) (now (table .exit)) ⌝ }
-{
-    let total = 1usize << n;
-    let mut disk = base;
-    let mut s: usize = 0;
-    while s < total {
-        disks::apply(&mut disk, writes, 0, n, s as u64);
-        let consistent = disks::is_consistent(&disk, checks, m);
-        disks::restore(&mut disk, &base, writes, 0, n);
-        let x = allowed[s] as usize;
-        mark_one(table, x, consistent);
-        s += 1;
-    }
-}
-
-// Marks the sets of all inconsistent schedules of a test.
-fn mark_test(table: &mut [u8], cands: Rules, file: &[u8], e: Extent)
-    requires { ⌜ (length (now table) ≡ 65536) × ((cands .count ≤ 16) × Inside (now file) e) ⌝ }
-    ensures { λ _. ⌜ Adds (marks (rulesOf cands) (testAt (now (file .entry)) e)) (now (table .entry)) (now (table .exit)) ⌝ }
-{
-    let at = e.at;
-    let k = e.initial;
-    let n = e.main;
-    let m = e.checks;
-    let main_at = at + 13 * k;
-    let checks_at = main_at + 13 * n;
-    let base = judging::initial_disk(file, at, k);
-    let checks = loading::file_checks(file, checks_at, m);
-    let mut writes = [0u64; 64];
-    disks::load(&mut writes, file, main_at, n);
-    let allowed = allowed_sets(cands, file, main_at, n);
-    mark(table, allowed, base, &writes, n, checks, m);
-}
-
-// Marks the sets of all inconsistent schedules of all tests.
-fn mark_all(table: &mut [u8], cands: Rules, file: &[u8], tests: usize)
-    requires { ⌜ (length (now table) ≡ 65536) × ((cands .count ≤ 16) × ((length (testsIn (now file)) ≡ tests) × Blank (now table))) ⌝ }
-    ensures { λ _. ⌜ Shows (marked (rulesOf cands) (testsIn (now (file .entry)))) (now (table .exit)) 65536 ⌝ }
-{
-    let mut t: usize = tests;
-    while 0 < t {
-        t -= 1;
-        let e = candidates::extent_of(file, t);
-        mark_test(table, cands, file, e);
-    }
-}
-
-// A mark, if either is one.
-fn either(y: u8, z: u8) -> u8
-    ensures { λ r. ⌜ r ≡ either y z ⌝ }
-{
-    if y == 1 {
-        return 1;
-    }
-    z
-}
-
-// Hands the marks down from the sets with candidate b to those without.
-fn lower(table: &mut [u8], b: usize, n: usize)
-    requires { ⌜ (length (now table) ≡ 65536) × ((b < n) × (n ≤ 16)) ⌝ }
-    ensures { λ _. ⌜ Lowered b (now (table .entry)) (now (table .exit)) (2 ^ n) ⌝ }
-{
-    let total = 1usize << n;
-    let mut x: usize = 0;
-    while x < total {
-        let w = relation::with_bit(x as u64, b) as usize;
-        table[x] = either(table[x], table[w]);
-        x += 1;
-    }
-}
-
-// Hands the marks down to all parts of the marked sets of n candidates.
-fn lower_all(table: &mut [u8], n: usize)
-    requires { ⌜ (length (now table) ≡ 65536) × (n ≤ 16) ⌝ }
-    ensures { λ _. ⌜ Spreads n n (now (table .entry)) (now (table .exit)) ⌝ }
-{
-    let mut b: usize = 0;
-    while b < n {
-        lower(table, b, n);
-        b += 1;
-    }
-}
-
-// Whether the set m has candidate i and is sufficient without it.
-fn is_spare(table: &[u8; 65536], m: u64, i: usize) -> bool
-    requires { ⌜ (m < 65536) × (i < 16) ⌝ }
-    ensures { λ r. ⌜ r ≡ spare (now (table .entry)) m i ⌝ }
-{
-    if !relation::has_bit(m, i) {
-        return false;
-    }
-    let less = m - (1u64 << i);
-    table[less as usize] != 1
-}
-
-// Whether the set m is sufficient without one of its candidates below n.
-fn has_spare(table: &[u8; 65536], m: u64, n: usize) -> bool
-    requires { ⌜ (m < 65536) × (n ≤ 16) ⌝ }
-    ensures { λ r. ⌜ r ≡ anyBelow (spare (now (table .entry)) m) n ⌝ }
-{
-    let mut i: usize = 0;
-    while i < n {
-        if is_spare(table, m, i) {
-            return true;
-        }
-        i += 1;
-    }
-    false
-}
-
-// The set m in place of the best so far, if it is sufficient and has no more rules. A sufficient set
-// with a spare candidate is cyclic or larger than the best so far.
-fn better_of(table: &[u8; 65536], cands: Rules, m: u64, best: u64) -> u64
-    requires { ⌜ (cands .count ≤ 16) × ((m < 65536) × (best ≡ choiceCode (chosenBelow (passing (now table) (rulesOf cands)) m))) ⌝ }
-    ensures { λ r. ⌜ r ≡ better (passing (now (table .entry)) (rulesOf cands)) m best ⌝ }
-{
-    if u64::count_ones(best) < u64::count_ones(m) {
-        return best;
-    }
-    if table[m as usize] == 1 {
-        return best;
-    }
-    if has_spare(table, m, cands.count) {
-        return best;
-    }
-    if rules::is_cyclic(candidates::pick(cands, m)) {
-        return best;
-    }
-    m
-}
-
-// The set with the fewest rules, of these the one with the largest number; all bits set if none is sufficient.
-fn choose(table: &[u8; 65536], cands: Rules) -> u64
-    requires { ⌜ cands .count ≤ 16 ⌝ }
-    ensures { λ r. ⌜ r ≡ choiceCode (chosenBelow (passing (now (table .entry)) (rulesOf cands)) (2 ^ cands .count)) ⌝ }
-{
-    let total = 1u64 << cands.count;
-    let mut best: u64 = 18446744073709551615;
-    let mut m: u64 = 0;
-    while m < total {
-        best = better_of(table, cands, m, best);
-        m += 1;
-    }
-    best
-}
+ghost use Rattle.rulesets.specs.Kept.{testsIn};
+ghost use Rattle.choosing.specs.Choice.{choiceCode};
+ghost use Rattle.finding.specs.Finder.{ruleBlock, over, out, foundCoded, findAmong, findOf};
 
 // The choice among the candidates of a file.
 fn choice(cands: Rules, file: &[u8], tests: usize) -> u64
@@ -245,9 +19,9 @@ fn choice(cands: Rules, file: &[u8], tests: usize) -> u64
     ensures { λ r. ⌜ r ≡ choiceCode (chosen (testsIn (now (file .entry))) (rulesOf cands)) ⌝ }
 {
     let mut table = [0u8; 65536];
-    mark_all(&mut table, cands, file, tests);
-    lower_all(&mut table, cands.count);
-    choose(&table, cands)
+    marking::mark_all(&mut table, cands, file, tests);
+    marking::lower_all(&mut table, cands.count);
+    choosing::choose(&table, cands)
 }
 
 // A rule's field at a place.
@@ -288,7 +62,7 @@ fn find_among(file: &[u8], tests: usize, buffer: &mut [u8]) -> u64
     if best == 18446744073709551615 {
         return model::refuse(13, 0);
     }
-    let set = candidates::pick(cands, best);
+    let set = rulesets::pick(cands, best);
     put_rules(buffer, set);
     set.count as u64
 }

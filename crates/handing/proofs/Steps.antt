@@ -28,11 +28,12 @@ use Rattle.cache.specs.State.{ruleCount, acceptedCount, rulesIn, writesIn, writ
 use Rattle.cache.specs.Sound.{sound}
 use Rattle.cache.specs.Calls.{left, late, handInOf, given}
 use Rattle.soundness.specs.Parts.{Tabled, TabledIf}
-use Rattle.needs.proofs.Steps.{writes-length, write-at}
-use Rattle.soundness.proofs.PartSteps.{flag-read}
+use Rattle.masks.proofs.MaskSteps.{writes-length, write-at}
+use Rattle.layout.proofs.LayoutSteps.{flag-read}
 use Rattle.soundness.proofs.SoundSteps.{table-agrees}
 use Rattle.storing.specs.Given.{kept, codedKept, lateAt, handFaultBy, handFault}
-use Rattle.storing.proofs.Steps.{few-rules, few-writes, inside}
+use Rattle.stores.proofs.StoreSteps.{inside}
+use Rattle.storing.proofs.Steps.{few-rules, few-writes}
 
 -- ---- given
 

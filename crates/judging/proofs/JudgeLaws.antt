@@ -34,16 +34,17 @@ use Rattle.disks.specs.Packed.{Loads, heldFrom}
 use Rattle.disks.proofs.Steps.{loaded-run}
 use Rattle.judging.specs.declared.Gate.the-variants.{Open, Shut}
 use Rattle.judging.specs.declared.Gate.{Gate}
-use Rattle.judging.specs.declared.Judgement.{Judgement}
-use Rattle.judging.specs.declared.Verdict.{Verdict}
-use Rattle.judging.specs.declared.Verdict.the-variants.{Holds, Fails}
+use Rattle.counting.specs.declared.Judgement.{Judgement}
+use Rattle.counting.specs.declared.Verdict.{Verdict}
+use Rattle.counting.specs.declared.Verdict.the-variants.{Holds, Fails}
 use Rattle.judging.specs.declared.Judged.the-variants.{Counts}
 use Rattle.judging.specs.declared.Judged.the-variants as Judged
 use Rattle.judging.specs.declared.Decided.the-variants.{As}
 use Rattle.judging.specs.declared.Decided.the-variants as Decided
-use Rattle.judging.specs.Rows.{validBy, badBy, Validates}
-use Rattle.judging.specs.Judge.{Case, caseOf, caseIn, caseAt, Judges, Decides, Gates, Judging, Deciding, Few, FewDecided, Finds, Tallies}
-use Rattle.judging.proofs.RowLaws.{writes-length}
+use Rattle.schedules.specs.Rows.{validBy, badBy, Validates}
+use Rattle.judging.specs.Judge.{Case, caseOf, caseIn, caseAt, Judges, Decides, Gates, Judging, Deciding, Few, FewDecided}
+use Rattle.counting.specs.Tally.{Finds, Tallies}
+use Rattle.schedules.proofs.RowLaws.{writes-length}
 
 module _ (rules : List Rule) (s : List ℕ) (e : Extent) (low high table base : List ℕ) (cs : List Check)
     (ev : Validates rules (writesAt s (mainPlace e) (e .main)) (e .main) low high)

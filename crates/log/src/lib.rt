@@ -22,7 +22,7 @@ fn has_key(disk: &[u8], key: u16, a: usize) -> bool
     if b == 0 {
         return false;
     }
-    disks::first_of(b) == key as usize
+    checks::first_of(b) == key as usize
 }
 
 // The value of a key among the blocks from head to tail - 1, from the highest down; 65,536 for none.
@@ -34,7 +34,7 @@ fn find_key(disk: &[u8], key: u16, head: usize, tail: usize) -> u64
     while head < a {
         a -= 1;
         if has_key(disk, key, a) {
-            return disks::second_of(block_at(disk, a)) as u64;
+            return checks::second_of(block_at(disk, a)) as u64;
         }
     }
     65536
@@ -49,8 +49,8 @@ pub fn get(disk: &[u8], key: u16) -> u64
         return model::refuse(14, 0);
     }
     let b = block_at(disk, 0);
-    let head = disks::first_of(b);
-    let tail = disks::second_of(b);
+    let head = checks::first_of(b);
+    let tail = checks::second_of(b);
     if tail <= head {
         return 65536;
     }

@@ -26,7 +26,7 @@ use Rattle.rules.proofs.Steps.{length-mapped, itemAt}
 use Rattle.cache.specs.State.{rulesBytes, opened}
 use Rattle.cache.specs.Calls.{left, openWith, openOf}
 use Rattle.storing.specs.Given.{kept, codedKept, openedBy}
-use Rattle.storing.proofs.Steps.{inside}
+use Rattle.stores.proofs.StoreSteps.{inside}
 use Rattle.handing.proofs.Steps.{sets-append}
 
 -- ---- clear

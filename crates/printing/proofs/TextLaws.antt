@@ -21,7 +21,7 @@ use Rattle.format.specs.Held.{Tells, testOf}
 use Rattle.reader.proofs.CallerLaws.{refused-read, refused-most, accepted-file, accepted-read, accepted-tests, accepted-most, accepted-at, accepted-long}
 use Rattle.rules.specs.declared.Rules.{Rules}
 use Rattle.rules.specs.Held.{rulesOf}
-use Rattle.judging.specs.declared.Judgement.{Judgement}
+use Rattle.counting.specs.declared.Judgement.{Judgement}
 use Rattle.judging.specs.declared.Judged.{Judged}
 use Rattle.judging.specs.declared.Judged.the-variants.{Counts}
 use Rattle.judging.specs.declared.Judged.the-variants as Judged

@@ -1,4 +1,3 @@
-pub mod FaultLaws
 pub mod LimitLaws
 pub mod ReadLaws
 pub mod TellsLaws

@@ -17,7 +17,7 @@ pub extern "C" fn pelzhondy_step(state: &mut [u8], disk: &mut [u8]) -> u64
     if number != 0 {
         return model::refuse(number, 0);
     }
-    let mask = soundness::stored_mask(state);
+    let mask = layout::stored_mask(state);
     storing::step_sound(state, disk, &rows, mask)
 }
 
@@ -31,7 +31,7 @@ pub extern "C" fn pelzhondy_drain(state: &mut [u8], disk: &mut [u8]) -> u64
     if number != 0 {
         return model::refuse(number, 0);
     }
-    let mask = soundness::stored_mask(state);
+    let mask = layout::stored_mask(state);
     storing::drain_sound(state, disk, &rows, mask)
 }
 

@@ -1,18 +1,16 @@
 -- What the parts of the code compute.
-use Prim.Native.Nat.{ℕ, zero, _+_}
+use Prim.Native.Nat.{ℕ}
 use mathlib.Core.Path.{_≡_}
 use mathlib.Core.Bool.{Bool, true, not, _&&_, _||_}
 use mathlib.Core.List.{List}
-use lib.Dec.{eqb, leb}
 use lib.ListN.{getD, take}
 use Rattle.relation.specs.Bits.{bit}
 use Rattle.relation.specs.Lists.{allBelow}
 use Rattle.relation.specs.Finite.{rowsOf}
 use Rattle.relation.specs.Union.{partOf}
 use Rattle.model.specs.declared.Rule.{Rule}
-use Rattle.format.specs.Bytes.{byte}
 use Rattle.cache.specs.Needs.{needs, needsRing, met}
-use Rattle.cache.specs.State.{acceptedCount, writeBase, flagIn, rulesIn, writesIn, storedIn}
+use Rattle.cache.specs.State.{acceptedCount, rulesIn, writesIn, storedIn}
 
 -- a table's first rows are what a state's writes need
 unfoldable pub Tabled : List ℕ → List ℕ → Type 0
@@ -20,10 +18,6 @@ Tabled s rows = take (acceptedCount s) rows ≡ rowsOf (needs (rulesIn s) (write
 
 unfoldable pub TabledIf : Bool → List ℕ → List ℕ → Type 0
 TabledIf b s rows = b ≡ true → Tabled s rows
-
--- the last two bytes of write i's place are a flag and zero
-unfoldable pub flagFits : List ℕ → ℕ → Bool
-flagFits s i = leb (flagIn s i) 1 && eqb (byte s (writeBase i + 11)) 0
 
 -- the row of i, where i is in a mask, is part of the mask
 unfoldable pub covered : ℕ → ℕ → ℕ → Bool

@@ -2,13 +2,12 @@
 use mathlib.Core.Path.{_≡_, refl, sym, ap, _∙_}
 use mathlib.Core.Bool.{Bool, true, false, cond, not, _&&_}
 use mathlib.Core.List.{List}
-use Prim.Native.Nat.{ℕ, zero, suc, _+_, _-_, _*_, _/_, _%_, _≤_, _<_}
+use Prim.Native.Nat.{ℕ, zero, suc, _+_, _-_, _≤_, _<_}
 use native.Mathlib.Numerals.{add-one}
 use native.Mathlib.Omega.{arith}
 use lib.Bits.{bitAnd}
 use lib.Dec.{eqb, eqb·suc-zero}
-use lib.ListN.{length, getD, set}
-use lib.Seq.{sets}
+use lib.ListN.{length, getD}
 use borrow.Author.Needs.{needs}
 use borrow.Author.Tests.{eqb-true, eq-eqb, ne-eqb, not-false}
 use Rattle.relation.specs.Bits.{bit, withBit, maskOf}
@@ -16,7 +15,6 @@ use Rattle.relation.proofs.BitLaws.{mask-ext}
 use Rattle.relation.proofs.MaskLaws.{mask-with}
 use Rattle.model.specs.declared.Write.{Write}
 use Rattle.model.specs.Answer.{refused, refusal, coded}
-use Rattle.format.specs.Bytes.{bytes4}
 use Rattle.rules.specs.declared.Rules.{Rules}
 use Rattle.cache.specs.Needs.{readyFrom, ready}
 use Rattle.cache.specs.State.{ruleCount, acceptedCount, storedCount, rulesIn, writesIn, writeIn, storedIn, marked, storedOn}
@@ -24,41 +22,12 @@ use Rattle.cache.specs.Sound.{sound}
 use Rattle.cache.specs.Calls.{Left, Held, left, storing, checked, stepped, stepsOf, drained}
 use Rattle.relation.specs.Union.{partOf}
 use Rattle.soundness.specs.Parts.{Tabled, TabledIf}
-use Rattle.needs.proofs.Steps.{writes-length, write-at}
+use Rattle.masks.proofs.MaskSteps.{writes-length, write-at}
 use Rattle.soundness.proofs.SoundSteps.{stored-bit, row-met}
 use Rattle.soundness.proofs.SoundLaws.{sound-true, stored-most}
 use Rattle.soundlaws.proofs.ReadyLaws.{ready-earliest}
 use Rattle.soundlaws.proofs.KeepLaws.{sound-size, rules-marked, writes-marked, acceptedCount-marked, stored-marked, sound-stepped, length-stepped, steps-sound}
 use Rattle.storing.specs.Given.{out, codedLeft, faultBy, callFault}
-
--- ---- put_word, store_block, mark
-
-pub word-put : (l : List ℕ) (at n : ℕ)
-    → set (set (set (set l at (n / 16777216 % 256)) (at + 1) (n / 65536 % 256)) (at + 2) (n / 256 % 256)) (at + 3) (n % 256) ≡ sets l at (bytes4 n)
-word-put l at n =
-    let one : at + 1 ≡ suc at = omega arith in
-    let two : at + 2 ≡ suc (suc at) = omega arith in
-    let three : at + 3 ≡ suc (suc (suc at)) = omega arith in
-    rw (one, two, three)
-
--- a place within a run of n bytes
-pub inside : (l : List ℕ) (at n k : ℕ) → at + n ≤ length l → k < n → at + k < length l
-inside l at n k h j = omega arith
-
-pub block-stored : (d d′ : List ℕ) (w : Write) (a : ℕ) → a ≡ w .address → d′ ≡ sets d (4 * a) (bytes4 (w .block)) → d′ ≡ storedOn d w
-unfolding storedOn
-block-stored d d′ w a e q = rw e at q
-
-pub block-fits : (d : List ℕ) (a : ℕ) → length d ≡ 1024 → a < 256 → 4 * a + 4 ≤ length d
-block-fits d a h l = omega arith
-
-pub flag-marked : (s : List ℕ) (i : ℕ) → set (set s (110 + 12 * i) 1) 2 (storedCount s + 1) ≡ marked s i
-unfolding marked
-flag-marked s i =
-    let z : 110 + 12 * i ≡ 100 + 12 * i + 10 = omega arith in
-    rw z
-
-pub ruleset storing-steps = (needs, word-put, inside, block-stored, block-fits, flag-marked)
 
 -- ---- is_ready, ready
 

@@ -2,12 +2,10 @@
 use model::Write;
 ghost use mathlib.Core.Path.{_≡_};
 ghost use mathlib.Core.Bool.{true, cond, not, _&&_};
-ghost use Prim.Native.Nat.{_+_, _-_, _<_, _≤_};
+ghost use Prim.Native.Nat.{_-_, _<_, _≤_};
 ghost use lib.Dec.{eqb};
 ghost use lib.ListN.{length};
-ghost use lib.Seq.{sets};
 ghost use Rattle.relation.specs.Bits.{bit, withBit, maskOf};
-ghost use Rattle.format.specs.Bytes.{bytes4};
 ghost use Rattle.cache.specs.Needs.{ready};
 ghost use Rattle.cache.specs.State.{acceptedCount, storedCount, writeIn, rulesIn, writesIn, storedIn, marked, storedOn};
 ghost use Rattle.cache.specs.Sound.{sound};
@@ -15,35 +13,6 @@ ghost use Rattle.cache.specs.Calls.{stepped, drained};
 ghost use Rattle.relation.specs.Union.{partOf};
 ghost use Rattle.soundness.specs.Parts.{Tabled, TabledIf};
 ghost use Rattle.storing.specs.Given.{out, codedLeft, callFault};
-
-// A number in four bytes, big-endian.
-pub fn put_word(bytes: &mut [u8], at: usize, n: u32)
-    requires { ⌜ at + 4 ≤ length (now bytes) ⌝ }
-    ensures { λ _. ⌜ now (bytes .exit) ≡ sets (now (bytes .entry)) at (bytes4 n) ⌝ }
-{
-    bytes[at] = (n / 16777216 % 256) as u8;
-    bytes[at + 1] = (n / 65536 % 256) as u8;
-    bytes[at + 2] = (n / 256 % 256) as u8;
-    bytes[at + 3] = (n % 256) as u8;
-}
-
-// The store of one block, which is atomic.
-fn store_block(disk: &mut [u8], w: Write)
-    requires { ⌜ length (now disk) ≡ 1024 ⌝ }
-    ensures { λ _. ⌜ now (disk .exit) ≡ storedOn (now (disk .entry)) w ⌝ }
-{
-    put_word(disk, 4 * needs::wide(w.address), w.block);
-}
-
-// Write i is stored.
-fn mark(state: &mut [u8], i: usize)
-    requires { ⌜ (length (now state) ≡ 1024) × ((i < 64) × (storedCount (now state) ≤ 64)) ⌝ }
-    ensures { λ _. ⌜ now (state .exit) ≡ marked (now (state .entry)) i ⌝ }
-{
-    let stored = state[2] + 1;
-    state[110 + 12 * i] = 1;
-    state[2] = stored;
-}
 
 // Whether write i is not in the mask of the stored writes, and its row is part of that mask.
 fn is_ready(row: u64, mask: u64, i: usize) -> bool
@@ -62,7 +31,7 @@ fn ready(state: &[u8], rows: &[u64; 64], mask: u64) -> usize
     requires { ⌜ (length (now state) ≡ 1024) × ((acceptedCount (now state) ≤ 64) × (Tabled (now state) (now rows) × (mask ≡ maskOf (storedIn (now state)) (acceptedCount (now state))))) ⌝ }
     ensures { λ r. ⌜ (r ≡ ready (rulesIn (now (state .entry))) (writesIn (now (state .entry))) (storedIn (now (state .entry)))) × (r ≤ acceptedCount (now (state .entry))) ⌝ }
 {
-    let n = needs::wide(state[1]);
+    let n = masks::wide(state[1]);
     let mut i: usize = 0;
     while i < n {
         if is_ready(rows[i], mask, i) {
@@ -78,8 +47,8 @@ fn store_write(state: &mut [u8], disk: &mut [u8], i: usize)
     requires { ⌜ (length (now state) ≡ 1024) × ((length (now disk) ≡ 1024) × ((i < 64) × (storedCount (now state) ≤ 64))) ⌝ }
     ensures { λ _. ⌜ (now (state .exit) ≡ marked (now (state .entry)) i) × (now (disk .exit) ≡ storedOn (now (disk .entry)) (writeIn (now (state .entry)) i)) ⌝ }
 {
-    store_block(disk, needs::write_in(state, i));
-    mark(state, i);
+    stores::store_block(disk, masks::write_in(state, i));
+    stores::mark(state, i);
 }
 
 // A step on a sound state. rows has its needs, mask its stored writes.
@@ -128,8 +97,8 @@ pub fn drain_sound(state: &mut [u8], disk: &mut [u8], rows: &[u64; 64], mask: u6
     requires { ⌜ (length (now state) ≡ 1024) × ((length (now disk) ≡ 1024) × ((sound (now state) ≡ true) × (Tabled (now state) (now rows) × (mask ≡ maskOf (storedIn (now state)) (acceptedCount (now state)))))) ⌝ }
     ensures { λ r. ⌜ out r (now (state .exit)) (now (disk .exit)) ≡ codedLeft (drained (now (state .entry)) (now (disk .entry))) ⌝ }
 {
-    let accepted = needs::wide(state[1]);
-    let stored = needs::wide(state[2]);
+    let accepted = masks::wide(state[1]);
+    let stored = masks::wide(state[2]);
     let mut done = mask;
     let mut n: usize = stored;
     while n < accepted {

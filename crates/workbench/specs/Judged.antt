@@ -3,9 +3,9 @@ use Prim.Native.Nat.{ℕ, _+_, _*_}
 use mathlib.Core.Path.{_≡_}
 use mathlib.Core.List.{List}
 use Rattle.model.specs.Answer.{Outcome, answer, refused, refusal}
-use Rattle.judging.specs.declared.Judgement.{Judgement}
-use Rattle.judging.specs.declared.Verdict.{Verdict}
-use Rattle.judging.specs.declared.Verdict.the-variants.{Holds, Fails}
+use Rattle.counting.specs.declared.Judgement.{Judgement}
+use Rattle.counting.specs.declared.Verdict.{Verdict}
+use Rattle.counting.specs.declared.Verdict.the-variants.{Holds, Fails}
 use Rattle.judging.specs.Judge.{Case, Judges, Decides}
 
 -- the count of valid schedules, from bit 21 on that of bad ones, from bit 42 on a bad one

@@ -1,10 +1,10 @@
 // The tester's interface: numbers and byte slices. Every refusal is `refusal number place`.
+use counting::Judgement;
+use counting::Verdict;
 use format::Extent;
 use format::Scan;
 use judging::Decided;
 use judging::Judged;
-use judging::Judgement;
-use judging::Verdict;
 ghost use mathlib.Core.Path.{_≡_};
 ghost use Prim.Native.Nat.{_+_, _*_, _≤_};
 ghost use Rattle.model.specs.Answer.{coded};

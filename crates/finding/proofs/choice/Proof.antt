@@ -1,6 +1,6 @@
 -- `finding::choice` meets its contract. The sets that are not marked in the end are those that make all tests hold.
-use Rattle.finding.proofs.MarkLaws.{blank-made}
-use Rattle.finding.proofs.Steps.{choosing}
+use Rattle.marking.proofs.MarkLaws.{blank-made}
+use Rattle.choosing.proofs.ChoiceSteps.{choosing}
 use Rattle.finding.proofs.choice.Statement.{statement}
 use Rattle.finding.proofs.choice.Tie as tie
 

@@ -6,7 +6,7 @@ use Rattle.log.proofs.find_key.Statement.{statement}
 use Rattle.log.proofs.find_key.Tie as tie
 use Rattle.log.proofs.find_key.Reads as reads
 use Rattle.log.proofs.find_key.Lts as lts
-use Rattle.disks.proofs.second_of.Reads as second-of-reads
+use Rattle.checks.proofs.second_of.Reads as second-of-reads
 use Rattle.log.proofs.block_at.Reads as block-at-reads
 use Rattle.log.proofs.has_key.Reads as has-key-reads
 

@@ -4,7 +4,7 @@ use Rattle.log.proofs.has_key.Statement.{statement}
 use Rattle.log.proofs.has_key.Tie as tie
 use Rattle.log.proofs.has_key.Reads as reads
 use Rattle.log.proofs.has_key.Lts as lts
-use Rattle.disks.proofs.first_of.Reads as first-of-reads
+use Rattle.checks.proofs.first_of.Reads as first-of-reads
 use Rattle.log.proofs.block_at.Reads as block-at-reads
 
 -- src/lib.rt:21:9

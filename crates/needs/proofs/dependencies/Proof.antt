@@ -1,7 +1,7 @@
 -- `needs::dependencies` meets its contract. The invariant: the mask has what the first k rules pair with the write.
 use mathlib.Core.Path.{_≡_}
 use Prim.Native.Nat.{_≤_, _-_}
-use Rattle.needs.specs.Masks.{pairedBy}
+use Rattle.masks.specs.Masks.{pairedBy}
 use Rattle.needs.proofs.Steps.{pairing}
 use Rattle.needs.proofs.dependencies.Statement.{statement}
 use Rattle.needs.proofs.dependencies.Tie as tie

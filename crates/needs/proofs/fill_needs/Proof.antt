@@ -5,7 +5,7 @@ use lib.ListN.{length, take}
 use Rattle.rules.specs.Held.{rulesOf}
 use Rattle.cache.specs.Needs.{needs}
 use Rattle.cache.specs.State.{acceptedCount, writesIn}
-use Rattle.needs.specs.Masks.{Compared}
+use Rattle.masks.specs.Masks.{Compared}
 use Rattle.needs.proofs.Steps.{rowsFrom}
 use Rattle.needs.proofs.Steps.{steps, fill-more}
 use Rattle.needs.proofs.fill_needs.Statement.{statement}

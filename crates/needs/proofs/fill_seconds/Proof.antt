@@ -4,7 +4,7 @@ use Prim.Native.Nat.{_≤_, _-_}
 use lib.ListN.{length, take}
 use Rattle.relation.specs.Lists.{tabulate}
 use Rattle.rules.specs.Held.{rulesOf}
-use Rattle.needs.specs.Masks.{secondMask}
+use Rattle.masks.specs.Masks.{secondMask}
 use Rattle.needs.proofs.Steps.{steps}
 use Rattle.needs.proofs.fill_seconds.Statement.{statement}
 use Rattle.needs.proofs.fill_seconds.Tie as tie

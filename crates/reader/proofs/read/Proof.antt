@@ -11,7 +11,7 @@ use Rattle.reader.proofs.read.Lts as lts
 use Rattle.reader.proofs.advance.Reads as advance-reads
 use Rattle.format.proofs.body_length.Reads as body-length-reads
 use Rattle.reader.proofs.end_scan.Reads as end-scan-reads
-use Rattle.reader.proofs.fault.Reads as fault-reads
+use Rattle.faults.proofs.fault.Reads as fault-reads
 
 abbrev Inv-loop : tie.InvT-loop
 Inv-loop s wanted st₀ at₀ st at = Going s wanted at st

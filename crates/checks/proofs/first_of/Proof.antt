@@ -1,0 +1,20 @@
+use native.Mathlib.Omega.{arith}
+use Rattle.model.specs.Disk.{firstOf}
+use mathlib.Core.Path.{refl}
+use borrow.Author.Needs.{needs}
+use Rattle.checks.proofs.first_of.Statement.{statement}
+use Rattle.checks.proofs.first_of.Tie as tie
+use Rattle.checks.proofs.first_of.Reads as reads
+use Rattle.checks.proofs.first_of.Lts as lts
+
+-- src/lib.rt:59:5
+cast-result : tie.Need-cast-result
+cast-result c = search needs
+
+-- src/lib.rt:56:1
+returns : tie.Need-returns
+unfolding firstOf
+returns c = (refl, omega arith)
+
+pub first-of-spec : {M : Type 1} → statement M
+first-of-spec = tie.close (tie.spec cast-result returns)

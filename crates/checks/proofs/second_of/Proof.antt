@@ -1,0 +1,20 @@
+use native.Mathlib.Omega.{arith}
+use Rattle.model.specs.Disk.{secondOf}
+use mathlib.Core.Path.{refl}
+use borrow.Author.Needs.{needs}
+use Rattle.checks.proofs.second_of.Statement.{statement}
+use Rattle.checks.proofs.second_of.Tie as tie
+use Rattle.checks.proofs.second_of.Reads as reads
+use Rattle.checks.proofs.second_of.Lts as lts
+
+-- src/lib.rt:65:5
+cast-result : tie.Need-cast-result
+cast-result c = search needs
+
+-- src/lib.rt:62:1
+returns : tie.Need-returns
+unfolding secondOf
+returns c = (refl, omega arith)
+
+pub second-of-spec : {M : Type 1} → statement M
+second-of-spec = tie.close (tie.spec cast-result returns)

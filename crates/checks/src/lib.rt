@@ -1,0 +1,96 @@
+// The three checks of a disk.
+use model::Check;
+ghost use mathlib.Core.Path.{_≡_};
+ghost use Prim.Native.Nat.{_<_, _≤_};
+ghost use lib.ListN.{take};
+ghost use Rattle.model.specs.Disk.{firstOf, secondOf};
+ghost use Rattle.model.specs.Check.{rangeHolds, holds, consistent};
+
+fn range_holds(disk: &[u32; 256], head: usize, tail: usize) -> bool
+    ensures { λ r. ⌜ r ≡ rangeHolds (now (disk .entry)) head tail ⌝ }
+{
+    if tail <= head {
+        return true;
+    }
+    if 256 < tail {
+        return false;
+    }
+    let mut k = head;
+    while k < tail {
+        if disk[k] == 0 {
+            return false;
+        }
+        k += 1;
+    }
+    true
+}
+
+// The two numbers of a block.
+pub fn first_of(b: u32) -> usize
+    ensures { λ r. ⌜ (r ≡ firstOf b) × (r < 65536) ⌝ }
+{
+    (b / 65536) as usize
+}
+
+pub fn second_of(b: u32) -> usize
+    ensures { λ r. ⌜ (r ≡ secondOf b) × (r < 65536) ⌝ }
+{
+    (b % 65536) as usize
+}
+
+fn range_at(disk: &[u32; 256], a: u8) -> bool
+    ensures { λ r. ⌜ r ≡ holds (now (disk .entry)) (Check.Range a) ⌝ }
+{
+    let b = disk[a as usize];
+    range_holds(disk, first_of(b), second_of(b))
+}
+
+fn pair_holds(disk: &[u32; 256], a: u8, v: u32, b: u8, w: u32) -> bool
+    ensures { λ r. ⌜ r ≡ holds (now (disk .entry)) (Check.Pair a v b w) ⌝ }
+{
+    if disk[a as usize] == v {
+        return disk[b as usize] == w;
+    }
+    true
+}
+
+fn pointer_holds(disk: &[u32; 256], a: u8) -> bool
+    ensures { λ r. ⌜ r ≡ holds (now (disk .entry)) (Check.Pointer a) ⌝ }
+{
+    let b = disk[a as usize];
+    if b == 0 {
+        return true;
+    }
+    let to = second_of(b);
+    if 255 < to {
+        return false;
+    }
+    disk[to] != 0
+}
+
+// Whether a check holds of a disk.
+pub fn check_holds(disk: &[u32; 256], c: Check) -> bool
+    ensures { λ r. ⌜ r ≡ holds (now (disk .entry)) c ⌝ }
+{
+    match c {
+        Check::Range(a) => range_at(disk, a),
+        Check::Pair { a, v, b, w } => pair_holds(disk, a, v, b, w),
+        Check::Pointer(a) => pointer_holds(disk, a),
+    }
+}
+
+// Whether the first n checks hold of a disk.
+pub fn is_consistent(disk: &[u32; 256], checks: [Check; 16], n: usize) -> bool
+    requires { ⌜ n ≤ 16 ⌝ }
+    ensures { λ r. ⌜ r ≡ consistent (take n checks) (now (disk .entry)) ⌝ }
+{
+    let mut i: usize = 0;
+    while i < n {
+        let c = checks[i];
+        if !check_holds(disk, c) {
+            return false;
+        }
+        i += 1;
+    }
+    true
+}

@@ -1,0 +1,28 @@
+-- The choice from a table of marked sets.
+use Prim.Native.Nat.{ℕ, _-_, _^_}
+use mathlib.Core.Bool.{Bool, cond, not, _&&_}
+use mathlib.Core.List.{List}
+use mathlib.Core.Option.{Option, none, some}
+use lib.Count.{ones}
+use lib.Dec.{eqb, leb}
+use lib.ListN.{getD}
+use Rattle.relation.specs.Bits.{bit}
+use Rattle.model.specs.declared.Rule.{Rule}
+use Rattle.model.specs.Cyclic.{cyclic}
+use Rattle.model.specs.Find.{picked}
+
+-- a set is acyclic and not marked
+unfoldable pub passing : List ℕ → List Rule → ℕ → Bool
+passing table cs m = not (cyclic (picked cs m)) && not (eqb (getD table m 0) 1)
+
+-- a set has candidate i, and is not marked without it
+unfoldable pub spare : List ℕ → ℕ → ℕ → Bool
+spare table m i = bit m i && not (eqb (getD table (m - 2 ^ i) 0) 1)
+
+unfoldable pub better : (ℕ → Bool) → ℕ → ℕ → ℕ
+better p m best = cond (leb (ones m) (ones best) && p m) m best
+
+-- a choice in one number: no set has all 64 bits set
+unfoldable pub choiceCode : Option ℕ → ℕ
+choiceCode none = 18446744073709551615
+choiceCode (some m) = m

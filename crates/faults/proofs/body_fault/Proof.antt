@@ -1,0 +1,26 @@
+use mathlib.Core.Path.{_∙_}
+use Rattle.format.specs.File.{bodyFault, bodyLength}
+use Rattle.relation.proofs.Cases.{cases}
+use Rattle.faults.proofs.body_fault.Statement.{statement}
+use Rattle.faults.proofs.body_fault.Tie as tie
+use Rattle.faults.proofs.body_fault.Reads as reads
+use Rattle.faults.proofs.body_fault.Lts as lts
+use Rattle.faults.proofs.rule_fault.Reads as rule-fault-reads
+
+-- src/lib.rt:129:9
+rule-fault-requires : tie.Need-rule-fault-requires
+unfolding bodyLength
+rule-fault-requires c κs = c .before .before .pre ∙ rw (c .if1 .taken)
+
+-- src/lib.rt:129:9
+returns : tie.Need-returns
+unfolding bodyFault
+returns c = search cases depth 9
+
+-- src/lib.rt:124:1
+returns-2 : tie.Need-returns-2
+unfolding bodyFault
+returns-2 c = search cases depth 9
+
+pub body-fault-spec : {M : Type 1} → statement M
+body-fault-spec = tie.close (tie.spec rule-fault-requires returns returns-2)

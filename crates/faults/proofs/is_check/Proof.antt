@@ -1,0 +1,19 @@
+use Rattle.format.specs.File.{isCheck}
+use Rattle.relation.proofs.Cases.{cases}
+use Rattle.faults.proofs.is_check.Statement.{statement}
+use Rattle.faults.proofs.is_check.Tie as tie
+use Rattle.faults.proofs.is_check.Reads as reads
+use Rattle.faults.proofs.is_check.Lts as lts
+
+-- src/lib.rt:47:9
+returns : tie.Need-returns
+unfolding isCheck
+returns c = search cases depth 9
+
+-- src/lib.rt:43:1
+returns-2 : tie.Need-returns-2
+unfolding isCheck
+returns-2 c = search cases depth 9
+
+pub is-check-spec : {M : Type 1} → statement M
+is-check-spec = tie.close (tie.spec returns returns-2)

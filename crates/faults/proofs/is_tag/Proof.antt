@@ -1,0 +1,19 @@
+use Rattle.format.specs.File.{isTag}
+use Rattle.relation.proofs.Cases.{cases}
+use Rattle.faults.proofs.is_tag.Statement.{statement}
+use Rattle.faults.proofs.is_tag.Tie as tie
+use Rattle.faults.proofs.is_tag.Reads as reads
+use Rattle.faults.proofs.is_tag.Lts as lts
+
+-- src/lib.rt:38:9
+returns : tie.Need-returns
+unfolding isTag
+returns c = search cases depth 9
+
+-- src/lib.rt:34:1
+returns-2 : tie.Need-returns-2
+unfolding isTag
+returns-2 c = search cases depth 9
+
+pub is-tag-spec : {M : Type 1} → statement M
+is-tag-spec = tie.close (tie.spec returns returns-2)

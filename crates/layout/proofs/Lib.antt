@@ -1,0 +1,2 @@
+pub mod HasLayoutSteps
+pub mod LayoutSteps

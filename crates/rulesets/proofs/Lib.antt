@@ -1,0 +1,2 @@
+pub mod RuleSteps
+pub mod KeepLaws

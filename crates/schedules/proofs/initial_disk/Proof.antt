@@ -1,0 +1,26 @@
+use Rattle.schedules.proofs.Steps.{steps}
+use Rattle.schedules.proofs.initial_disk.Statement.{statement}
+use Rattle.schedules.proofs.initial_disk.Tie as tie
+use Rattle.schedules.proofs.initial_disk.Reads as reads
+use Rattle.schedules.proofs.initial_disk.Lts as lts
+use Rattle.disks.proofs.apply.Reads as apply-reads
+use Rattle.disks.proofs.load.Reads as load-reads
+
+-- src/lib.rt:135:17
+slice-aggregate-load : tie.Need-slice-aggregate-load
+slice-aggregate-load c = search steps
+
+-- src/lib.rt:135:5
+load-requires : tie.Need-load-requires
+load-requires c κs = search steps
+
+-- src/lib.rt:137:5
+apply-requires : tie.Need-apply-requires
+apply-requires c κs = search steps
+
+-- src/lib.rt:130:1
+returns : tie.Need-returns
+returns c = search steps
+
+pub initial-disk-spec : {M : Type 1} → statement M
+initial-disk-spec = tie.close (tie.spec slice-aggregate-load load-requires apply-requires returns)

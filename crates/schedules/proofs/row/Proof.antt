@@ -1,0 +1,64 @@
+use Prim.Native.Nat.{_-_, _≤_}
+use mathlib.Core.Path.{_≡_}
+use lib.ListN.{take}
+use Rattle.model.specs.Rules.{label}
+use Rattle.schedules.specs.Rows.{rowOf}
+use Rattle.schedules.proofs.Steps.{steps}
+use Rattle.schedules.proofs.row.Statement.{statement}
+use Rattle.schedules.proofs.row.Tie as tie
+use Rattle.schedules.proofs.row.Reads as reads
+use Rattle.schedules.proofs.row.Lts as lts
+use Rattle.schedules.proofs.rule_row.Reads as rule-row-reads
+
+abbrev Inv-loop : tie.InvT-loop
+Inv-loop file at n name epoch rules mask₀ k₀ mask k = (k ≤ rules .count) × (mask ≡ rowOf (take k (rules .items)) (label name epoch) file at n)
+
+abbrev μ-loop : tie.MeasureT-loop
+μ-loop file at n name epoch rules mask₀ k₀ mask k = rules .count - k
+
+-- src/lib.rt:90:5
+loop-holds : tie.Need-loop-holds Inv-loop μ-loop
+loop-holds c = search steps
+
+-- src/lib.rt:91:32
+mul-rule-row : tie.Need-mul-rule-row Inv-loop μ-loop
+mul-rule-row c = search steps
+
+-- src/lib.rt:91:32
+element-copy-out-rule-row : tie.Need-element-copy-out-rule-row Inv-loop μ-loop
+element-copy-out-rule-row c = search steps
+
+-- src/lib.rt:91:23
+rule-row-requires : tie.Need-rule-row-requires Inv-loop μ-loop
+rule-row-requires c κs = search steps
+
+-- src/lib.rt:92:9
+add-k : tie.Need-add-k Inv-loop μ-loop
+add-k c = search steps
+
+-- src/lib.rt:90:5
+loop-less : tie.Need-loop-less Inv-loop μ-loop
+loop-less c = search steps
+
+-- src/lib.rt:90:5
+loop-again : tie.Need-loop-again Inv-loop μ-loop
+loop-again c = search steps
+
+-- src/lib.rt:84:1
+returns : tie.Need-returns Inv-loop μ-loop
+returns c = search steps
+
+pub row-spec : {M : Type 1} → statement M
+row-spec =
+    tie.close
+    (tie.spec
+    Inv-loop
+    μ-loop
+    loop-holds
+    mul-rule-row
+    element-copy-out-rule-row
+    rule-row-requires
+    add-k
+    loop-less
+    loop-again
+    returns)

@@ -1,0 +1,26 @@
+use Rattle.schedules.proofs.Steps.{steps}
+use Rattle.schedules.proofs.with_match.Statement.{statement}
+use Rattle.schedules.proofs.with_match.Tie as tie
+use Rattle.schedules.proofs.with_match.Reads as reads
+use Rattle.schedules.proofs.with_match.Lts as lts
+use Rattle.relation.proofs.with_bit.Reads as with-bit-reads
+use Rattle.rules.proofs.matches.Reads as matches-reads
+
+-- src/lib.rt:59:8
+matches-requires : tie.Need-matches-requires
+matches-requires c κs = search steps
+
+-- src/lib.rt:60:9
+with-bit-requires : tie.Need-with-bit-requires
+with-bit-requires c κs = search steps
+
+-- src/lib.rt:60:9
+returns : tie.Need-returns
+returns c = search steps
+
+-- src/lib.rt:55:1
+returns-2 : tie.Need-returns-2
+returns-2 c = search steps
+
+pub with-match-spec : {M : Type 1} → statement M
+with-match-spec = tie.close (tie.spec matches-requires with-bit-requires returns returns-2)
