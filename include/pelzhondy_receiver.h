@@ -4,14 +4,22 @@
  * memmove and memset. A call used at most 4 KiB of stack in every case that the gate measures
  * (tests/differential/src/receiver/firmware.rs); the bound is measured and not proved.
  *
- * A cache lives in 1,024 bytes that the caller lends, its state. Its bytes are laid out by document
- * 01, and nobody else writes to them. A state that is not sound is refused (15) and left as it is;
+ * A cache lives in 1,024 bytes that the caller lends, its state: byte 0 is the count of rules, 1 of
+ * accepted writes, 2 of stored ones; rules stand from byte 4 on, three bytes each; write i, from 1,
+ * stands at 100 + 12 * (i - 1): address 1, name 1, epoch 4, block 4, whether it is stored 1, and a
+ * zero. Nobody else writes to them. A state that is not sound is refused (15) and left as it is;
  * damage that leaves the state sound cannot be seen. A state is sound if it has that layout within
  * the limits, known predicates, acyclic rules, a stored count that equals its flags, stored writes
  * that need only stored ones, and no ring of needs.
  * A disk is 1,024 bytes: block a, of two numbers of 16 bits, is the four bytes from 4 * a on,
  * big-endian. Step, and drain by its steps, are the only calls that store to it, one block a step.
  * That such a block is stored whole or not at all is up to the caller.
+ *
+ * The disk is the caller's memory. To bring it to flash, call step, and copy the one block that it
+ * stored before the next call: the answer is the write's place, and byte 100 + 12 * (place - 1) of
+ * the state its address. A drain stores several blocks before it comes back. The state need not
+ * outlive the supply: after a reset open a cache anew, on the disk that the flash holds. What is
+ * said here of cuts holds from an opening on.
  *
  * Wherever the supply is cut between two stores, the disk that is left is that of the stored writes,
  * applied in the order in which they were handed in, and with a write all that it depends on is

@@ -1,7 +1,7 @@
 /*
  * The tester's interface: reading test files, judging tests, finding rules, and traces of the
  * reading log. Link target/staticlib/libworkbench.a. See pelzhondy_answer.h for answers, refusals
- * and buffers, and document 01 for the format of a file: at most 32 rules and 16 tests, in a test at
+ * and buffers, and README.md for the format of a file: at most 32 rules and 16 tests, in a test at
  * most 64 initial writes, 12 main writes and 16 checks. `file` is only read.
  *
  * "By reading" stands for the refusals 1 to 6, at the offset of the field at fault, and 7, at the

@@ -129,9 +129,21 @@ check_host() {
         target/host >target/host.txt && diff examples/receiver/expected.txt target/host.txt
 }
 
+# The explainer prints what it is expected to, of each sample.
+check_explain() {
+    local file
+    c_compiler examples/workbench/explain.c target/staticlib/libworkbench.a -o target/explain ||
+        return 1
+    for file in samples/*.bin; do
+        echo "${file##*/}:"
+        target/explain <"$file"
+    done >target/explain.txt
+    diff examples/workbench/expected.txt target/explain.txt
+}
+
 c_tests() {
     local check
-    for check in check_headers check_host; do
+    for check in check_headers check_host check_explain; do
         part "C: $check" "$check"
         add $((status == 0)) $((status != 0))
     done
