@@ -1,7 +1,7 @@
 -- Sound states.
-use Prim.Native.Nat.{ℕ, zero, suc, _+_, _-_, _*_, _≤_, _<_}
+use Prim.Native.Nat.{ℕ, _+_, _-_, _≤_, _<_}
 use mathlib.Core.Path.{_≡_}
-use mathlib.Core.Bool.{Bool, true, cond, not, _&&_, _||_}
+use mathlib.Core.Bool.{Bool, true, not, _&&_, _||_}
 use mathlib.Core.List.{List}
 use lib.Dec.{eqb, leb}
 use lib.ListN.{length}
@@ -10,7 +10,7 @@ use Rattle.model.specs.Rules.{Known, known}
 use Rattle.model.specs.Cyclic.{Cyclic, cyclic}
 use Rattle.model.specs.Test.{countBelow}
 use Rattle.format.specs.Bytes.{byte}
-use Rattle.cache.specs.Needs.{Needs, NeedsRing, needs, needsRing, met}
+use Rattle.cache.specs.Needs.{Needs, NeedsRing, needsRing, met}
 use Rattle.cache.specs.State.{stateSize, ruleCount, acceptedCount, storedCount, ruleBase, writeBase, flagIn, rulesIn, writesIn, storedIn}
 
 -- *sound*: this layout within the limits, known predicates, acyclic rules, a stored count that equals its flags,

@@ -24,7 +24,8 @@ use Rattle.format.specs.Held.{noTest, Tells, Inside}
 use Rattle.reader.proofs.CallerLaws.{refused-read, accepted-file, accepted-read, accepted-tests, accepted-inside, accepted-test}
 use Rattle.rules.specs.declared.Rules.{Rules}
 use Rattle.rules.proofs.Steps.{length-mapped}
-use Rattle.rulesets.specs.Kept.{paired, testsOf, testsIn, Keeps, Follows}
+use Rattle.rulesets.specs.Kept.{Keeps, Follows}
+use Rattle.candidates.specs.Tests.{paired, testsOf, testsIn}
 use Rattle.rulesets.proofs.KeepLaws.{keeps-all}
 
 -- ---- pairing, with_pair

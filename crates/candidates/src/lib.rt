@@ -1,4 +1,4 @@
-// The candidates of a file, sorted, and the sets of them.
+// The candidates of a file, sorted.
 use format::Extent;
 use format::Scan;
 use model::Rule;
@@ -11,7 +11,8 @@ ghost use Rattle.model.specs.Rules.{label, labelOf};
 ghost use Rattle.model.specs.Find.{pairing, fromWrite, fromTrace, candidatesOf};
 ghost use Rattle.format.specs.Scan.{writesAt, testAt};
 ghost use Rattle.format.specs.Held.{noTest, Inside};
-ghost use Rattle.rulesets.specs.Kept.{paired, testsIn, Keeps, Follows};
+ghost use Rattle.rulesets.specs.Kept.{Keeps, Follows};
+ghost use Rattle.candidates.specs.Tests.{paired, testsIn};
 
 // The one rule that matches the labels (n, t) and (m, u).
 fn pairing(n: u8, t: u32, m: u8, u: u32) -> Rule

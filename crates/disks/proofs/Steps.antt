@@ -1,4 +1,4 @@
--- The steps of the code, in its terms: one write more, one block of a range more, one check more.
+-- The steps of the code, in its terms: one write more, loaded or applied.
 use mathlib.Core.Path.{_≡_, refl, ap, ap₂, _∙_}
 use mathlib.Core.Bool.{Bool, true, false, cond}
 use mathlib.Core.List.{List}

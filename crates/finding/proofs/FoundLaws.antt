@@ -25,8 +25,9 @@ use Rattle.format.specs.Held.{Tells}
 use Rattle.reader.proofs.CallerLaws.{refused-read, refused-most, accepted-read, accepted-rules, accepted-tests}
 use Rattle.rules.specs.declared.Rules.{Rules}
 use Rattle.rules.specs.Held.{rulesOf}
-use Rattle.rules.proofs.Steps.{itemAt}
-use Rattle.rulesets.specs.Kept.{testsOf, testsIn, Keeps}
+use Rattle.rules.specs.Held.{itemAt}
+use Rattle.rulesets.specs.Kept.{Keeps}
+use Rattle.candidates.specs.Tests.{testsOf, testsIn}
 use Rattle.rulesets.proofs.KeepLaws.{keeps-short, keeps-same, keeps-long}
 use Rattle.findlaws.proofs.ChosenLaws.{some-chosen}
 use Rattle.choosing.specs.Choice.{choiceCode}

@@ -9,7 +9,7 @@ ghost use lib.Seq.{sets};
 ghost use Rattle.model.specs.Find.{chosen};
 ghost use Rattle.format.specs.Encode.{ruleFields};
 ghost use Rattle.rules.specs.Held.{rulesOf};
-ghost use Rattle.rulesets.specs.Kept.{testsIn};
+ghost use Rattle.candidates.specs.Tests.{testsIn};
 ghost use Rattle.choosing.specs.Choice.{choiceCode};
 ghost use Rattle.finding.specs.Finder.{ruleBlock, over, out, foundCoded, findAmong, findOf};
 

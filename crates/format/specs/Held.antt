@@ -1,16 +1,16 @@
 -- What a scan's answer says of what a file holds.
-use Prim.Native.Nat.{ℕ, _+_, _*_, _≤_, _<_}
+use Prim.Native.Nat.{ℕ, _*_, _≤_, _<_}
 use mathlib.Core.Bool.{true}
 use mathlib.Core.Path.{_≡_}
 use mathlib.Core.List.{List, []}
 use lib.ListN.{length, getD}
-use Rattle.model.specs.Test.{Test, test, File, file}
+use Rattle.model.specs.Test.{Test, test, File}
 use Rattle.format.specs.declared.Extent.{Extent}
 use Rattle.format.specs.declared.Scan.{Scan}
 use Rattle.format.specs.declared.Scan.the-variants.{Accepted, Refused}
 use Rattle.model.specs.Answer.{Outcome, answer, refused}
 use Rattle.format.specs.Bytes.{byte}
-use Rattle.format.specs.File.{isCheck, fieldEnd, readOf}
+use Rattle.format.specs.File.{isCheck, fieldEnd}
 use Rattle.format.specs.Scan.{rulesAt, checkPlace, checksPlace, testAt}
 
 unfoldable pub noTest : Test

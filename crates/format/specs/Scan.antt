@@ -15,7 +15,7 @@ use Rattle.format.specs.declared.ScanState.{ScanState}
 use Rattle.format.specs.declared.Scan.{Scan}
 use Rattle.format.specs.declared.Scan.the-variants.{Accepted, Refused}
 use Rattle.format.specs.Bytes.{byte}
-use Rattle.format.specs.File.{bodyLength, isCheck, faultOf, fieldEnd, bodyAt, ruleOf, writeOf, checkOf}
+use Rattle.format.specs.File.{faultOf, fieldEnd, bodyAt, ruleOf, writeOf, checkOf}
 
 -- ---- fields by their places
 

@@ -1,5 +1,5 @@
 // A file's fields: a tag, a two-byte length and a body. What a file is, in specs/; here, the readers
-// of one field.
+// of one field, and what a scan of a file keeps and gives.
 use model::Check;
 use model::Rule;
 use model::Write;

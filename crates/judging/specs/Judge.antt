@@ -1,19 +1,14 @@
 -- Judging one test of a file.
-use Prim.Native.Nat.{ℕ, _+_, _-_, _*_, _≤_, _<_}
+use Prim.Native.Nat.{ℕ, _-_, _*_, _≤_}
 use mathlib.Core.Path.{_≡_}
-use mathlib.Core.Logic.{_⊎_}
-use mathlib.Core.Bool.{Bool, true, false, cond, not, _&&_}
+use mathlib.Core.Bool.{cond, _&&_}
 use mathlib.Core.List.{List}
 use lib.Dec.{leb}
 use lib.ListN.{length}
 use Rattle.model.specs.declared.Rule.{Rule}
-use Rattle.model.specs.declared.Write.{Write}
-use Rattle.model.specs.declared.Check.{Check}
 use Rattle.model.specs.Answer.{Outcome, answer, refused}
 use Rattle.model.specs.Cyclic.{cyclic}
-use Rattle.model.specs.Schedule.{run}
-use Rattle.model.specs.Check.{consistent}
-use Rattle.model.specs.Test.{Test, File, TestHolds, Bad, countBelow, validCount, badCount}
+use Rattle.model.specs.Test.{Test, File, TestHolds, Bad, validCount, badCount}
 use Rattle.format.specs.File.{readOf}
 use Rattle.format.specs.declared.Extent.{Extent}
 use Rattle.reader.specs.Limits.{longest}

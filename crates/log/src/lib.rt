@@ -1,6 +1,6 @@
-// The reading log: get, and traces of puts.
+// The reading log: get.
 ghost use mathlib.Core.Path.{_≡_};
-ghost use Prim.Native.Nat.{_*_, _-_, _<_, _≤_};
+ghost use Prim.Native.Nat.{_-_, _<_, _≤_};
 ghost use lib.ListN.{length};
 ghost use Rattle.format.specs.Bytes.{blockIn};
 ghost use Rattle.log.specs.Get.{keyed, getFrom, valueCode, getAnswer};

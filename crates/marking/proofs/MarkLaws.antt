@@ -32,7 +32,7 @@ use Rattle.disks.specs.Packed.{Loads, heldFrom}
 use Rattle.disks.proofs.Steps.{loaded-run}
 use Rattle.schedules.proofs.RowLaws.{writes-length}
 use Rattle.findlaws.specs.Hit.{allows, allowed, marks, marked, spread}
-use Rattle.rulesets.specs.Kept.{testsIn}
+use Rattle.candidates.specs.Tests.{testsIn}
 use Rattle.marking.specs.Table.{Sets, spoilt, Adds, Blank, Shows, either, Lowered, Spreads}
 
 -- ---- one schedule

@@ -20,7 +20,7 @@ use Rattle.model.specs.Cyclic.{noRule}
 use Rattle.model.specs.Schedule.{valid}
 use Rattle.rules.specs.declared.Rules.{Rules}
 use Rattle.rules.specs.Held.{rulesOf}
-use Rattle.rules.proofs.Steps.{itemAt}
+use Rattle.rules.specs.Held.{itemAt}
 use Rattle.schedules.specs.Rows.{validBy, Validates}
 use Rattle.findlaws.specs.Hit.{allows}
 use Rattle.marking.specs.Table.{withValid, validUnder, Grown, Sets, Bounded}

@@ -13,7 +13,7 @@ ghost use Rattle.rules.specs.Held.{rulesOf};
 ghost use Rattle.disks.specs.Packed.{heldFrom};
 ghost use Rattle.schedules.specs.Rows.{validBy};
 ghost use Rattle.findlaws.specs.Hit.{marks, marked};
-ghost use Rattle.rulesets.specs.Kept.{testsIn};
+ghost use Rattle.candidates.specs.Tests.{testsIn};
 ghost use Rattle.marking.specs.Table.{withValid, validUnder, Grown, Sets, Bounded, spoilt, Adds, Blank, Shows, either, Lowered, Spreads};
 
 // mask, with bit c set where schedule s is valid by the unions.

@@ -12,8 +12,7 @@ use Rattle.model.specs.declared.Write.{Write}
 use Rattle.model.specs.Rules.{labelOf, stands, dependsOn}
 use Rattle.model.specs.Cyclic.{ruleAt}
 use Rattle.rules.specs.declared.Rules.{Rules}
-use Rattle.rules.proofs.Steps.{itemAt}
-use Rattle.cache.specs.Needs.{needs}
+use Rattle.rules.specs.Held.{itemAt}
 use Rattle.masks.specs.declared.Epochs.{Epochs}
 use Rattle.cache.specs.State.{acceptedCount, writeIn}
 

@@ -10,7 +10,7 @@ use Rattle.relation.specs.Lists.{any, all, anyBelow}
 use Rattle.relation.specs.Transitive.{Ring}
 use Rattle.relation.specs.Finite.{rowsOf, related, closed, hasRing}
 use Rattle.model.specs.declared.Rule.{Rule}
-use Rattle.model.specs.Rules.{Label, DependsOn}
+use Rattle.model.specs.Rules.{DependsOn}
 
 -- *cyclic*: labels, with whole-number epochs, can form a ring of one or more, each depending on the next
 unfoldable pub Cyclic : List Rule → Type 0

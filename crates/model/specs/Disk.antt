@@ -1,8 +1,8 @@
 -- Blocks and disks.
 use Prim.Native.Nat.{ℕ, _+_, _*_, _/_, _%_}
-use mathlib.Core.Bool.{Bool, not}
+use mathlib.Core.Bool.{Bool}
 use mathlib.Core.List.{List}
-use lib.ListN.{getD, replicate, set}
+use lib.ListN.{getD, replicate}
 use lib.Dec.{eqb}
 
 -- *block*: two 16-bit numbers (first, second), here as one number

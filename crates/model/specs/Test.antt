@@ -1,8 +1,7 @@
 -- Tests, and what the judge counts.
 use Prim.Native.Nat.{ℕ, zero, suc, _+_, _^_, _<_}
-use mathlib.Core.Path.{_≡_}
-use mathlib.Core.Bool.{Bool, cond, not, _&&_, _||_}
-use mathlib.Core.List.{List, []}
+use mathlib.Core.Bool.{Bool, cond, not, _&&_}
+use mathlib.Core.List.{List}
 use lib.ListN.{length}
 use Rattle.relation.specs.Lists.{allBelow}
 use Rattle.model.specs.declared.Write.{Write}

@@ -15,7 +15,7 @@ ghost use Rattle.cache.specs.Needs.{needs};
 ghost use Rattle.cache.specs.State.{acceptedCount, writeIn, writesIn};
 ghost use Rattle.masks.specs.Masks.{secondMask, standingBy, withRule, pairedBy, Compared};
 
-// Those that stand to it as a predicate says.
+// Of the writes whose epochs were compared with one, those that stand to it as a predicate says.
 fn standing(epochs: Epochs, p: u8) -> u64
     ensures { λ r. ⌜ r ≡ standingBy epochs p ⌝ }
 {

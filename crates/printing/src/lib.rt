@@ -3,13 +3,13 @@ use format::Scan;
 use judging::Judged;
 ghost use mathlib.Core.Path.{_≡_};
 ghost use mathlib.Core.Bool.{cond};
-ghost use Prim.Native.Nat.{_+_, _*_, _<_, _≤_};
+ghost use Prim.Native.Nat.{_+_, _<_, _≤_};
 ghost use lib.Dec.{eqb};
 ghost use lib.ListN.{length};
 ghost use Rattle.judging.specs.Judge.{caseIn};
 ghost use Rattle.writing.specs.Writing.{Wrote};
 ghost use Rattle.printing.specs.Decimal.{decimal};
-ghost use Rattle.printing.specs.Lines.{refusedLine, testLine, lineOf, caseLines, programText, holdsText, failsText, refusedText};
+ghost use Rattle.printing.specs.Lines.{refusedLine, testLine, lineOf, caseLines, programText, holdsText, failsText};
 
 // A number in decimal.
 fn put_decimal(out: &mut [u8], at: usize, n: u64) -> usize

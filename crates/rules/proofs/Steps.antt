@@ -19,17 +19,13 @@ use Rattle.model.specs.declared.Rule.{Rule}
 use Rattle.model.specs.Rules.{Label, stands, matches, dependsOn}
 use Rattle.model.specs.Cyclic.{noRule, ruleAt, leads, has, equalLeads, meets, cyclic}
 use Rattle.rules.specs.declared.Rules.{Rules}
-use Rattle.rules.specs.Held.{rulesOf, links, linked, meetsBy, meetsFrom}
+use Rattle.rules.specs.Held.{itemAt, rulesOf, links, linked, meetsBy, meetsFrom}
 
 -- ---- the rules that are held
 
 -- what owning an array of structs in a struct tells of its length
 pub length-mapped : (X Y : Type 0) (f : X → Y) (l : List X) (n : ℕ) → length (map f l) ≡ n → length l ≡ n
 length-mapped X Y f l n e = sym (length-map l f) ∙ e
-
--- rule i of those that are held, as the code reads it
-abbrev pub itemAt : Rules → ℕ → Rule
-itemAt rules i = getD (rules .items) i (record { first = 0; predicate = 0; second = 0 })
 
 module _ (rules : Rules) where
   held-length : length (rules .items) ≡ 32 → rules .count ≤ 32 → length (rulesOf rules) ≡ rules .count

@@ -3,7 +3,7 @@ use Prim.Native.Nat.{ℕ}
 use mathlib.Core.Bool.{Bool, true, false, _&&_}
 use mathlib.Core.List.{List}
 use lib.Dec.{eqb}
-use lib.ListN.{length, take}
+use lib.ListN.{length, getD, take}
 use Rattle.relation.specs.Lists.{anyBelow}
 use Rattle.relation.specs.Finite.{related}
 use Rattle.model.specs.declared.Rule.{Rule}
@@ -13,6 +13,10 @@ use Rattle.rules.specs.declared.Rules.{Rules}
 -- the rules that are held
 abbrev pub rulesOf : Rules → List Rule
 rulesOf rules = take (rules .count) (rules .items)
+
+-- rule i of those that are held, as the code reads it
+abbrev pub itemAt : Rules → ℕ → Rule
+itemAt rules i = getD (rules .items) i (record { first = 0; predicate = 0; second = 0 })
 
 -- rule a leads to rule b; where so asked, both are = rules
 unfoldable pub links : Bool → Rule → Rule → Bool

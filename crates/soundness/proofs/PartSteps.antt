@@ -1,4 +1,4 @@
--- The steps of the tests that soundness is made of: flags, zero bytes, known predicates, covered rows. One law for each return and each turn of a loop.
+-- Known predicates and covered rows: one law for each return and each turn of a loop.
 use mathlib.Core.Path.{_≡_, refl, sym, _∙_}
 use mathlib.Core.Bool.{Bool, true, false}
 use mathlib.Core.List.{[], _∷_}
@@ -18,7 +18,8 @@ use Rattle.model.specs.Rules.{known}
 use Rattle.model.specs.Cyclic.{noRule}
 use Rattle.rules.specs.declared.Rules.{Rules}
 use Rattle.rules.specs.Held.{rulesOf}
-use Rattle.rules.proofs.Steps.{length-mapped, itemAt}
+use Rattle.rules.proofs.Steps.{length-mapped}
+use Rattle.rules.specs.Held.{itemAt}
 use Rattle.relation.specs.Union.{partOf}
 use Rattle.soundness.specs.Parts.{covered}
 use Rattle.layout.proofs.LayoutSteps.{all-begun, all-done, all-more, all-stop}

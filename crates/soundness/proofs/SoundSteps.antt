@@ -1,4 +1,4 @@
--- From the parts to soundness: the laws of `has_layout`, `needs_hold` and `is_sound`, one for each return.
+-- The laws of `needs_hold` and `is_sound`: the tables and masks of the code against the definition.
 use mathlib.Core.Path.{_≡_, sym, ap, _∙_}
 use mathlib.Core.Bool.{Bool, true, false, not, false≢true, _&&_, _||_}
 use mathlib.Core.List.{List}

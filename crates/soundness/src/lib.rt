@@ -1,4 +1,4 @@
-// Sound states of the cache: the layout, the counts, and whether stored writes need only stored ones.
+// Sound states of the cache: known predicates, acyclic rules, counts, and what stored writes need.
 use rules::Rules;
 ghost use mathlib.Core.Path.{_≡_};
 ghost use Prim.Native.Nat.{_<_, _≤_};

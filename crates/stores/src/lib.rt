@@ -1,4 +1,4 @@
-// What a step writes: one block of the disk, and the write's flag.
+// What is written to disk and state: numbers, one block, a write's flag.
 use model::Write;
 ghost use mathlib.Core.Path.{_≡_};
 ghost use Prim.Native.Nat.{_+_, _<_, _≤_};

@@ -1,4 +1,5 @@
--- What the routines give back: the answer in one number, and the lent bytes afterwards.
+-- What the cache's routines give back: the answer in one number, the lent bytes afterwards, and the refusals of open, hand-in, step and drain as
+-- one number each.
 use Prim.Native.Nat.{ℕ}
 use mathlib.Core.Bool.{Bool, cond, not, _&&_}
 use mathlib.Core.List.{List, [], _∷_, _++_}

@@ -1,5 +1,4 @@
 // A step and a drain of the cache: the earliest write whose needs are all stored, stored and marked.
-use model::Write;
 ghost use mathlib.Core.Path.{_≡_};
 ghost use mathlib.Core.Bool.{true, cond, not, _&&_};
 ghost use Prim.Native.Nat.{_-_, _<_, _≤_};

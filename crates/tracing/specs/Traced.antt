@@ -5,7 +5,6 @@ use lib.Dec.{eqb, ltb}
 use lib.ListN.{length}
 use Rattle.relation.specs.Lists.{anyBelow}
 use mathlib.Core.List.{List, [], _∷_, _++_}
-use Rattle.model.specs.declared.Write.{Write}
 use Rattle.model.specs.Answer.{coded}
 use Rattle.format.specs.Bytes.{word, writeBytes}
 use Rattle.format.specs.Encode.{fieldBytes}

@@ -1,13 +1,11 @@
 // Traces of puts: one whole test of the reading log, written into a lent buffer.
 use model::Write;
 ghost use mathlib.Core.Path.{_≡_};
-ghost use Prim.Native.Nat.{_+_, _*_, _/_, _<_, _≤_};
-ghost use lib.ListN.{length, take};
-ghost use Rattle.relation.specs.Lists.{any};
-ghost use Rattle.format.specs.Bytes.{word, writeBytes};
-ghost use Rattle.format.specs.Encode.{fieldBytes, writeFields};
+ghost use Prim.Native.Nat.{_+_, _*_, _<_, _≤_};
+ghost use lib.ListN.{length};
+ghost use Rattle.format.specs.Bytes.{writeBytes};
+ghost use Rattle.format.specs.Encode.{fieldBytes};
 ghost use Rattle.writing.specs.Writing.{Wrote};
-ghost use Rattle.log.specs.Puts.{log, writesOf, putsOf, emptyPut};
 ghost use Rattle.tracing.specs.Traced.{putFields, programFields, emptyBelow, endFields, sizeOf, testFields, traceFault, traceOut, traceAnswer};
 
 // A write's field with a tag.

@@ -1,7 +1,6 @@
 -- The answers of judge and verdict in one number each.
 use Prim.Native.Nat.{ℕ, _+_, _*_}
 use mathlib.Core.Path.{_≡_}
-use mathlib.Core.List.{List}
 use Rattle.model.specs.Answer.{Outcome, answer, refused, refusal}
 use Rattle.counting.specs.declared.Judgement.{Judgement}
 use Rattle.counting.specs.declared.Verdict.{Verdict}

@@ -8,39 +8,30 @@ use Rattle.checks.proofs.pair_holds.Reads as pair-holds-reads
 use Rattle.checks.proofs.pointer_holds.Reads as pointer-holds-reads
 use Rattle.checks.proofs.range_at.Reads as range-at-reads
 
--- src/lib.rt:120:22
 enum-known-c : tie.Need-enum-known-c
 enum-known-c c = search checking
 
--- src/lib.rt:120:28
 range-at-requires : tie.Need-range-at-requires
 range-at-requires c κs = search checking
 
--- src/lib.rt:121:23
 enum-known-c-2 : tie.Need-enum-known-c-2
 enum-known-c-2 c = search checking
 
--- src/lib.rt:121:39
 pair-holds-requires : tie.Need-pair-holds-requires
 pair-holds-requires c κs = search checking
 
--- src/lib.rt:122:24
 enum-known-c-3 : tie.Need-enum-known-c-3
 enum-known-c-3 c = search checking
 
--- src/lib.rt:122:30
 pointer-holds-requires : tie.Need-pointer-holds-requires
 pointer-holds-requires c κs = search checking
 
--- src/lib.rt:116:1
 returns : tie.Need-returns
 returns c = search checking
 
--- src/lib.rt:116:1
 returns-2 : tie.Need-returns-2
 returns-2 c = search checking
 
--- src/lib.rt:116:1
 returns-3 : tie.Need-returns-3
 returns-3 c = search checking
 

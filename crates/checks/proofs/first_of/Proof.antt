@@ -7,11 +7,9 @@ use Rattle.checks.proofs.first_of.Tie as tie
 use Rattle.checks.proofs.first_of.Reads as reads
 use Rattle.checks.proofs.first_of.Lts as lts
 
--- src/lib.rt:59:5
 cast-result : tie.Need-cast-result
 cast-result c = search needs
 
--- src/lib.rt:56:1
 returns : tie.Need-returns
 unfolding firstOf
 returns c = (refl, omega arith)

@@ -16,39 +16,30 @@ Inv-loop disk n checks i₀ i = (i ≤ n) × (consistent (take i checks) disk �
 abbrev μ-loop : tie.MeasureT-loop
 μ-loop disk n checks i₀ i = n - i
 
--- src/lib.rt:132:5
 loop-holds : tie.Need-loop-holds Inv-loop μ-loop
 loop-holds c = search checking
 
--- src/lib.rt:133:17
 mul-c : tie.Need-mul-c Inv-loop μ-loop
 mul-c c = search checking
 
--- src/lib.rt:133:17
 array-copy-out-c : tie.Need-array-copy-out-c Inv-loop μ-loop
 array-copy-out-c c = search checking
 
--- src/lib.rt:134:13
 check-holds-requires : tie.Need-check-holds-requires Inv-loop μ-loop
 check-holds-requires c κs = search checking
 
--- src/lib.rt:135:13
 returns : tie.Need-returns Inv-loop μ-loop
 returns c = search checking
 
--- src/lib.rt:137:9
 add-i : tie.Need-add-i Inv-loop μ-loop
 add-i c = search checking
 
--- src/lib.rt:132:5
 loop-less : tie.Need-loop-less Inv-loop μ-loop
 loop-less c = search checking
 
--- src/lib.rt:132:5
 loop-again : tie.Need-loop-again Inv-loop μ-loop
 loop-again c = search checking
 
--- src/lib.rt:127:1
 returns-2 : tie.Need-returns-2 Inv-loop μ-loop
 returns-2 c = search checking
 

@@ -6,28 +6,22 @@ use Rattle.checks.proofs.pair_holds.Tie as tie
 use Rattle.checks.proofs.pair_holds.Reads as reads
 use Rattle.checks.proofs.pair_holds.Lts as lts
 
--- src/lib.rt:95:8
 mul-if1 : tie.Need-mul-if1
 mul-if1 c = search cases
 
--- src/lib.rt:95:8
 element-copy-out-if1 : tie.Need-element-copy-out-if1
 element-copy-out-if1 c = search cases
 
--- src/lib.rt:96:16
 mul-result : tie.Need-mul-result
 mul-result c = search cases
 
--- src/lib.rt:96:16
 element-copy-out-result : tie.Need-element-copy-out-result
 element-copy-out-result c = search cases
 
--- src/lib.rt:96:9
 returns : tie.Need-returns
 unfolding holds
 returns c = search cases
 
--- src/lib.rt:92:1
 returns-2 : tie.Need-returns-2
 unfolding holds
 returns-2 c = search cases

@@ -6,35 +6,27 @@ use Rattle.checks.proofs.pointer_holds.Reads as reads
 use Rattle.checks.proofs.pointer_holds.Lts as lts
 use Rattle.checks.proofs.second_of.Reads as second-of-reads
 
--- src/lib.rt:104:13
 mul-b : tie.Need-mul-b
 mul-b c = search checking
 
--- src/lib.rt:104:13
 element-copy-out-b : tie.Need-element-copy-out-b
 element-copy-out-b c = search checking
 
--- src/lib.rt:106:9
 returns : tie.Need-returns
 returns c = search checking
 
--- src/lib.rt:108:9
 second-of-requires : tie.Need-second-of-requires
 second-of-requires c κs = search checking
 
--- src/lib.rt:110:9
 returns-2 : tie.Need-returns-2
 returns-2 c = search checking
 
--- src/lib.rt:112:5
 mul-result : tie.Need-mul-result
 mul-result c = search checking
 
--- src/lib.rt:112:5
 element-copy-out-result : tie.Need-element-copy-out-result
 element-copy-out-result c = search checking
 
--- src/lib.rt:101:1
 returns-3 : tie.Need-returns-3
 returns-3 c = search checking
 

@@ -11,43 +11,33 @@ Inv-loop disk head tail k₀ k = (head < tail) × (tail ≤ 256) × (head ≤ k)
 abbrev μ-loop : tie.MeasureT-loop
 μ-loop disk head tail k₀ k = tail - k
 
--- src/lib.rt:57:9
 returns : tie.Need-returns Inv-loop μ-loop
 returns c = search checking
 
--- src/lib.rt:60:9
 returns-2 : tie.Need-returns-2 Inv-loop μ-loop
 returns-2 c = search checking
 
--- src/lib.rt:63:5
 loop-holds : tie.Need-loop-holds Inv-loop μ-loop
 loop-holds c = search checking
 
--- src/lib.rt:64:12
 mul-if3 : tie.Need-mul-if3 Inv-loop μ-loop
 mul-if3 c = search checking
 
--- src/lib.rt:64:12
 element-copy-out-if3 : tie.Need-element-copy-out-if3 Inv-loop μ-loop
 element-copy-out-if3 c = search checking
 
--- src/lib.rt:65:13
 returns-3 : tie.Need-returns-3 Inv-loop μ-loop
 returns-3 c = search checking
 
--- src/lib.rt:67:9
 add-k : tie.Need-add-k Inv-loop μ-loop
 add-k c = search checking
 
--- src/lib.rt:63:5
 loop-less : tie.Need-loop-less Inv-loop μ-loop
 loop-less c = search checking
 
--- src/lib.rt:63:5
 loop-again : tie.Need-loop-again Inv-loop μ-loop
 loop-again c = search checking
 
--- src/lib.rt:53:1
 returns-4 : tie.Need-returns-4 Inv-loop μ-loop
 returns-4 c = search checking
 

@@ -7,11 +7,9 @@ use Rattle.checks.proofs.second_of.Tie as tie
 use Rattle.checks.proofs.second_of.Reads as reads
 use Rattle.checks.proofs.second_of.Lts as lts
 
--- src/lib.rt:65:5
 cast-result : tie.Need-cast-result
 cast-result c = search needs
 
--- src/lib.rt:62:1
 returns : tie.Need-returns
 unfolding secondOf
 returns c = (refl, omega arith)

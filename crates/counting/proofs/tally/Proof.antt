@@ -4,23 +4,18 @@ use Rattle.counting.proofs.tally.Tie as tie
 use Rattle.counting.proofs.tally.Reads as reads
 use Rattle.counting.proofs.tally.Lts as lts
 
--- src/lib.rt:148:20
 add-t5 : tie.Need-add-t5
 add-t5 c = search counts
 
--- src/lib.rt:147:9
 returns : tie.Need-returns
 returns c = search counts
 
--- src/lib.rt:154:16
 add-t6 : tie.Need-add-t6
 add-t6 c = search counts
 
--- src/lib.rt:155:14
 add-t7 : tie.Need-add-t7
 add-t7 c = search counts
 
--- src/lib.rt:142:1
 returns-2 : tie.Need-returns-2
 returns-2 c = search counts
 

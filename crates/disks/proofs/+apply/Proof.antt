@@ -18,7 +18,6 @@ apply-at t = and 2 apply-kinds.ps (is 2 apply-kinds.ps μ-apply t) apply.Pre
 abbrev apply-below : ℕ → In 2 apply-kinds.ps
 apply-below t = and 2 apply-kinds.ps (falls 2 apply-kinds.ps _<_ μ-apply t) apply.Pre
 
--- src/lib.rt:48:43
 apply-mul-store-if : (t : ℕ) → apply-lts.Need-mul-store-if (
   store-if-reads.Asked,
   store-if-reads.Learnt,
@@ -27,7 +26,6 @@ apply-mul-store-if : (t : ℕ) → apply-lts.Need-mul-store-if (
 ) (apply-at t) apply.Post
 apply-mul-store-if t c = search steps
 
--- src/lib.rt:48:43
 apply-element-copy-out-store-if : (t : ℕ) → apply-lts.Need-element-copy-out-store-if (
   store-if-reads.Asked,
   store-if-reads.Learnt,
@@ -36,7 +34,6 @@ apply-element-copy-out-store-if : (t : ℕ) → apply-lts.Need-element-copy-out-
 ) (apply-at t) apply.Post
 apply-element-copy-out-store-if t c = search steps
 
--- src/lib.rt:48:9
 apply-store-if-requires : (t : ℕ) → apply-lts.Need-store-if-requires (
   store-if-reads.Asked,
   store-if-reads.Learnt,
@@ -45,7 +42,6 @@ apply-store-if-requires : (t : ℕ) → apply-lts.Need-store-if-requires (
 ) (apply-at t) apply.Post
 apply-store-if-requires t c κs = search steps
 
--- src/lib.rt:49:28
 apply-add-apply : (t : ℕ) → apply-lts.Need-add-apply (
   store-if-reads.Asked,
   store-if-reads.Learnt,
@@ -54,7 +50,6 @@ apply-add-apply : (t : ℕ) → apply-lts.Need-add-apply (
 ) (apply-at t) apply.Post
 apply-add-apply t c = search steps
 
--- src/lib.rt:49:35
 apply-sub-apply : (t : ℕ) → apply-lts.Need-sub-apply (
   store-if-reads.Asked,
   store-if-reads.Learnt,
@@ -63,7 +58,6 @@ apply-sub-apply : (t : ℕ) → apply-lts.Need-sub-apply (
 ) (apply-at t) apply.Post
 apply-sub-apply t c = search steps
 
--- src/lib.rt:49:9
 apply-apply-requires : (t : ℕ) → apply-lts.Need-apply-requires (
   store-if-reads.Asked,
   store-if-reads.Learnt,
@@ -72,7 +66,6 @@ apply-apply-requires : (t : ℕ) → apply-lts.Need-apply-requires (
 ) (apply-at t) apply.Post
 apply-apply-requires t c κs = search steps
 
--- src/lib.rt:43:1
 apply-returns : (t : ℕ) → apply-lts.Need-returns (
   store-if-reads.Asked,
   store-if-reads.Learnt,
@@ -81,7 +74,6 @@ apply-returns : (t : ℕ) → apply-lts.Need-returns (
 ) (apply-at t) apply.Post
 apply-returns t c = search steps
 
--- src/lib.rt:43:1
 apply-returns-2 : (t : ℕ) → apply-lts.Need-returns-2 (
   store-if-reads.Asked,
   store-if-reads.Learnt,

@@ -5,7 +5,6 @@ use Rattle.disks.proofs.address_of.Tie as tie
 use Rattle.disks.proofs.address_of.Reads as reads
 use Rattle.disks.proofs.address_of.Lts as lts
 
--- src/lib.rt:33:1
 returns : tie.Need-returns
 unfolding unpacked
 returns c = search needs

@@ -16,51 +16,39 @@ Inv-loop table₀ file at n i₀ table i = (i ≤ n) × (length table ≡ 64) ×
 abbrev μ-loop : tie.MeasureT-loop
 μ-loop table₀ file at n i₀ table i = n - i
 
--- src/lib.rt:26:5
 loop-holds : tie.Need-loop-holds Inv-loop μ-loop
 loop-holds c = search steps
 
--- src/lib.rt:27:53
 mul-write-at : tie.Need-mul-write-at Inv-loop μ-loop
 mul-write-at c = search steps
 
--- src/lib.rt:27:48
 add-write-at : tie.Need-add-write-at Inv-loop μ-loop
 add-write-at c = search steps
 
--- src/lib.rt:27:25
 write-at-requires : tie.Need-write-at-requires Inv-loop μ-loop
 write-at-requires c κs = search steps
 
--- src/lib.rt:27:20
 pack-requires : tie.Need-pack-requires Inv-loop μ-loop
 pack-requires c κs = search steps
 
--- src/lib.rt:27:9
 mul-table : tie.Need-mul-table Inv-loop μ-loop
 mul-table c = search steps
 
--- src/lib.rt:27:9
 slice-write-table : tie.Need-slice-write-table Inv-loop μ-loop
 slice-write-table c = search steps
 
--- src/lib.rt:28:9
 add-i : tie.Need-add-i Inv-loop μ-loop
 add-i c = search steps
 
--- src/lib.rt:26:5
 loop-less : tie.Need-loop-less Inv-loop μ-loop
 loop-less c = search steps
 
--- src/lib.rt:26:5
 loop-again : tie.Need-loop-again Inv-loop μ-loop
 loop-again c = search steps
 
--- src/lib.rt:21:1
 same-length : tie.Need-same-length Inv-loop μ-loop
 same-length c = search steps
 
--- src/lib.rt:21:1
 returns : tie.Need-returns Inv-loop μ-loop
 returns c = search steps
 

@@ -4,23 +4,18 @@ use Rattle.disks.proofs.pack.Tie as tie
 use Rattle.disks.proofs.pack.Reads as reads
 use Rattle.disks.proofs.pack.Lts as lts
 
--- src/lib.rt:17:5
 cast-result : tie.Need-cast-result
 cast-result c = search steps
 
--- src/lib.rt:17:5
 mul-result : tie.Need-mul-result
 mul-result c = search steps
 
--- src/lib.rt:17:37
 cast-result-2 : tie.Need-cast-result-2
 cast-result-2 c = search steps
 
--- src/lib.rt:17:5
 add-result : tie.Need-add-result
 add-result c = search steps
 
--- src/lib.rt:14:1
 returns : tie.Need-returns
 returns c = search steps
 

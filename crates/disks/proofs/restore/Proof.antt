@@ -12,55 +12,42 @@ Inv-loop disk₀ base table from n i₀ disk i = (i ≤ n) × Restoring table ba
 abbrev μ-loop : tie.MeasureT-loop
 μ-loop disk₀ base table from n i₀ disk i = n - i
 
--- src/lib.rt:66:5
 loop-holds : tie.Need-loop-holds Inv-loop μ-loop
 loop-holds c = search restoring
 
--- src/lib.rt:67:34
 add-address-of : tie.Need-add-address-of Inv-loop μ-loop
 add-address-of c = search restoring
 
--- src/lib.rt:67:28
 mul-address-of : tie.Need-mul-address-of Inv-loop μ-loop
 mul-address-of c = search restoring
 
--- src/lib.rt:67:28
 element-copy-out-address-of : tie.Need-element-copy-out-address-of Inv-loop μ-loop
 element-copy-out-address-of c = search restoring
 
--- src/lib.rt:67:13
 address-of-requires : tie.Need-address-of-requires Inv-loop μ-loop
 address-of-requires c κs = search restoring
 
--- src/lib.rt:68:19
 mul-disk : tie.Need-mul-disk Inv-loop μ-loop
 mul-disk c = search restoring
 
--- src/lib.rt:68:19
 element-copy-out-disk : tie.Need-element-copy-out-disk Inv-loop μ-loop
 element-copy-out-disk c = search restoring
 
--- src/lib.rt:68:9
 mul-disk-2 : tie.Need-mul-disk-2 Inv-loop μ-loop
 mul-disk-2 c = search restoring
 
--- src/lib.rt:68:9
 element-write-disk : tie.Need-element-write-disk Inv-loop μ-loop
 element-write-disk c = search restoring
 
--- src/lib.rt:69:9
 add-i : tie.Need-add-i Inv-loop μ-loop
 add-i c = search restoring
 
--- src/lib.rt:66:5
 loop-less : tie.Need-loop-less Inv-loop μ-loop
 loop-less c = search restoring
 
--- src/lib.rt:66:5
 loop-again : tie.Need-loop-again Inv-loop μ-loop
 loop-again c = search restoring
 
--- src/lib.rt:61:1
 returns : tie.Need-returns Inv-loop μ-loop
 returns c = search restoring
 

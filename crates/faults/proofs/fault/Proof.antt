@@ -11,91 +11,69 @@ use Rattle.faults.proofs.is_tag.Reads as is-tag-reads
 use Rattle.faults.proofs.out_of_order.Reads as out-of-order-reads
 use Rattle.faults.proofs.over_limit.Reads as over-limit-reads
 
--- src/lib.rt:145:16
 sub-left : tie.Need-sub-left
 sub-left c = search needs
 
--- src/lib.rt:147:9
 returns : tie.Need-returns
 returns c = search (needs, faults)
 
--- src/lib.rt:149:15
 shared-slice-read-tag : tie.Need-shared-slice-read-tag
 shared-slice-read-tag c = search needs
 
--- src/lib.rt:150:9
 is-tag-requires : tie.Need-is-tag-requires
 is-tag-requires c κs = search needs
 
--- src/lib.rt:151:9
 returns-2 : tie.Need-returns-2
 returns-2 c = search (needs, faults)
 
--- src/lib.rt:153:8
 out-of-order-requires : tie.Need-out-of-order-requires
 out-of-order-requires c κs = search needs
 
--- src/lib.rt:154:9
 returns-3 : tie.Need-returns-3
 returns-3 c = search (needs, faults)
 
--- src/lib.rt:156:8
 over-limit-requires : tie.Need-over-limit-requires
 over-limit-requires c κs = search needs
 
--- src/lib.rt:157:9
 returns-4 : tie.Need-returns-4
 returns-4 c = search (needs, faults)
 
--- src/lib.rt:159:9
 body-length-requires : tie.Need-body-length-requires
 body-length-requires c κs = search needs
 
--- src/lib.rt:160:19
 add-half-at : tie.Need-add-half-at
 add-half-at c = search needs
 
--- src/lib.rt:160:8
 half-at-requires : tie.Need-half-at-requires
 half-at-requires c κs = search needs
 
--- src/lib.rt:161:9
 returns-5 : tie.Need-returns-5
 returns-5 c = search (needs, faults)
 
--- src/lib.rt:163:13
 add-b : tie.Need-add-b
 add-b c = search needs
 
--- src/lib.rt:164:8
 sub-if6 : tie.Need-sub-if6
 sub-if6 c = search needs
 
--- src/lib.rt:165:9
 returns-6 : tie.Need-returns-6
 returns-6 c = search (needs, faults)
 
--- src/lib.rt:167:13
 add-e : tie.Need-add-e
 add-e c = search needs
 
--- src/lib.rt:168:21
 sub-body-fault : tie.Need-sub-body-fault
 sub-body-fault c = search needs
 
--- src/lib.rt:168:21
 part-body-fault-start : tie.Need-part-body-fault-start
 part-body-fault-start c = search needs
 
--- src/lib.rt:168:21
 part-body-fault-end : tie.Need-part-body-fault-end
 part-body-fault-end c = search needs
 
--- src/lib.rt:168:5
 body-fault-requires : tie.Need-body-fault-requires
 body-fault-requires c κs = search needs
 
--- src/lib.rt:141:1
 returns-7 : tie.Need-returns-7
 returns-7 c = search (needs, faults)
 

@@ -5,12 +5,10 @@ use Rattle.faults.proofs.is_check.Tie as tie
 use Rattle.faults.proofs.is_check.Reads as reads
 use Rattle.faults.proofs.is_check.Lts as lts
 
--- src/lib.rt:47:9
 returns : tie.Need-returns
 unfolding isCheck
 returns c = search cases depth 9
 
--- src/lib.rt:43:1
 returns-2 : tie.Need-returns-2
 unfolding isCheck
 returns-2 c = search cases depth 9

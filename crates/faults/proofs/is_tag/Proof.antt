@@ -5,12 +5,10 @@ use Rattle.faults.proofs.is_tag.Tie as tie
 use Rattle.faults.proofs.is_tag.Reads as reads
 use Rattle.faults.proofs.is_tag.Lts as lts
 
--- src/lib.rt:38:9
 returns : tie.Need-returns
 unfolding isTag
 returns c = search cases depth 9
 
--- src/lib.rt:34:1
 returns-2 : tie.Need-returns-2
 unfolding isTag
 returns-2 c = search cases depth 9

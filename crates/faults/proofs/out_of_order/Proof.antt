@@ -5,32 +5,26 @@ use Rattle.faults.proofs.out_of_order.Tie as tie
 use Rattle.faults.proofs.out_of_order.Reads as reads
 use Rattle.faults.proofs.out_of_order.Lts as lts
 
--- src/lib.rt:70:13
 returns : tie.Need-returns
 unfolding outOfOrder
 returns c = search cases depth 9
 
--- src/lib.rt:72:9
 returns-2 : tie.Need-returns-2
 unfolding outOfOrder
 returns-2 c = search cases depth 9
 
--- src/lib.rt:76:13
 returns-3 : tie.Need-returns-3
 unfolding outOfOrder
 returns-3 c = search cases depth 9
 
--- src/lib.rt:78:9
 returns-4 : tie.Need-returns-4
 unfolding outOfOrder
 returns-4 c = search cases depth 9
 
--- src/lib.rt:81:9
 returns-5 : tie.Need-returns-5
 unfolding outOfOrder
 returns-5 c = search cases depth 9
 
--- src/lib.rt:65:1
 returns-6 : tie.Need-returns-6
 unfolding outOfOrder
 returns-6 c = search cases depth 9

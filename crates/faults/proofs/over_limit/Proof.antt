@@ -7,21 +7,17 @@ use Rattle.faults.proofs.over_limit.Reads as reads
 use Rattle.faults.proofs.over_limit.Lts as lts
 use Rattle.faults.proofs.over_test.Reads as over-test-reads
 
--- src/lib.rt:105:9
 returns : tie.Need-returns
 unfolding overLimit
 returns c = search calls depth 9
 
--- src/lib.rt:108:9
 over-test-requires : tie.Need-over-test-requires
 over-test-requires c κs = search needs
 
--- src/lib.rt:108:9
 returns-2 : tie.Need-returns-2
 unfolding overLimit
 returns-2 c = search calls depth 9
 
--- src/lib.rt:101:1
 returns-3 : tie.Need-returns-3
 unfolding overLimit
 returns-3 c = search calls depth 9

@@ -7,26 +7,21 @@ use Rattle.faults.proofs.over_test.Reads as reads
 use Rattle.faults.proofs.over_test.Lts as lts
 use Rattle.faults.proofs.is_check.Reads as is-check-reads
 
--- src/lib.rt:90:9
 returns : tie.Need-returns
 unfolding overTest
 returns c = search calls depth 9
 
--- src/lib.rt:93:9
 returns-2 : tie.Need-returns-2
 unfolding overTest
 returns-2 c = search calls depth 9
 
--- src/lib.rt:95:8
 is-check-requires : tie.Need-is-check-requires
 is-check-requires c κs = search needs
 
--- src/lib.rt:96:9
 returns-3 : tie.Need-returns-3
 unfolding overTest
 returns-3 c = search calls depth 9
 
--- src/lib.rt:86:1
 returns-4 : tie.Need-returns-4
 unfolding overTest
 returns-4 c = search calls depth 9

@@ -6,16 +6,13 @@ use Rattle.faults.proofs.rule_fault.Tie as tie
 use Rattle.faults.proofs.rule_fault.Reads as reads
 use Rattle.faults.proofs.rule_fault.Lts as lts
 
--- src/lib.rt:118:12
 shared-slice-read-if1 : tie.Need-shared-slice-read-if1
 shared-slice-read-if1 c = search needs
 
--- src/lib.rt:119:9
 returns : tie.Need-returns
 unfolding ruleFault
 returns c = search cases depth 9
 
--- src/lib.rt:114:1
 returns-2 : tie.Need-returns-2
 unfolding ruleFault
 returns-2 c = search cases depth 9

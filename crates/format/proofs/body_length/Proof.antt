@@ -5,27 +5,22 @@ use Rattle.format.proofs.body_length.Tie as tie
 use Rattle.format.proofs.body_length.Reads as reads
 use Rattle.format.proofs.body_length.Lts as lts
 
--- src/lib.rt:57:9
 returns : tie.Need-returns
 unfolding bodyLength
 returns c = search cases depth 9
 
--- src/lib.rt:60:9
 returns-2 : tie.Need-returns-2
 unfolding bodyLength
 returns-2 c = search cases depth 9
 
--- src/lib.rt:63:9
 returns-3 : tie.Need-returns-3
 unfolding bodyLength
 returns-3 c = search cases depth 9
 
--- src/lib.rt:66:9
 returns-4 : tie.Need-returns-4
 unfolding bodyLength
 returns-4 c = search cases depth 9
 
--- src/lib.rt:53:1
 returns-5 : tie.Need-returns-5
 unfolding bodyLength
 returns-5 c = search cases depth 9

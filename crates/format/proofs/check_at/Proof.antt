@@ -7,39 +7,30 @@ use Rattle.format.proofs.check_at.Lts as lts
 use Rattle.format.proofs.body_length.Reads as body-length-reads
 use Rattle.format.proofs.read_check.Reads as read-check-reads
 
--- src/lib.rt:440:15
 shared-slice-read-tag : tie.Need-shared-slice-read-tag
 shared-slice-read-tag c = search needs
 
--- src/lib.rt:441:13
 add-b : tie.Need-add-b
 add-b c = search needs
 
--- src/lib.rt:442:17
 body-length-requires : tie.Need-body-length-requires
 body-length-requires c κs = search needs
 
--- src/lib.rt:442:13
 add-e : tie.Need-add-e
 add-e c = search needs
 
--- src/lib.rt:443:21
 sub-read-check : tie.Need-sub-read-check
 sub-read-check c = search needs
 
--- src/lib.rt:443:21
 part-read-check-start : tie.Need-part-read-check-start
 part-read-check-start c = search needs
 
--- src/lib.rt:443:21
 part-read-check-end : tie.Need-part-read-check-end
 part-read-check-end c = search needs
 
--- src/lib.rt:443:5
 read-check-requires : tie.Need-read-check-requires
 read-check-requires c κs = search needs
 
--- src/lib.rt:436:1
 returns : tie.Need-returns
 returns c = search fields
 

@@ -5,27 +5,21 @@ use Rattle.format.proofs.read_check.Reads as reads
 use Rattle.format.proofs.read_check.Lts as lts
 use Rattle.format.proofs.read_pair.Reads as read-pair-reads
 
--- src/lib.rt:409:29
 shared-slice-read-t5 : tie.Need-shared-slice-read-t5
 shared-slice-read-t5 c = search fields
 
--- src/lib.rt:409:9
 returns : tie.Need-returns
 returns c = search fields
 
--- src/lib.rt:412:9
 read-pair-requires : tie.Need-read-pair-requires
 read-pair-requires c κs = search fields
 
--- src/lib.rt:412:9
 returns-2 : tie.Need-returns-2
 returns-2 c = search fields
 
--- src/lib.rt:414:20
 shared-slice-read-t7 : tie.Need-shared-slice-read-t7
 shared-slice-read-t7 c = search fields
 
--- src/lib.rt:404:1
 returns-3 : tie.Need-returns-3
 returns-3 c = search fields
 

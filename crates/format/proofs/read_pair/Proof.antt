@@ -6,23 +6,18 @@ use Rattle.format.proofs.read_pair.Reads as reads
 use Rattle.format.proofs.read_pair.Lts as lts
 use Rattle.format.proofs.word_at.Reads as word-at-reads
 
--- src/lib.rt:397:12
 shared-slice-read-t3 : tie.Need-shared-slice-read-t3
 shared-slice-read-t3 c = search needs
 
--- src/lib.rt:398:12
 word-at-requires : tie.Need-word-at-requires
 word-at-requires c κs = search needs
 
--- src/lib.rt:399:12
 shared-slice-read-t6 : tie.Need-shared-slice-read-t6
 shared-slice-read-t6 c = search needs
 
--- src/lib.rt:400:12
 word-at-requires-2 : tie.Need-word-at-requires-2
 word-at-requires-2 c κs = search needs
 
--- src/lib.rt:392:1
 returns : tie.Need-returns
 unfolding checkOf
 returns c = rw (c .before .before .word-at .ensures, c .word-at2 .ensures)

@@ -6,19 +6,15 @@ use Rattle.format.proofs.read_rule.Tie as tie
 use Rattle.format.proofs.read_rule.Reads as reads
 use Rattle.format.proofs.read_rule.Lts as lts
 
--- src/lib.rt:374:16
 shared-slice-read-t3 : tie.Need-shared-slice-read-t3
 shared-slice-read-t3 c = search needs
 
--- src/lib.rt:375:20
 shared-slice-read-t5 : tie.Need-shared-slice-read-t5
 shared-slice-read-t5 c = search needs
 
--- src/lib.rt:376:17
 shared-slice-read-t7 : tie.Need-shared-slice-read-t7
 shared-slice-read-t7 c = search needs
 
--- src/lib.rt:369:1
 returns : tie.Need-returns
 unfolding ruleOf
 returns c = refl

@@ -6,23 +6,18 @@ use Rattle.format.proofs.read_write.Reads as reads
 use Rattle.format.proofs.read_write.Lts as lts
 use Rattle.format.proofs.word_at.Reads as word-at-reads
 
--- src/lib.rt:385:18
 shared-slice-read-t3 : tie.Need-shared-slice-read-t3
 shared-slice-read-t3 c = search needs
 
--- src/lib.rt:386:15
 shared-slice-read-t5 : tie.Need-shared-slice-read-t5
 shared-slice-read-t5 c = search needs
 
--- src/lib.rt:387:16
 word-at-requires : tie.Need-word-at-requires
 word-at-requires c κs = search needs
 
--- src/lib.rt:388:16
 word-at-requires-2 : tie.Need-word-at-requires-2
 word-at-requires-2 c κs = search needs
 
--- src/lib.rt:380:1
 returns : tie.Need-returns
 unfolding writeOf
 returns c = rw (c .before .word-at .ensures, c .word-at2 .ensures)

@@ -6,31 +6,24 @@ use Rattle.format.proofs.rule_at.Reads as reads
 use Rattle.format.proofs.rule_at.Lts as lts
 use Rattle.format.proofs.read_rule.Reads as read-rule-reads
 
--- src/lib.rt:422:13
 add-b : tie.Need-add-b
 add-b c = search needs
 
--- src/lib.rt:423:13
 add-e : tie.Need-add-e
 add-e c = search needs
 
--- src/lib.rt:424:15
 sub-read-rule : tie.Need-sub-read-rule
 sub-read-rule c = search needs
 
--- src/lib.rt:424:15
 part-read-rule-start : tie.Need-part-read-rule-start
 part-read-rule-start c = search needs
 
--- src/lib.rt:424:15
 part-read-rule-end : tie.Need-part-read-rule-end
 part-read-rule-end c = search needs
 
--- src/lib.rt:424:5
 read-rule-requires : tie.Need-read-rule-requires
 read-rule-requires c κs = search needs
 
--- src/lib.rt:418:1
 returns : tie.Need-returns
 returns c = search fields
 

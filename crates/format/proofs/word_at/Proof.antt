@@ -6,31 +6,24 @@ use Rattle.format.proofs.word_at.Reads as reads
 use Rattle.format.proofs.word_at.Lts as lts
 use Rattle.format.proofs.half_at.Reads as half-at-reads
 
--- src/lib.rt:365:6
 half-at-requires : tie.Need-half-at-requires
 half-at-requires c κs = search needs
 
--- src/lib.rt:365:6
 mul-result : tie.Need-mul-result
 mul-result c = search needs
 
--- src/lib.rt:365:41
 add-half-at : tie.Need-add-half-at
 add-half-at c = search needs
 
--- src/lib.rt:365:30
 half-at-requires-2 : tie.Need-half-at-requires-2
 half-at-requires-2 c κs = search needs
 
--- src/lib.rt:365:6
 add-result : tie.Need-add-result
 add-result c = search needs
 
--- src/lib.rt:365:5
 cast-result : tie.Need-cast-result
 cast-result c = search needs
 
--- src/lib.rt:361:1
 returns : tie.Need-returns
 returns c = search fields
 

@@ -6,31 +6,24 @@ use Rattle.format.proofs.write_at.Reads as reads
 use Rattle.format.proofs.write_at.Lts as lts
 use Rattle.format.proofs.read_write.Reads as read-write-reads
 
--- src/lib.rt:431:13
 add-b : tie.Need-add-b
 add-b c = search needs
 
--- src/lib.rt:432:13
 add-e : tie.Need-add-e
 add-e c = search needs
 
--- src/lib.rt:433:16
 sub-read-write : tie.Need-sub-read-write
 sub-read-write c = search needs
 
--- src/lib.rt:433:16
 part-read-write-start : tie.Need-part-read-write-start
 part-read-write-start c = search needs
 
--- src/lib.rt:433:16
 part-read-write-end : tie.Need-part-read-write-end
 part-read-write-end c = search needs
 
--- src/lib.rt:433:5
 read-write-requires : tie.Need-read-write-requires
 read-write-requires c κs = search needs
 
--- src/lib.rt:427:1
 returns : tie.Need-returns
 returns c = search fields
 

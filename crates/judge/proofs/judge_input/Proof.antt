@@ -9,43 +9,33 @@ use Rattle.judge.proofs.judge_input.Lts as lts
 use Rattle.io.proofs.write_all.Reads as write-all-reads
 use Rattle.printing.proofs.judge_lines.Reads as judge-lines-reads
 
--- src/main.rt:31:26
 slice-aggregate-write-all : tie.Need-slice-aggregate-write-all
 slice-aggregate-write-all c = search needs
 
--- src/main.rt:31:9
 write-all-requires : tie.Need-write-all-requires
 write-all-requires c κs = search needs
 
--- src/main.rt:32:9
 returns : tie.Need-returns
 returns c = search needs
 
--- src/main.rt:34:35
 slice-aggregate-judge-lines : tie.Need-slice-aggregate-judge-lines
 slice-aggregate-judge-lines c = sym (length-take-le _ _ (omega arith))
 
--- src/main.rt:34:9
 judge-lines-requires : tie.Need-judge-lines-requires
 judge-lines-requires c κs = search needs
 
--- src/main.rt:35:22
 slice-reshare-prefix-write-all : tie.Need-slice-reshare-prefix-write-all
 slice-reshare-prefix-write-all c = search needs
 
--- src/main.rt:35:22
 slice-aggregate-write-all-2 : tie.Need-slice-aggregate-write-all-2
 slice-aggregate-write-all-2 c = sym (length-take-le _ _ (omega arith))
 
--- src/main.rt:35:5
 write-all-requires-2 : tie.Need-write-all-requires-2
 write-all-requires-2 c κs = search needs
 
--- src/main.rt:27:1
 same-length : tie.Need-same-length
 same-length c = search needs
 
--- src/main.rt:27:1
 returns-2 : tie.Need-returns-2
 returns-2 c = search needs
 

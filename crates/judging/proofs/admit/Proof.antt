@@ -10,19 +10,15 @@ use Rattle.reader.proofs.from_zero.Reads as from-zero-reads
 use Rattle.reader.proofs.read.Reads as read-reads
 use Rattle.rules.proofs.is_cyclic.Reads as is-cyclic-reads
 
--- src/lib.rt:277:30
 from-zero-requires : tie.Need-from-zero-requires
 from-zero-requires c κs = search needs
 
--- src/lib.rt:277:11
 read-requires : tie.Need-read-requires
 read-requires c κs = search needs
 
--- src/lib.rt:278:26
 enum-known-rules : tie.Need-enum-known-rules
 enum-known-rules c = search needs
 
--- src/lib.rt:279:33
 file-rules-requires : tie.Need-file-rules-requires
 file-rules-requires c κs =
     let x = c .before .before .before .read in
@@ -30,7 +26,6 @@ file-rules-requires c κs =
     let e = c .before .rules .given .1 in
     (rules-most _ _ _ _ z (x .ensures .1) _ _ _ e, rules-inside _ _ _ _ z (x .ensures .1) _ _ _ e)
 
--- src/lib.rt:279:16
 is-cyclic-requires : tie.Need-is-cyclic-requires
 is-cyclic-requires c κs =
     let x = c .before .before .before .before .read in
@@ -38,27 +33,21 @@ is-cyclic-requires c κs =
     let n = c .file-rules .ensures .1 in
     omega arith
 
--- src/lib.rt:280:17
 returns : tie.Need-returns
 returns c = search judges
 
--- src/lib.rt:286:17
 returns-2 : tie.Need-returns-2
 returns-2 c = search judges
 
--- src/lib.rt:292:17
 returns-3 : tie.Need-returns-3
 returns-3 c = search judges
 
--- src/lib.rt:299:25
 enum-known-number : tie.Need-enum-known-number
 enum-known-number c = search needs
 
--- src/lib.rt:274:1
 returns-4 : tie.Need-returns-4
 returns-4 c = search judges
 
--- src/lib.rt:274:1
 returns-5 : tie.Need-returns-5
 returns-5 c = search judges
 

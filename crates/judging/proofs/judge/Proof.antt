@@ -9,22 +9,18 @@ use Rattle.judging.proofs.admit.Reads as admit-reads
 use Rattle.judging.proofs.judge_test.Reads as judge-test-reads
 use Rattle.loading.proofs.file_rules.Reads as file-rules-reads
 
--- src/lib.rt:307:11
 admit-requires : tie.Need-admit-requires
 admit-requires c κs = search needs
 
--- src/lib.rt:308:22
 enum-known-rules : tie.Need-enum-known-rules
 enum-known-rules c = search needs
 
--- src/lib.rt:309:45
 file-rules-requires : tie.Need-file-rules-requires
 file-rules-requires c κs =
     let g = c .before .before .before .admit .ensures in
     let e = c .before .rules .given .1 in
     (open-rules _ _ _ g _ _ e, open-long _ _ _ g _ _ e)
 
--- src/lib.rt:309:28
 judge-test-requires : tie.Need-judge-test-requires
 judge-test-requires c κs =
     let g = c .before .before .before .before .admit .ensures in
@@ -33,15 +29,12 @@ judge-test-requires c κs =
     let n = c .file-rules .ensures .1 in
     (omega arith, open-inside _ _ _ g _ _ e)
 
--- src/lib.rt:311:22
 enum-known-number : tie.Need-enum-known-number
 enum-known-number c = search needs
 
--- src/lib.rt:304:1
 returns : tie.Need-returns
 returns c = search judges
 
--- src/lib.rt:304:1
 returns-2 : tie.Need-returns-2
 returns-2 c = search judges
 

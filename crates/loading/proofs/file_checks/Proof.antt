@@ -16,39 +16,30 @@ Inv-loop file from n checks₀ at₀ i₀ checks at i = (i ≤ n) × (length che
 abbrev μ-loop : tie.MeasureT-loop
 μ-loop file from n checks₀ at₀ i₀ checks at i = n - i
 
--- src/lib.rt:38:5
 loop-holds : tie.Need-loop-holds Inv-loop μ-loop
 loop-holds c = search steps
 
--- src/lib.rt:39:21
 check-at-requires : tie.Need-check-at-requires Inv-loop μ-loop
 check-at-requires c κs = search steps
 
--- src/lib.rt:39:9
 mul-checks : tie.Need-mul-checks Inv-loop μ-loop
 mul-checks c = search steps
 
--- src/lib.rt:39:9
 array-set-from-checks : tie.Need-array-set-from-checks Inv-loop μ-loop
 array-set-from-checks c = search steps
 
--- src/lib.rt:40:9
 end-of-requires : tie.Need-end-of-requires Inv-loop μ-loop
 end-of-requires c κs = search steps
 
--- src/lib.rt:41:9
 add-i : tie.Need-add-i Inv-loop μ-loop
 add-i c = search steps
 
--- src/lib.rt:38:5
 loop-less : tie.Need-loop-less Inv-loop μ-loop
 loop-less c = search steps
 
--- src/lib.rt:38:5
 loop-again : tie.Need-loop-again Inv-loop μ-loop
 loop-again c = search steps
 
--- src/lib.rt:31:1
 returns : tie.Need-returns Inv-loop μ-loop
 returns c = search steps
 

@@ -15,39 +15,30 @@ Inv-loop file n items₀ i₀ items i = (i ≤ n) × (length items ≡ 32) × (t
 abbrev μ-loop : tie.MeasureT-loop
 μ-loop file n items₀ i₀ items i = n - i
 
--- src/lib.rt:23:5
 loop-holds : tie.Need-loop-holds Inv-loop μ-loop
 loop-holds c = search steps
 
--- src/lib.rt:24:42
 mul-rule-at : tie.Need-mul-rule-at Inv-loop μ-loop
 mul-rule-at c = search steps
 
--- src/lib.rt:24:20
 rule-at-requires : tie.Need-rule-at-requires Inv-loop μ-loop
 rule-at-requires c κs = search steps
 
--- src/lib.rt:24:9
 mul-items : tie.Need-mul-items Inv-loop μ-loop
 mul-items c = search steps
 
--- src/lib.rt:24:9
 array-set-from-items : tie.Need-array-set-from-items Inv-loop μ-loop
 array-set-from-items c = search steps
 
--- src/lib.rt:25:9
 add-i : tie.Need-add-i Inv-loop μ-loop
 add-i c = search steps
 
--- src/lib.rt:23:5
 loop-less : tie.Need-loop-less Inv-loop μ-loop
 loop-less c = search steps
 
--- src/lib.rt:23:5
 loop-again : tie.Need-loop-again Inv-loop μ-loop
 loop-again c = search steps
 
--- src/lib.rt:13:1
 returns : tie.Need-returns Inv-loop μ-loop
 returns c = search steps
 

@@ -6,15 +6,12 @@ use Rattle.log.proofs.block_at.Reads as reads
 use Rattle.log.proofs.block_at.Lts as lts
 use Rattle.format.proofs.word_at.Reads as word-at-reads
 
--- src/lib.rt:13:27
 mul-word-at : tie.Need-mul-word-at
 mul-word-at c = search needs
 
--- src/lib.rt:13:5
 word-at-requires : tie.Need-word-at-requires
 word-at-requires c κs = search needs
 
--- src/lib.rt:9:1
 returns : tie.Need-returns
 returns c = search gets
 

@@ -16,39 +16,30 @@ Inv-loop disk key head tail a₀ a = (head ≤ a) × (a ≤ tail) × (getFrom di
 abbrev μ-loop : tie.MeasureT-loop
 μ-loop disk key head tail a₀ a = a
 
--- src/lib.rt:34:5
 loop-holds : tie.Need-loop-holds Inv-loop μ-loop
 loop-holds c = search gets
 
--- src/lib.rt:35:9
 sub-a : tie.Need-sub-a Inv-loop μ-loop
 sub-a c = search gets
 
--- src/lib.rt:36:12
 has-key-requires : tie.Need-has-key-requires Inv-loop μ-loop
 has-key-requires c κs = search gets
 
--- src/lib.rt:37:37
 block-at-requires : tie.Need-block-at-requires Inv-loop μ-loop
 block-at-requires c κs = search gets
 
--- src/lib.rt:37:20
 second-of-requires : tie.Need-second-of-requires Inv-loop μ-loop
 second-of-requires c κs = search gets
 
--- src/lib.rt:37:13
 returns : tie.Need-returns Inv-loop μ-loop
 returns c = search gets
 
--- src/lib.rt:34:5
 loop-less : tie.Need-loop-less Inv-loop μ-loop
 loop-less c = search gets
 
--- src/lib.rt:34:5
 loop-again : tie.Need-loop-again Inv-loop μ-loop
 loop-again c = search gets
 
--- src/lib.rt:29:1
 returns-2 : tie.Need-returns-2 Inv-loop μ-loop
 returns-2 c = search gets
 

@@ -10,43 +10,33 @@ use Rattle.log.proofs.block_at.Reads as block-at-reads
 use Rattle.log.proofs.find_key.Reads as find-key-reads
 use Rattle.model.proofs.refuse.Reads as refuse-reads
 
--- src/lib.rt:49:9
 refuse-requires : tie.Need-refuse-requires
 refuse-requires c κs = search needs
 
--- src/lib.rt:49:9
 returns : tie.Need-returns
 returns c = search gets
 
--- src/lib.rt:51:9
 block-at-requires : tie.Need-block-at-requires
 block-at-requires c κs = search needs
 
--- src/lib.rt:52:9
 first-of-requires : tie.Need-first-of-requires
 first-of-requires c κs = search needs
 
--- src/lib.rt:53:9
 second-of-requires : tie.Need-second-of-requires
 second-of-requires c κs = search needs
 
--- src/lib.rt:55:9
 returns-2 : tie.Need-returns-2
 returns-2 c = search gets
 
--- src/lib.rt:58:9
 refuse-requires-2 : tie.Need-refuse-requires-2
 refuse-requires-2 c κs = search needs
 
--- src/lib.rt:58:9
 returns-3 : tie.Need-returns-3
 returns-3 c = search gets
 
--- src/lib.rt:60:5
 find-key-requires : tie.Need-find-key-requires
 find-key-requires c κs = search needs
 
--- src/lib.rt:45:1
 returns-4 : tie.Need-returns-4
 returns-4 c = search gets
 

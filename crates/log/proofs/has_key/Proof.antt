@@ -7,19 +7,15 @@ use Rattle.log.proofs.has_key.Lts as lts
 use Rattle.checks.proofs.first_of.Reads as first-of-reads
 use Rattle.log.proofs.block_at.Reads as block-at-reads
 
--- src/lib.rt:21:9
 block-at-requires : tie.Need-block-at-requires
 block-at-requires c κs = search needs
 
--- src/lib.rt:23:9
 returns : tie.Need-returns
 returns c = search gets
 
--- src/lib.rt:25:5
 first-of-requires : tie.Need-first-of-requires
 first-of-requires c κs = search needs
 
--- src/lib.rt:17:1
 returns-2 : tie.Need-returns-2
 returns-2 c = search gets
 

@@ -11,72 +11,57 @@ use Rattle.printing.proofs.put_refused.Reads as put-refused-reads
 use Rattle.reader.proofs.read.Reads as read-reads
 use Rattle.rules.proofs.is_cyclic.Reads as is-cyclic-reads
 
--- src/lib.rt:122:11
 read-requires : tie.Need-read-requires
 read-requires c κs = search needs
 
--- src/lib.rt:124:13
 enum-known-rules : tie.Need-enum-known-rules
 enum-known-rules c = search needs
 
--- src/lib.rt:128:33
 file-rules-requires : tie.Need-file-rules-requires
 file-rules-requires c κs =
     let h = rules-fit _ _ (c .before .before .before .read .ensures .1) _ _ _ (c .before .rules .given .1) in
     (h .0, h .2)
 
--- src/lib.rt:128:16
 is-cyclic-requires : tie.Need-is-cyclic-requires
 is-cyclic-requires c κs =
     let h = rules-fit _ _ (c .before .before .before .before .read .ensures .1) _ _ _ (c .before .before .rules .given .1) .0 in
     let n = c .file-rules .ensures .1 in
     omega arith
 
--- src/lib.rt:129:17
 put-refused-requires : tie.Need-put-refused-requires
 put-refused-requires c κs = search needs
 
--- src/lib.rt:129:17
 same-length : tie.Need-same-length
 same-length c = search needs
 
--- src/lib.rt:129:17
 returns : tie.Need-returns
 returns c = search texts
 
--- src/lib.rt:131:13
 put-cases-requires : tie.Need-put-cases-requires
 put-cases-requires c κs =
     let h = rules-fit _ _ (c .before .before .before .before .before .before .before .read .ensures .1) _ _ _ (c .before .before .before .before .before .rules .given .1) .1 in
     (h, c .before .before .before .before .before .before .before .before .before .before .pre)
 
--- src/lib.rt:133:25
 enum-known-number : tie.Need-enum-known-number
 enum-known-number c = search needs
 
--- src/lib.rt:133:64
 cast-put-refused : tie.Need-cast-put-refused
 cast-put-refused c = search needs
 
--- src/lib.rt:133:44
 put-refused-requires-2 : tie.Need-put-refused-requires-2
 put-refused-requires-2 c κs =
     let l = c .before .before .before .before .before .before .before .pre in
     (omega arith, refusal-fits _ _ (c .before .before .before .before .read .ensures .1) _ _ (c .before .before .number .given .1))
 
--- src/lib.rt:118:1
 same-length-2 : tie.Need-same-length-2
 same-length-2 c = search needs
 
--- src/lib.rt:118:1
 returns-2 : tie.Need-returns-2
 returns-2 c = search texts
 
--- src/lib.rt:118:1
 same-length-3 : tie.Need-same-length-3
 same-length-3 c = search needs
 
--- src/lib.rt:118:1
 returns-3 : tie.Need-returns-3
 returns-3 c = search texts
 

@@ -7,31 +7,24 @@ use Rattle.printing.proofs.put_case.Lts as lts
 use Rattle.judging.proofs.judge.Reads as judge-reads
 use Rattle.printing.proofs.put_line.Reads as put-line-reads
 
--- src/lib.rt:97:11
 judge-requires : tie.Need-judge-requires
 judge-requires c κs = search needs
 
--- src/lib.rt:98:24
 enum-known-j : tie.Need-enum-known-j
 enum-known-j c = search needs
 
--- src/lib.rt:98:30
 put-line-requires : tie.Need-put-line-requires
 put-line-requires c κs = search texts
 
--- src/lib.rt:99:52
 enum-told : tie.Need-enum-told
 enum-told c = search needs
 
--- src/lib.rt:93:1
 same-length : tie.Need-same-length
 same-length c = search needs
 
--- src/lib.rt:93:1
 returns : tie.Need-returns
 returns c = search texts
 
--- src/lib.rt:93:1
 returns-2 : tie.Need-returns-2
 returns-2 c = search texts
 

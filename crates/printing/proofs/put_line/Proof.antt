@@ -9,43 +9,33 @@ use Rattle.writing.proofs.put.Reads as put-reads
 use Rattle.printing.proofs.put_number.Reads as put-number-reads
 use Rattle.printing.proofs.put_verdict.Reads as put-verdict-reads
 
--- src/lib.rt:82:9
 put-number-requires : tie.Need-put-number-requires
 put-number-requires c κs = search line-steps
 
--- src/lib.rt:83:9
 put-requires : tie.Need-put-requires
 put-requires c κs = search line-steps
 
--- src/lib.rt:84:9
 put-number-requires-2 : tie.Need-put-number-requires-2
 put-number-requires-2 c κs = search line-steps
 
--- src/lib.rt:85:9
 put-requires-2 : tie.Need-put-requires-2
 put-requires-2 c κs = search line-steps
 
--- src/lib.rt:86:9
 put-number-requires-3 : tie.Need-put-number-requires-3
 put-number-requires-3 c κs = search line-steps
 
--- src/lib.rt:87:9
 put-requires-3 : tie.Need-put-requires-3
 put-requires-3 c κs = search line-steps
 
--- src/lib.rt:88:9
 put-verdict-requires : tie.Need-put-verdict-requires
 put-verdict-requires c κs = search line-steps
 
--- src/lib.rt:89:5
 put-requires-4 : tie.Need-put-requires-4
 put-requires-4 c κs = search line-steps
 
--- src/lib.rt:78:1
 same-length : tie.Need-same-length
 same-length c = search line-steps
 
--- src/lib.rt:78:1
 returns : tie.Need-returns
 returns c =
     let w =

@@ -6,15 +6,12 @@ use Rattle.printing.proofs.put_number.Reads as reads
 use Rattle.printing.proofs.put_number.Lts as lts
 use Rattle.printing.proofs.put_decimal.Reads as put-decimal-reads
 
--- src/lib.rt:51:5
 put-decimal-requires : tie.Need-put-decimal-requires
 put-decimal-requires c κs = search line-steps
 
--- src/lib.rt:47:1
 same-length : tie.Need-same-length
 same-length c = search line-steps
 
--- src/lib.rt:47:1
 returns : tie.Need-returns
 returns c = search line-steps
 

@@ -9,39 +9,30 @@ use Rattle.writing.proofs.put.Reads as put-reads
 use Rattle.printing.proofs.put_number.Reads as put-number-reads
 use Rattle.printing.proofs.put_text.Reads as put-text-reads
 
--- src/lib.rt:59:31
 slice-aggregate-put-text : tie.Need-slice-aggregate-put-text
 slice-aggregate-put-text c = search line-steps
 
--- src/lib.rt:59:9
 put-text-requires : tie.Need-put-text-requires
 put-text-requires c κs = search line-steps
 
--- src/lib.rt:60:9
 put-requires : tie.Need-put-requires
 put-requires c κs = search line-steps
 
--- src/lib.rt:61:9
 put-number-requires : tie.Need-put-number-requires
 put-number-requires c κs = search line-steps
 
--- src/lib.rt:62:9
 put-requires-2 : tie.Need-put-requires-2
 put-requires-2 c κs = search line-steps
 
--- src/lib.rt:63:9
 put-number-requires-2 : tie.Need-put-number-requires-2
 put-number-requires-2 c κs = search line-steps
 
--- src/lib.rt:64:5
 put-requires-3 : tie.Need-put-requires-3
 put-requires-3 c κs = search line-steps
 
--- src/lib.rt:55:1
 same-length : tie.Need-same-length
 same-length c = search line-steps
 
--- src/lib.rt:55:1
 returns : tie.Need-returns
 returns c =
     let w =

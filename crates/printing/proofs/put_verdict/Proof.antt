@@ -6,35 +6,27 @@ use Rattle.printing.proofs.put_verdict.Reads as reads
 use Rattle.printing.proofs.put_verdict.Lts as lts
 use Rattle.printing.proofs.put_text.Reads as put-text-reads
 
--- src/lib.rt:72:34
 slice-aggregate-put-text : tie.Need-slice-aggregate-put-text
 slice-aggregate-put-text c = search line-steps
 
--- src/lib.rt:72:9
 put-text-requires : tie.Need-put-text-requires
 put-text-requires c κs = search line-steps
 
--- src/lib.rt:72:9
 same-length : tie.Need-same-length
 same-length c = search line-steps
 
--- src/lib.rt:72:9
 returns : tie.Need-returns
 returns c = search line-steps
 
--- src/lib.rt:74:23
 slice-aggregate-put-text-2 : tie.Need-slice-aggregate-put-text-2
 slice-aggregate-put-text-2 c = search line-steps
 
--- src/lib.rt:74:5
 put-text-requires-2 : tie.Need-put-text-requires-2
 put-text-requires-2 c κs = search line-steps
 
--- src/lib.rt:67:1
 same-length-2 : tie.Need-same-length-2
 same-length-2 c = search line-steps
 
--- src/lib.rt:67:1
 returns-2 : tie.Need-returns-2
 returns-2 c = search line-steps
 

@@ -8,19 +8,15 @@ use Rattle.reader.proofs.begin_at.Reads as begin-at-reads
 use Rattle.reader.proofs.count_field.Reads as count-field-reads
 use Rattle.reader.proofs.find_test.Reads as find-test-reads
 
--- src/lib.rt:293:17
 count-field-requires : tie.Need-count-field-requires
 count-field-requires c κs = search needs
 
--- src/lib.rt:294:15
 begin-at-requires : tie.Need-begin-at-requires
 begin-at-requires c κs = search needs
 
--- src/lib.rt:295:16
 find-test-requires : tie.Need-find-test-requires
 find-test-requires c κs = search needs
 
--- src/lib.rt:287:1
 returns : tie.Need-returns
 unfolding advanced
 returns c = rw (c .before .before .count-field .ensures, c .before .begin-at .ensures, c .find-test .ensures)

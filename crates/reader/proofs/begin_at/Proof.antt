@@ -6,17 +6,14 @@ use Rattle.reader.proofs.begin_at.Tie as tie
 use Rattle.reader.proofs.begin_at.Reads as reads
 use Rattle.reader.proofs.begin_at.Lts as lts
 
--- src/lib.rt:260:9
 returns : tie.Need-returns
 unfolding testFrom
 returns c = search cases depth 9
 
--- src/lib.rt:263:9
 returns-2 : tie.Need-returns-2
 unfolding testFrom
 returns-2 c = search cases depth 9
 
--- src/lib.rt:256:1
 returns-3 : tie.Need-returns-3
 unfolding testFrom
 returns-3 c = search cases depth 9

@@ -6,47 +6,37 @@ use Rattle.reader.proofs.count_field.Tie as tie
 use Rattle.reader.proofs.count_field.Reads as reads
 use Rattle.reader.proofs.count_field.Lts as lts
 
--- src/lib.rt:208:20
 add-t4 : tie.Need-add-t4
 add-t4 c = search needs
 
--- src/lib.rt:207:9
 returns : tie.Need-returns
 unfolding counted
 returns c = search cases depth 9
 
--- src/lib.rt:221:22
 add-t5 : tie.Need-add-t5
 add-t5 c = search needs
 
--- src/lib.rt:217:9
 returns-2 : tie.Need-returns-2
 unfolding counted
 returns-2 c = search cases depth 9
 
--- src/lib.rt:232:19
 add-t6 : tie.Need-add-t6
 add-t6 c = search needs
 
--- src/lib.rt:227:9
 returns-3 : tie.Need-returns-3
 unfolding counted
 returns-3 c = search cases depth 9
 
--- src/lib.rt:239:20
 add-t7 : tie.Need-add-t7
 add-t7 c = search needs
 
--- src/lib.rt:237:9
 returns-4 : tie.Need-returns-4
 unfolding counted
 returns-4 c = search cases depth 9
 
--- src/lib.rt:252:17
 add-t8 : tie.Need-add-t8
 add-t8 c = search needs
 
--- src/lib.rt:202:1
 returns-5 : tie.Need-returns-5
 unfolding counted
 returns-5 c = search cases depth 9

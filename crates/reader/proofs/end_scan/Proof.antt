@@ -6,12 +6,10 @@ use Rattle.reader.proofs.end_scan.Tie as tie
 use Rattle.reader.proofs.end_scan.Reads as reads
 use Rattle.reader.proofs.end_scan.Lts as lts
 
--- src/lib.rt:305:9
 returns : tie.Need-returns
 unfolding ended
 returns c = search cases depth 9
 
--- src/lib.rt:299:1
 returns-2 : tie.Need-returns-2
 unfolding ended
 returns-2 c = search cases depth 9

@@ -6,17 +6,14 @@ use Rattle.reader.proofs.find_test.Tie as tie
 use Rattle.reader.proofs.find_test.Reads as reads
 use Rattle.reader.proofs.find_test.Lts as lts
 
--- src/lib.rt:275:13
 returns : tie.Need-returns
 unfolding found
 returns c = search cases depth 9
 
--- src/lib.rt:282:9
 returns-2 : tie.Need-returns-2
 unfolding found
 returns-2 c = search cases depth 9
 
--- src/lib.rt:268:1
 returns-3 : tie.Need-returns-3
 unfolding found
 returns-3 c = search cases depth 9

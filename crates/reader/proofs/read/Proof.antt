@@ -19,52 +19,40 @@ Inv-loop s wanted st₀ at₀ st at = Going s wanted at st
 abbrev μ-loop : tie.MeasureT-loop
 μ-loop s wanted st₀ at₀ st at = length s - at
 
--- src/lib.rt:340:5
 loop-holds : tie.Need-loop-holds Inv-loop μ-loop
 unfolding started
 loop-holds c = search (reads-on, tells-of)
 
--- src/lib.rt:342:13
 fault-requires : tie.Need-fault-requires Inv-loop μ-loop
 fault-requires c κs = search (reads-on, tells-of)
 
--- src/lib.rt:344:13
 returns : tie.Need-returns Inv-loop μ-loop
 returns c = search (reads-on, tells-of)
 
--- src/lib.rt:349:19
 shared-slice-read-tag : tie.Need-shared-slice-read-tag Inv-loop μ-loop
 shared-slice-read-tag c = search (reads-on, tells-of)
 
--- src/lib.rt:350:20
 add-next : tie.Need-add-next Inv-loop μ-loop
 add-next c = search (reads-on, tells-of)
 
--- src/lib.rt:350:29
 body-length-requires : tie.Need-body-length-requires Inv-loop μ-loop
 body-length-requires c κs = search (reads-on, tells-of)
 
--- src/lib.rt:350:20
 add-next-2 : tie.Need-add-next-2 Inv-loop μ-loop
 add-next-2 c = search (reads-on, tells-of)
 
--- src/lib.rt:351:9
 advance-requires : tie.Need-advance-requires Inv-loop μ-loop
 advance-requires c κs = search (reads-on, tells-of)
 
--- src/lib.rt:340:5
 loop-less : tie.Need-loop-less Inv-loop μ-loop
 loop-less c = search (reads-on, tells-of)
 
--- src/lib.rt:340:5
 loop-again : tie.Need-loop-again Inv-loop μ-loop
 loop-again c = search (reads-on, tells-of)
 
--- src/lib.rt:354:5
 end-scan-requires : tie.Need-end-scan-requires Inv-loop μ-loop
 end-scan-requires c κs = search (reads-on, tells-of)
 
--- src/lib.rt:319:1
 returns-2 : tie.Need-returns-2 Inv-loop μ-loop
 returns-2 c = search (reads-on, tells-of)
 

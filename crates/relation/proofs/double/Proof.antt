@@ -15,51 +15,39 @@ Inv-loop table₀ i row size x₀ table x = (x ≤ size) × (size ≡ 2 ^ i) × 
 abbrev μ-loop : tie.MeasureT-loop
 μ-loop table₀ i row size x₀ table x = size - x
 
--- src/lib.rt:81:16
 shl-size : tie.Need-shl-size Inv-loop μ-loop
 shl-size c = search uniting
 
--- src/lib.rt:83:5
 loop-holds : tie.Need-loop-holds Inv-loop μ-loop
 loop-holds c = search uniting
 
--- src/lib.rt:84:27
 mul-table : tie.Need-mul-table Inv-loop μ-loop
 mul-table c = search uniting
 
--- src/lib.rt:84:27
 slice-read-table : tie.Need-slice-read-table Inv-loop μ-loop
 slice-read-table c = search uniting
 
--- src/lib.rt:84:15
 add-table : tie.Need-add-table Inv-loop μ-loop
 add-table c = search uniting
 
--- src/lib.rt:84:9
 mul-table-2 : tie.Need-mul-table-2 Inv-loop μ-loop
 mul-table-2 c = search uniting
 
--- src/lib.rt:84:9
 slice-write-table : tie.Need-slice-write-table Inv-loop μ-loop
 slice-write-table c = search uniting
 
--- src/lib.rt:85:9
 add-x : tie.Need-add-x Inv-loop μ-loop
 add-x c = search uniting
 
--- src/lib.rt:83:5
 loop-less : tie.Need-loop-less Inv-loop μ-loop
 loop-less c = search uniting
 
--- src/lib.rt:83:5
 loop-again : tie.Need-loop-again Inv-loop μ-loop
 loop-again c = search uniting
 
--- src/lib.rt:77:1
 same-length : tie.Need-same-length Inv-loop μ-loop
 same-length c = search uniting
 
--- src/lib.rt:77:1
 returns : tie.Need-returns Inv-loop μ-loop
 returns c = search uniting
 

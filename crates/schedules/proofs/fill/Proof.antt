@@ -17,51 +17,39 @@ Inv-loop rows₀ rules file at n i₀ rows i = (i ≤ n) × (length rows ≡ 64)
 abbrev μ-loop : tie.MeasureT-loop
 μ-loop rows₀ rules file at n i₀ rows i = n - i
 
--- src/lib.rt:66:5
 loop-holds : tie.Need-loop-holds Inv-loop μ-loop
 loop-holds c = search steps
 
--- src/lib.rt:67:45
 mul-write-at : tie.Need-mul-write-at Inv-loop μ-loop
 mul-write-at c = search steps
 
--- src/lib.rt:67:40
 add-write-at : tie.Need-add-write-at Inv-loop μ-loop
 add-write-at c = search steps
 
--- src/lib.rt:67:13
 write-at-requires : tie.Need-write-at-requires Inv-loop μ-loop
 write-at-requires c κs = search steps
 
--- src/lib.rt:68:19
 row-requires : tie.Need-row-requires Inv-loop μ-loop
 row-requires c κs = search steps
 
--- src/lib.rt:68:9
 mul-rows : tie.Need-mul-rows Inv-loop μ-loop
 mul-rows c = search steps
 
--- src/lib.rt:68:9
 slice-write-rows : tie.Need-slice-write-rows Inv-loop μ-loop
 slice-write-rows c = search steps
 
--- src/lib.rt:69:9
 add-i : tie.Need-add-i Inv-loop μ-loop
 add-i c = search steps
 
--- src/lib.rt:66:5
 loop-less : tie.Need-loop-less Inv-loop μ-loop
 loop-less c = search steps
 
--- src/lib.rt:66:5
 loop-again : tie.Need-loop-again Inv-loop μ-loop
 loop-again c = search steps
 
--- src/lib.rt:61:1
 same-length : tie.Need-same-length Inv-loop μ-loop
 same-length c = search steps
 
--- src/lib.rt:61:1
 returns : tie.Need-returns Inv-loop μ-loop
 returns c = search steps
 

@@ -6,19 +6,15 @@ use Rattle.schedules.proofs.initial_disk.Lts as lts
 use Rattle.disks.proofs.apply.Reads as apply-reads
 use Rattle.disks.proofs.load.Reads as load-reads
 
--- src/lib.rt:135:17
 slice-aggregate-load : tie.Need-slice-aggregate-load
 slice-aggregate-load c = search steps
 
--- src/lib.rt:135:5
 load-requires : tie.Need-load-requires
 load-requires c κs = search steps
 
--- src/lib.rt:137:5
 apply-requires : tie.Need-apply-requires
 apply-requires c κs = search steps
 
--- src/lib.rt:130:1
 returns : tie.Need-returns
 returns c = search steps
 

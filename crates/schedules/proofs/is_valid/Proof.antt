@@ -4,23 +4,18 @@ use Rattle.schedules.proofs.is_valid.Tie as tie
 use Rattle.schedules.proofs.is_valid.Reads as reads
 use Rattle.schedules.proofs.is_valid.Lts as lts
 
--- src/lib.rt:125:18
 mul-needed : tie.Need-mul-needed
 mul-needed c = search steps
 
--- src/lib.rt:125:18
 element-copy-out-needed : tie.Need-element-copy-out-needed
 element-copy-out-needed c = search steps
 
--- src/lib.rt:125:43
 mul-needed-2 : tie.Need-mul-needed-2
 mul-needed-2 c = search steps
 
--- src/lib.rt:125:43
 element-copy-out-needed-2 : tie.Need-element-copy-out-needed-2
 element-copy-out-needed-2 c = search steps
 
--- src/lib.rt:122:1
 returns : tie.Need-returns
 returns c = search steps
 

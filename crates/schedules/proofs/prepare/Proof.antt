@@ -6,31 +6,24 @@ use Rattle.schedules.proofs.prepare.Lts as lts
 use Rattle.schedules.proofs.fill.Reads as fill-reads
 use Rattle.relation.proofs.unite.Reads as unite-reads
 
--- src/lib.rt:116:10
 slice-aggregate-fill : tie.Need-slice-aggregate-fill
 slice-aggregate-fill c = search steps
 
--- src/lib.rt:116:5
 fill-requires : tie.Need-fill-requires
 fill-requires c κs = search steps
 
--- src/lib.rt:117:5
 unite-requires : tie.Need-unite-requires
 unite-requires c κs = search steps
 
--- src/lib.rt:118:5
 unite-requires-2 : tie.Need-unite-requires-2
 unite-requires-2 c κs = search steps
 
--- src/lib.rt:111:1
 same-length : tie.Need-same-length
 same-length c = search steps
 
--- src/lib.rt:111:1
 same-length-2 : tie.Need-same-length-2
 same-length-2 c = search steps
 
--- src/lib.rt:111:1
 returns : tie.Need-returns
 returns c = search steps
 

@@ -16,35 +16,27 @@ Inv-loop file at n name epoch rules mask₀ k₀ mask k = (k ≤ rules .count) �
 abbrev μ-loop : tie.MeasureT-loop
 μ-loop file at n name epoch rules mask₀ k₀ mask k = rules .count - k
 
--- src/lib.rt:90:5
 loop-holds : tie.Need-loop-holds Inv-loop μ-loop
 loop-holds c = search steps
 
--- src/lib.rt:91:32
 mul-rule-row : tie.Need-mul-rule-row Inv-loop μ-loop
 mul-rule-row c = search steps
 
--- src/lib.rt:91:32
 element-copy-out-rule-row : tie.Need-element-copy-out-rule-row Inv-loop μ-loop
 element-copy-out-rule-row c = search steps
 
--- src/lib.rt:91:23
 rule-row-requires : tie.Need-rule-row-requires Inv-loop μ-loop
 rule-row-requires c κs = search steps
 
--- src/lib.rt:92:9
 add-k : tie.Need-add-k Inv-loop μ-loop
 add-k c = search steps
 
--- src/lib.rt:90:5
 loop-less : tie.Need-loop-less Inv-loop μ-loop
 loop-less c = search steps
 
--- src/lib.rt:90:5
 loop-again : tie.Need-loop-again Inv-loop μ-loop
 loop-again c = search steps
 
--- src/lib.rt:84:1
 returns : tie.Need-returns Inv-loop μ-loop
 returns c = search steps
 

@@ -16,43 +16,33 @@ Inv-loop rule file at n name epoch mask₀ j₀ mask j = (j ≤ n) × (mask ≡ 
 abbrev μ-loop : tie.MeasureT-loop
 μ-loop rule file at n name epoch mask₀ j₀ mask j = n - j
 
--- src/lib.rt:71:9
 returns : tie.Need-returns Inv-loop μ-loop
 returns c = search steps
 
--- src/lib.rt:75:5
 loop-holds : tie.Need-loop-holds Inv-loop μ-loop
 loop-holds c = search steps
 
--- src/lib.rt:76:45
 mul-write-at : tie.Need-mul-write-at Inv-loop μ-loop
 mul-write-at c = search steps
 
--- src/lib.rt:76:40
 add-write-at : tie.Need-add-write-at Inv-loop μ-loop
 add-write-at c = search steps
 
--- src/lib.rt:76:13
 write-at-requires : tie.Need-write-at-requires Inv-loop μ-loop
 write-at-requires c κs = search steps
 
--- src/lib.rt:77:9
 with-match-requires : tie.Need-with-match-requires Inv-loop μ-loop
 with-match-requires c κs = search steps
 
--- src/lib.rt:78:9
 add-j : tie.Need-add-j Inv-loop μ-loop
 add-j c = search steps
 
--- src/lib.rt:75:5
 loop-less : tie.Need-loop-less Inv-loop μ-loop
 loop-less c = search steps
 
--- src/lib.rt:75:5
 loop-again : tie.Need-loop-again Inv-loop μ-loop
 loop-again c = search steps
 
--- src/lib.rt:66:1
 returns-2 : tie.Need-returns-2 Inv-loop μ-loop
 returns-2 c = search steps
 

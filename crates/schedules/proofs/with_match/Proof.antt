@@ -6,19 +6,15 @@ use Rattle.schedules.proofs.with_match.Lts as lts
 use Rattle.relation.proofs.with_bit.Reads as with-bit-reads
 use Rattle.rules.proofs.matches.Reads as matches-reads
 
--- src/lib.rt:59:8
 matches-requires : tie.Need-matches-requires
 matches-requires c κs = search steps
 
--- src/lib.rt:60:9
 with-bit-requires : tie.Need-with-bit-requires
 with-bit-requires c κs = search steps
 
--- src/lib.rt:60:9
 returns : tie.Need-returns
 returns c = search steps
 
--- src/lib.rt:55:1
 returns-2 : tie.Need-returns-2
 returns-2 c = search steps
 

@@ -15,35 +15,27 @@ Inv-loop program n i₀ i = (i ≤ n) × (emptyBelow program i ≡ false)
 abbrev μ-loop : tie.MeasureT-loop
 μ-loop program n i₀ i = n - i
 
--- src/lib.rt:69:5
 loop-holds : tie.Need-loop-holds Inv-loop μ-loop
 loop-holds c = search traces
 
--- src/lib.rt:70:37
 mul-word-at : tie.Need-mul-word-at Inv-loop μ-loop
 mul-word-at c = search traces
 
--- src/lib.rt:70:12
 word-at-requires : tie.Need-word-at-requires Inv-loop μ-loop
 word-at-requires c κs = search traces
 
--- src/lib.rt:71:13
 returns : tie.Need-returns Inv-loop μ-loop
 returns c = search traces
 
--- src/lib.rt:73:9
 add-i : tie.Need-add-i Inv-loop μ-loop
 add-i c = search traces
 
--- src/lib.rt:69:5
 loop-less : tie.Need-loop-less Inv-loop μ-loop
 loop-less c = search traces
 
--- src/lib.rt:69:5
 loop-again : tie.Need-loop-again Inv-loop μ-loop
 loop-again c = search traces
 
--- src/lib.rt:64:1
 returns-2 : tie.Need-returns-2 Inv-loop μ-loop
 returns-2 c = search traces
 

@@ -17,55 +17,42 @@ Inv-loop out₀ from tag program n tail epoch at₀ i₀ out at i = (i ≤ n) ×
 abbrev μ-loop : tie.MeasureT-loop
 μ-loop out₀ from tag program n tail epoch at₀ i₀ out at i = n - i
 
--- src/lib.rt:55:5
 loop-holds : tie.Need-loop-holds Inv-loop μ-loop
 loop-holds c = search traces
 
--- src/lib.rt:56:42
 mul-word-at : tie.Need-mul-word-at Inv-loop μ-loop
 mul-word-at c = search traces
 
--- src/lib.rt:56:13
 word-at-requires : tie.Need-word-at-requires Inv-loop μ-loop
 word-at-requires c κs = search traces
 
--- src/lib.rt:57:44
 cast-put-put : tie.Need-cast-put-put Inv-loop μ-loop
 cast-put-put c = search traces
 
--- src/lib.rt:57:36
 add-put-put : tie.Need-add-put-put Inv-loop μ-loop
 add-put-put c = search traces
 
--- src/lib.rt:57:63
 cast-put-put-2 : tie.Need-cast-put-put-2 Inv-loop μ-loop
 cast-put-put-2 c = search traces
 
--- src/lib.rt:57:54
 add-put-put-2 : tie.Need-add-put-put-2 Inv-loop μ-loop
 add-put-put-2 c = search traces
 
--- src/lib.rt:57:9
 put-put-requires : tie.Need-put-put-requires Inv-loop μ-loop
 put-put-requires c κs = search traces
 
--- src/lib.rt:58:9
 add-i : tie.Need-add-i Inv-loop μ-loop
 add-i c = search traces
 
--- src/lib.rt:55:5
 loop-less : tie.Need-loop-less Inv-loop μ-loop
 loop-less c = search traces
 
--- src/lib.rt:55:5
 loop-again : tie.Need-loop-again Inv-loop μ-loop
 loop-again c = search traces
 
--- src/lib.rt:49:1
 same-length : tie.Need-same-length Inv-loop μ-loop
 same-length c = search traces
 
--- src/lib.rt:49:1
 returns : tie.Need-returns Inv-loop μ-loop
 returns c = search traces
 

@@ -7,35 +7,27 @@ use Rattle.tracing.proofs.put_test.Lts as lts
 use Rattle.tracing.proofs.put_end.Reads as put-end-reads
 use Rattle.tracing.proofs.put_program.Reads as put-program-reads
 
--- src/lib.rt:127:9
 put-program-requires : tie.Need-put-program-requires
 put-program-requires c κs = search faults
 
--- src/lib.rt:128:55
 cast-put-program : tie.Need-cast-put-program
 cast-put-program c = search faults
 
--- src/lib.rt:128:50
 add-put-program : tie.Need-add-put-program
 add-put-program c = search faults
 
--- src/lib.rt:128:65
 cast-put-program-2 : tie.Need-cast-put-program-2
 cast-put-program-2 c = search faults
 
--- src/lib.rt:128:9
 put-program-requires-2 : tie.Need-put-program-requires-2
 put-program-requires-2 c κs = search faults
 
--- src/lib.rt:129:5
 put-end-requires : tie.Need-put-end-requires
 put-end-requires c κs = search faults
 
--- src/lib.rt:123:1
 same-length : tie.Need-same-length
 same-length c = search faults
 
--- src/lib.rt:123:1
 returns : tie.Need-returns
 returns c = search faults
 

@@ -8,27 +8,21 @@ use Rattle.model.proofs.refuse.Reads as refuse-reads
 use Rattle.tracing.proofs.put_test.Reads as put-test-reads
 use Rattle.tracing.proofs.trace_fault.Reads as trace-fault-reads
 
--- src/lib.rt:138:9
 trace-fault-requires : tie.Need-trace-fault-requires
 trace-fault-requires c κs = search faults
 
--- src/lib.rt:140:9
 refuse-requires : tie.Need-refuse-requires
 refuse-requires c κs = search faults
 
--- src/lib.rt:140:9
 returns : tie.Need-returns
 returns c = search faults
 
--- src/lib.rt:144:5
 put-test-requires : tie.Need-put-test-requires
 put-test-requires c κs = (search faults, (search faults, (search faults, (search faults, search faults))))
 
--- src/lib.rt:135:1
 same-length : tie.Need-same-length
 same-length c = search faults
 
--- src/lib.rt:135:1
 returns-2 : tie.Need-returns-2
 returns-2 c = search faults
 

@@ -8,59 +8,46 @@ use Rattle.tracing.proofs.trace_fault.Reads as reads
 use Rattle.tracing.proofs.trace_fault.Lts as lts
 use Rattle.tracing.proofs.has_empty.Reads as has-empty-reads
 
--- src/lib.rt:97:9
 returns : tie.Need-returns
 unfolding traceFault
 returns c = search calls
 
--- src/lib.rt:100:9
 returns-2 : tie.Need-returns-2
 unfolding traceFault
 returns-2 c = search calls
 
--- src/lib.rt:105:9
 returns-3 : tie.Need-returns-3
 unfolding traceFault
 returns-3 c = search calls
 
--- src/lib.rt:108:9
 returns-4 : tie.Need-returns-4
 unfolding traceFault
 returns-4 c = search calls
 
--- src/lib.rt:110:8
 has-empty-requires : tie.Need-has-empty-requires
 has-empty-requires c κs = search needs
 
--- src/lib.rt:111:9
 returns-5 : tie.Need-returns-5
 returns-5 c = search faults
 
--- src/lib.rt:113:8
 has-empty-requires-2 : tie.Need-has-empty-requires-2
 has-empty-requires-2 c κs = search needs
 
--- src/lib.rt:114:9
 returns-6 : tie.Need-returns-6
 returns-6 c = search faults
 
--- src/lib.rt:116:21
 add-if7 : tie.Need-add-if7
 add-if7 c = search needs
 
--- src/lib.rt:116:15
 mul-if7 : tie.Need-mul-if7
 mul-if7 c = search needs
 
--- src/lib.rt:116:15
 add-if7-2 : tie.Need-add-if7-2
 add-if7-2 c = search needs
 
--- src/lib.rt:117:9
 returns-7 : tie.Need-returns-7
 returns-7 c = search faults
 
--- src/lib.rt:93:1
 returns-8 : tie.Need-returns-8
 returns-8 c = search faults
 

@@ -7,23 +7,18 @@ use Rattle.workbench.proofs.code_of.Tie as tie
 use Rattle.workbench.proofs.code_of.Reads as reads
 use Rattle.workbench.proofs.code_of.Lts as lts
 
--- src/lib.rt:89:15
 mul-result : tie.Need-mul-result
 mul-result c = search needs
 
--- src/lib.rt:89:5
 add-result : tie.Need-add-result
 add-result c = search needs
 
--- src/lib.rt:89:33
 mul-result-2 : tie.Need-mul-result-2
 mul-result-2 c = search needs
 
--- src/lib.rt:89:5
 add-result-2 : tie.Need-add-result-2
 add-result-2 c = search needs
 
--- src/lib.rt:85:1
 returns : tie.Need-returns
 unfolding judgementCode
 returns c = refl

@@ -6,25 +6,20 @@ use Rattle.workbench.proofs.code_of_verdict.Tie as tie
 use Rattle.workbench.proofs.code_of_verdict.Reads as reads
 use Rattle.workbench.proofs.code_of_verdict.Lts as lts
 
--- src/lib.rt:109:27
 enum-told : tie.Need-enum-told
 enum-told c = search needs
 
--- src/lib.rt:110:24
 enum-known-v : tie.Need-enum-known-v
 enum-known-v c = search needs
 
--- src/lib.rt:110:30
 add-result : tie.Need-add-result
 add-result c =
     let l = fails-fits _ _ (c .before .v .given .1) (c .before .before .before .pre) in
     omega arith
 
--- src/lib.rt:104:1
 returns : tie.Need-returns
 returns c = search judged
 
--- src/lib.rt:104:1
 returns-2 : tie.Need-returns-2
 returns-2 c = search judged
 

@@ -10,46 +10,36 @@ use Rattle.model.proofs.refuse.Reads as refuse-reads
 use Rattle.reader.proofs.read.Reads as read-reads
 use Rattle.rules.proofs.is_cyclic.Reads as is-cyclic-reads
 
--- src/lib.rt:66:11
 read-requires : tie.Need-read-requires
 read-requires c κs = search needs
 
--- src/lib.rt:68:13
 enum-known-rules : tie.Need-enum-known-rules
 enum-known-rules c = search needs
 
--- src/lib.rt:72:33
 file-rules-requires : tie.Need-file-rules-requires
 file-rules-requires c κs = rules-fit _ 0 _ (c .before .before .before .read .ensures .1) _ _ _ (c .before .rules .given .1)
 
--- src/lib.rt:72:16
 is-cyclic-requires : tie.Need-is-cyclic-requires
 is-cyclic-requires c κs =
     let n = c .file-rules .ensures .1 in
     let l = rules-fit _ 0 _ (c .before .before .before .before .read .ensures .1) _ _ _ (c .before .before .rules .given .1) .0 in
     omega arith
 
--- src/lib.rt:73:17
 returns : tie.Need-returns
 returns c = search answers
 
--- src/lib.rt:77:25
 enum-known-number : tie.Need-enum-known-number
 enum-known-number c = search needs
 
--- src/lib.rt:77:58
 cast-refuse : tie.Need-cast-refuse
 cast-refuse c = search needs
 
--- src/lib.rt:77:44
 refuse-requires : tie.Need-refuse-requires
 refuse-requires c κs = refusal-fits _ 0 _ (c .before .before .before .read .ensures .1) _ _ (c .before .number .given .1)
 
--- src/lib.rt:62:1
 returns-2 : tie.Need-returns-2
 returns-2 c = search answers
 
--- src/lib.rt:62:1
 returns-3 : tie.Need-returns-3
 returns-3 c = search answers
 

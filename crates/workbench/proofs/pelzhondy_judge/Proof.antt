@@ -8,35 +8,27 @@ use Rattle.judging.proofs.judge.Reads as judge-reads
 use Rattle.model.proofs.refuse.Reads as refuse-reads
 use Rattle.workbench.proofs.code_of.Reads as code-of-reads
 
--- src/lib.rt:98:11
 judge-requires : tie.Need-judge-requires
 judge-requires c κs = search needs
 
--- src/lib.rt:99:24
 enum-known-j : tie.Need-enum-known-j
 enum-known-j c = search needs
 
--- src/lib.rt:99:30
 code-of-requires : tie.Need-code-of-requires
 code-of-requires c κs = counts-few _ (c .before .before .before .judge .ensures .1) _ (c .before .j .given .1)
 
--- src/lib.rt:100:27
 enum-known-number : tie.Need-enum-known-number
 enum-known-number c = search needs
 
--- src/lib.rt:100:60
 cast-refuse : tie.Need-cast-refuse
 cast-refuse c = search needs
 
--- src/lib.rt:100:46
 refuse-requires : tie.Need-refuse-requires
 refuse-requires c κs = refused-fits _ (c .before .before .before .judge .ensures .1) _ _ (c .before .number .given .1)
 
--- src/lib.rt:94:1
 returns : tie.Need-returns
 returns c = search judged
 
--- src/lib.rt:94:1
 returns-2 : tie.Need-returns-2
 returns-2 c = search judged
 

@@ -7,23 +7,18 @@ use Rattle.workbench.proofs.pelzhondy_judge_lines.Lts as lts
 use Rattle.model.proofs.refuse.Reads as refuse-reads
 use Rattle.printing.proofs.judge_lines.Reads as judge-lines-reads
 
--- src/lib.rt:134:9
 refuse-requires : tie.Need-refuse-requires
 refuse-requires c κs = search needs
 
--- src/lib.rt:134:9
 returns : tie.Need-returns
 returns c = search prints
 
--- src/lib.rt:136:5
 judge-lines-requires : tie.Need-judge-lines-requires
 judge-lines-requires c κs = search needs
 
--- src/lib.rt:129:1
 same-length : tie.Need-same-length
 same-length c = search needs
 
--- src/lib.rt:129:1
 returns-2 : tie.Need-returns-2
 returns-2 c = search prints
 

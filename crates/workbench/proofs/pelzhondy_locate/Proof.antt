@@ -10,57 +10,44 @@ use Rattle.reader.proofs.read.Reads as read-reads
 use Rattle.reader.proofs.from_zero.Reads as from-zero-reads
 use Rattle.workbench.proofs.pack.Reads as pack-reads
 
--- src/lib.rt:47:30
 from-zero-requires : tie.Need-from-zero-requires
 from-zero-requires c κs = search needs
 
--- src/lib.rt:47:11
 read-requires : tie.Need-read-requires
 read-requires c κs = search needs
 
--- src/lib.rt:48:36
 enum-known-tests : tie.Need-enum-known-tests
 enum-known-tests c = search needs
 
--- src/lib.rt:50:17
 refuse-requires : tie.Need-refuse-requires
 refuse-requires c κs = search needs
 
--- src/lib.rt:50:17
 returns : tie.Need-returns
 returns c = search answers
 
--- src/lib.rt:53:17
 refuse-requires-2 : tie.Need-refuse-requires-2
 refuse-requires-2 c κs = search needs
 
--- src/lib.rt:53:17
 returns-2 : tie.Need-returns-2
 returns-2 c = search answers
 
--- src/lib.rt:55:13
 pack-requires : tie.Need-pack-requires
 pack-requires c κs =
     packed _ _ _ (c .before .before .before .before .before .read .ensures .1) _ _ _ (c .before .before .before .tests .given .1)
     (omega (arith, c .before .before .before .before .before .before .from-zero .ensures))
 
--- src/lib.rt:57:25
 enum-known-number : tie.Need-enum-known-number
 enum-known-number c = search needs
 
--- src/lib.rt:57:58
 cast-refuse : tie.Need-cast-refuse
 cast-refuse c = search needs
 
--- src/lib.rt:57:44
 refuse-requires-3 : tie.Need-refuse-requires-3
 refuse-requires-3 c κs = refusal-fits _ _ _ (c .before .before .before .read .ensures .1) _ _ (c .before .number .given .1)
 
--- src/lib.rt:43:1
 returns-3 : tie.Need-returns-3
 returns-3 c = search answers
 
--- src/lib.rt:43:1
 returns-4 : tie.Need-returns-4
 returns-4 c = search answers
 

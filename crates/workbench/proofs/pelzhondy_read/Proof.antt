@@ -8,21 +8,17 @@ use Rattle.workbench.proofs.pelzhondy_read.Lts as lts
 use Rattle.model.proofs.refuse.Reads as refuse-reads
 use Rattle.reader.proofs.read.Reads as read-reads
 
--- src/lib.rt:14:11
 read-requires : tie.Need-read-requires
 read-requires c κs = search needs
 
--- src/lib.rt:15:26
 enum-known-rules : tie.Need-enum-known-rules
 enum-known-rules c = search needs
 
--- src/lib.rt:15:69
 mul-result : tie.Need-mul-result
 mul-result c =
     let l = sizes-fit _ 0 _ (c .before .before .before .read .ensures .1) _ _ _ (c .before .rules .given .1) .1 in
     omega arith
 
--- src/lib.rt:15:54
 add-result : tie.Need-add-result
 add-result c =
     let l = sizes-fit _ 0 _ (c .before .before .before .read .ensures .1) _ _ _ (c .before .rules .given .1) in
@@ -30,23 +26,18 @@ add-result c =
     let b = l .1 in
     omega arith
 
--- src/lib.rt:16:25
 enum-known-number : tie.Need-enum-known-number
 enum-known-number c = search needs
 
--- src/lib.rt:16:58
 cast-refuse : tie.Need-cast-refuse
 cast-refuse c = search needs
 
--- src/lib.rt:16:44
 refuse-requires : tie.Need-refuse-requires
 refuse-requires c κs = refusal-fits _ 0 _ (c .before .before .before .read .ensures .1) _ _ (c .before .number .given .1)
 
--- src/lib.rt:10:1
 returns : tie.Need-returns
 returns c = search answers
 
--- src/lib.rt:10:1
 returns-2 : tie.Need-returns-2
 returns-2 c = search answers
 

@@ -8,35 +8,27 @@ use Rattle.judging.proofs.decide.Reads as decide-reads
 use Rattle.model.proofs.refuse.Reads as refuse-reads
 use Rattle.workbench.proofs.code_of_verdict.Reads as code-of-verdict-reads
 
--- src/lib.rt:120:11
 decide-requires : tie.Need-decide-requires
 decide-requires c κs = search needs
 
--- src/lib.rt:121:21
 enum-known-v : tie.Need-enum-known-v
 enum-known-v c = search needs
 
--- src/lib.rt:121:27
 code-of-verdict-requires : tie.Need-code-of-verdict-requires
 code-of-verdict-requires c κs = search judged
 
--- src/lib.rt:122:28
 enum-known-number : tie.Need-enum-known-number
 enum-known-number c = search needs
 
--- src/lib.rt:122:61
 cast-refuse : tie.Need-cast-refuse
 cast-refuse c = search needs
 
--- src/lib.rt:122:47
 refuse-requires : tie.Need-refuse-requires
 refuse-requires c κs = decided-fits _ (c .before .before .before .decide .ensures .1) _ _ (c .before .number .given .1)
 
--- src/lib.rt:116:1
 returns : tie.Need-returns
 returns c = search judged
 
--- src/lib.rt:116:1
 returns-2 : tie.Need-returns-2
 returns-2 c = search judged
 

@@ -6,43 +6,33 @@ use Rattle.writing.proofs.put_word.Reads as reads
 use Rattle.writing.proofs.put_word.Lts as lts
 use Rattle.writing.proofs.put.Reads as put-reads
 
--- src/lib.rt:22:26
 cast-put : tie.Need-cast-put
 cast-put c = search wrotes
 
--- src/lib.rt:22:9
 put-requires : tie.Need-put-requires
 put-requires c κs = search wrotes
 
--- src/lib.rt:23:25
 cast-put-2 : tie.Need-cast-put-2
 cast-put-2 c = search wrotes
 
--- src/lib.rt:23:9
 put-requires-2 : tie.Need-put-requires-2
 put-requires-2 c κs = search wrotes
 
--- src/lib.rt:24:25
 cast-put-3 : tie.Need-cast-put-3
 cast-put-3 c = search wrotes
 
--- src/lib.rt:24:9
 put-requires-3 : tie.Need-put-requires-3
 put-requires-3 c κs = search wrotes
 
--- src/lib.rt:25:17
 cast-put-4 : tie.Need-cast-put-4
 cast-put-4 c = search wrotes
 
--- src/lib.rt:25:5
 put-requires-4 : tie.Need-put-requires-4
 put-requires-4 c κs = search wrotes
 
--- src/lib.rt:18:1
 same-length : tie.Need-same-length
 same-length c = search wrotes
 
--- src/lib.rt:18:1
 returns : tie.Need-returns
 returns c = search wrotes
 
