@@ -28,7 +28,7 @@ use Rattle.cache.specs.State.{ruleCount, acceptedCount, rulesIn, writesIn, writ
 use Rattle.cache.specs.Sound.{sound}
 use Rattle.cache.specs.Calls.{left, late, handInOf, given}
 use Rattle.soundness.specs.Parts.{Tabled, TabledIf}
-use Rattle.masks.proofs.MaskSteps.{writes-length, write-at}
+use Rattle.contents.proofs.ContentSteps.{writes-length, write-at}
 use Rattle.layout.proofs.LayoutSteps.{flag-read}
 use Rattle.soundness.proofs.SoundSteps.{table-agrees}
 use Rattle.storing.specs.Given.{kept, codedKept, lateAt, handFaultBy, handFault}

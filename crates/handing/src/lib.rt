@@ -33,7 +33,7 @@ fn late_at(state: &[u8], rules: Rules, w: Write, i: usize) -> bool
     if state[110 + 12 * i] != 1 {
         return false;
     }
-    let v = masks::write_in(state, i);
+    let v = contents::write_in(state, i);
     rules::depends(rules, v.name, v.epoch, w.name, w.epoch)
 }
 
@@ -42,7 +42,7 @@ fn is_late(state: &[u8], rules: Rules, w: Write) -> bool
     requires { ⌜ (length (now state) ≡ 1024) × ((rules .count ≤ 32) × (acceptedCount (now state) ≤ 64)) ⌝ }
     ensures { λ r. ⌜ r ≡ late (rulesOf rules) (writesIn (now (state .entry))) (storedIn (now (state .entry))) w ⌝ }
 {
-    let n = masks::wide(state[1]);
+    let n = contents::wide(state[1]);
     let mut i: usize = 0;
     while i < n {
         if late_at(state, rules, w, i) {
@@ -58,7 +58,7 @@ fn closes_ring(rows: &[u64; 64], state: &[u8], rules: Rules, w: Write) -> bool
     requires { ⌜ (length (now state) ≡ 1024) × ((rules .count ≤ 32) × ((acceptedCount (now state) < 64) × ((rulesOf rules ≡ rulesIn (now state)) × Tabled (now state) (now rows)))) ⌝ }
     ensures { λ r. ⌜ r ≡ needsRing (rulesOf rules) (writesIn (now (state .entry)) ++ (w ∷ [])) ⌝ }
 {
-    let n = masks::wide(state[1]) + 1;
+    let n = contents::wide(state[1]) + 1;
     let mut wider = [0u64; 64];
     needs::fill_with(&mut wider, rows, state, rules, w);
     relation::close(&mut wider, n);
@@ -79,7 +79,7 @@ pub fn hand_fault(state: &[u8], w: Write) -> u64
     if 64 <= state[1] {
         return 16;
     }
-    let rules = masks::state_rules(state);
+    let rules = contents::state_rules(state);
     if is_late(state, rules, w) {
         return 17;
     }
@@ -115,7 +115,7 @@ pub fn append(state: &mut [u8], w: Write) -> u64
     ensures { λ r. ⌜ (r ≡ acceptedCount (now (state .entry)) + 1) × (now (state .exit) ≡ handed (now (state .entry)) w) ⌝ }
 {
     let place = state[1] + 1;
-    let at = 100 + 12 * masks::wide(state[1]);
+    let at = 100 + 12 * contents::wide(state[1]);
     put_entry(state, at, w);
     state[1] = place;
     place as u64

@@ -16,7 +16,7 @@ pub fn stored_mask(state: &[u8]) -> u64
     requires { ⌜ (length (now state) ≡ 1024) × (acceptedCount (now state) ≤ 64) ⌝ }
     ensures { λ r. ⌜ r ≡ maskOf (storedIn (now (state .entry))) (acceptedCount (now (state .entry))) ⌝ }
 {
-    let n = masks::wide(state[1]);
+    let n = contents::wide(state[1]);
     let mut mask: u64 = 0;
     let mut i: usize = 0;
     while i < n {
@@ -42,7 +42,7 @@ pub fn count_stored(state: &[u8]) -> usize
     requires { ⌜ (length (now state) ≡ 1024) × (acceptedCount (now state) ≤ 64) ⌝ }
     ensures { λ r. ⌜ r ≡ countBelow (storedIn (now (state .entry))) (acceptedCount (now (state .entry))) ⌝ }
 {
-    let n = masks::wide(state[1]);
+    let n = contents::wide(state[1]);
     let mut k: usize = 0;
     let mut i: usize = 0;
     while i < n {
@@ -82,7 +82,7 @@ fn flags_fit(state: &[u8]) -> bool
     requires { ⌜ (length (now state) ≡ 1024) × (acceptedCount (now state) ≤ 64) ⌝ }
     ensures { λ r. ⌜ r ≡ allBelow (flagFits (now (state .entry))) (acceptedCount (now (state .entry))) ⌝ }
 {
-    let n = masks::wide(state[1]);
+    let n = contents::wide(state[1]);
     let mut i: usize = 0;
     while i < n {
         let at = 110 + 12 * i;
@@ -108,10 +108,10 @@ pub fn has_layout(state: &[u8]) -> bool
     if state[3] != 0 {
         return false;
     }
-    if !are_zero(state, 4 + 3 * masks::wide(state[0]), 100) {
+    if !are_zero(state, 4 + 3 * contents::wide(state[0]), 100) {
         return false;
     }
-    if !are_zero(state, 100 + 12 * masks::wide(state[1]), 1024) {
+    if !are_zero(state, 100 + 12 * contents::wide(state[1]), 1024) {
         return false;
     }
     flags_fit(state)

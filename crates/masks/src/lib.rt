@@ -1,5 +1,4 @@
-// A state's rules and writes, and its accepted writes as masks: by name, address, epoch and need.
-use model::Rule;
+// A state's accepted writes as masks: by name, address, epoch and need.
 use model::Write;
 use rules::Rules;
 ghost use mathlib.Core.Path.{_≡_};
@@ -8,42 +7,8 @@ ghost use Prim.Native.Nat.{_<_, _≤_};
 ghost use lib.ListN.{length};
 ghost use Rattle.relation.specs.Bits.{withBit};
 ghost use Rattle.rules.specs.Held.{rulesOf};
-ghost use Rattle.cache.specs.State.{ruleCount, acceptedCount, writeIn, rulesIn};
+ghost use Rattle.cache.specs.State.{acceptedCount};
 ghost use Rattle.masks.specs.Masks.{namedMask, addressMask, Compared, dependentMask, needsOf, neededMask};
-
-// A byte as an index.
-pub fn wide(x: u8) -> usize
-    ensures { λ r. ⌜ (r ≡ x) × (r < 256) ⌝ }
-{
-    x as usize
-}
-
-// The state's rules. A rule stands as the body of a field that would begin three bytes before it.
-pub fn state_rules(state: &[u8]) -> Rules
-    requires { ⌜ (length (now state) ≡ 1024) × (ruleCount (now state) ≤ 32) ⌝ }
-    ensures { λ r. ⌜ (rulesOf r ≡ rulesIn (now (state .entry))) × (r .count ≡ ruleCount (now (state .entry))) ⌝ }
-{
-    let n = wide(state[0]);
-    let mut items = [Rule {
-        first: 0,
-        predicate: 0,
-        second: 0,
-    }; 32];
-    let mut i: usize = 0;
-    while i < n {
-        items[i] = format::rule_at(state, 1 + 3 * i);
-        i += 1;
-    }
-    Rules { items, count: n }
-}
-
-// Write i. It stands as the body of a field that would begin three bytes before it.
-pub fn write_in(state: &[u8], i: usize) -> Write
-    requires { ⌜ (length (now state) ≡ 1024) × (i < 64) ⌝ }
-    ensures { λ r. ⌜ r ≡ writeIn (now (state .entry)) i ⌝ }
-{
-    format::write_at(state, 97 + 12 * i)
-}
 
 // mask, with bit i set where `set` holds.
 pub fn with_bit_if(mask: u64, i: usize, set: bool) -> u64
@@ -61,11 +26,11 @@ pub fn named(state: &[u8], name: u8) -> u64
     requires { ⌜ (length (now state) ≡ 1024) × (acceptedCount (now state) ≤ 64) ⌝ }
     ensures { λ r. ⌜ r ≡ namedMask (now (state .entry)) name (acceptedCount (now (state .entry))) ⌝ }
 {
-    let n = wide(state[1]);
+    let n = contents::wide(state[1]);
     let mut mask: u64 = 0;
     let mut j: usize = 0;
     while j < n {
-        let v = write_in(state, j);
+        let v = contents::write_in(state, j);
         mask = with_bit_if(mask, j, v.name == name);
         j += 1;
     }
@@ -80,7 +45,7 @@ pub fn at_address(state: &[u8], address: u8, i: usize) -> u64
     let mut mask: u64 = 0;
     let mut j: usize = 0;
     while j < i {
-        let v = write_in(state, j);
+        let v = contents::write_in(state, j);
         mask = with_bit_if(mask, j, v.address == address);
         j += 1;
     }
@@ -99,13 +64,13 @@ pub fn compare_epochs(state: &[u8], t: u32) -> Epochs
     requires { ⌜ (length (now state) ≡ 1024) × (acceptedCount (now state) ≤ 64) ⌝ }
     ensures { λ r. ⌜ Compared (now (state .entry)) t r ⌝ }
 {
-    let n = wide(state[1]);
+    let n = contents::wide(state[1]);
     let mut equal: u64 = 0;
     let mut less: u64 = 0;
     let mut greater: u64 = 0;
     let mut j: usize = 0;
     while j < n {
-        let v = write_in(state, j);
+        let v = contents::write_in(state, j);
         equal = with_bit_if(equal, j, t == v.epoch);
         less = with_bit_if(less, j, v.epoch < t);
         greater = with_bit_if(greater, j, t < v.epoch);
@@ -134,11 +99,11 @@ pub fn dependents(state: &[u8], rules: Rules, w: Write) -> u64
     requires { ⌜ (length (now state) ≡ 1024) × ((rules .count ≤ 32) × (acceptedCount (now state) ≤ 64)) ⌝ }
     ensures { λ r. ⌜ r ≡ dependentMask (rulesOf rules) (now (state .entry)) w (acceptedCount (now (state .entry))) ⌝ }
 {
-    let n = wide(state[1]);
+    let n = contents::wide(state[1]);
     let mut mask: u64 = 0;
     let mut j: usize = 0;
     while j < n {
-        let v = write_in(state, j);
+        let v = contents::write_in(state, j);
         mask = with_bit_if(
             mask,
             j,
@@ -165,11 +130,11 @@ pub fn needed(state: &[u8], rules: Rules, w: Write) -> u64
     requires { ⌜ (length (now state) ≡ 1024) × ((rules .count ≤ 32) × (acceptedCount (now state) ≤ 64)) ⌝ }
     ensures { λ r. ⌜ r ≡ neededMask (rulesOf rules) (now (state .entry)) w (acceptedCount (now (state .entry))) ⌝ }
 {
-    let n = wide(state[1]);
+    let n = contents::wide(state[1]);
     let mut mask: u64 = 0;
     let mut j: usize = 0;
     while j < n {
-        mask = with_bit_if(mask, j, needs_write(rules, w, write_in(state, j)));
+        mask = with_bit_if(mask, j, needs_write(rules, w, contents::write_in(state, j)));
         j += 1;
     }
     mask

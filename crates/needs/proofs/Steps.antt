@@ -29,7 +29,8 @@ use Rattle.cache.specs.Needs as cache
 use Rattle.cache.specs.State.{acceptedCount, writeIn, writesIn}
 use Rattle.masks.specs.declared.Epochs.{Epochs}
 use Rattle.masks.specs.Masks.{namedMask, addressMask, epochMask, secondMask, standingBy, withRule, pairedBy, Compared, dependentMask, needsOf, neededMask}
-use Rattle.masks.proofs.MaskSteps.{at-end, front-at, last-at, masks, write-at}
+use Rattle.contents.proofs.ContentSteps.{front-at, last-at, write-at}
+use Rattle.masks.proofs.MaskSteps.{at-end, masks}
 
 -- ---- standing, with_rule
 

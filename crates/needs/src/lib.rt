@@ -81,14 +81,14 @@ pub fn fill_needs(rows: &mut [u64], state: &[u8], rules: Rules)
     requires { ⌜ (length (now rows) ≡ 64) × ((length (now state) ≡ 1024) × ((rules .count ≤ 32) × (acceptedCount (now state) ≤ 64))) ⌝ }
     ensures { λ _. ⌜ take (acceptedCount (now (state .entry))) (now (rows .exit)) ≡ rowsOf (needs (rulesOf rules) (writesIn (now (state .entry)))) (acceptedCount (now (state .entry))) ⌝ }
 {
-    let n = masks::wide(state[1]);
+    let n = contents::wide(state[1]);
     let mut seconds = [0u64; 32];
     fill_seconds(&mut seconds, state, rules);
     let mut t: u32 = 0;
     let mut epochs = masks::compare_epochs(state, t);
     let mut i: usize = 0;
     while i < n {
-        let u = masks::write_in(state, i);
+        let u = contents::write_in(state, i);
         epochs = masks::next_epochs(epochs, state, t, u.epoch);
         t = u.epoch;
         rows[i] = row(state, rules, &seconds, i, u, epochs);
@@ -101,7 +101,7 @@ pub fn fill_with(wider: &mut [u64], rows: &[u64; 64], state: &[u8], rules: Rules
     requires { ⌜ (length (now wider) ≡ 64) × ((length (now state) ≡ 1024) × ((rules .count ≤ 32) × ((acceptedCount (now state) < 64) × (take (acceptedCount (now state)) (now rows) ≡ rowsOf (needs (rulesOf rules) (writesIn (now state))) (acceptedCount (now state)))))) ⌝ }
     ensures { λ _. ⌜ take (acceptedCount (now (state .entry)) + 1) (now (wider .exit)) ≡ rowsOf (needs (rulesOf rules) (writesIn (now (state .entry)) ++ (w ∷ []))) (acceptedCount (now (state .entry)) + 1) ⌝ }
 {
-    let n = masks::wide(state[1]);
+    let n = contents::wide(state[1]);
     let column = masks::dependents(state, rules, w);
     let mut i: usize = 0;
     while i < n {

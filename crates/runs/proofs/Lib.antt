@@ -5,4 +5,3 @@ pub mod StepLaws
 pub mod CallLaws
 pub mod MomentLaws
 pub mod RunLaws
-pub mod Examples

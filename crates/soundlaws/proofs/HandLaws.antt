@@ -28,7 +28,7 @@ use Rattle.cache.specs.Needs.{Needs, NeedsRing}
 use Rattle.cache.specs.State.{ruleCount, acceptedCount, writeBase, writeIn, flagIn, rulesIn, writesIn, storedIn, entryBytes, handed}
 use Rattle.cache.specs.Sound.{Sound}
 use Rattle.cache.specs.Calls.{Late}
-use Rattle.masks.proofs.MaskSteps.{writes-length}
+use Rattle.contents.proofs.ContentSteps.{writes-length}
 use Rattle.soundlaws.proofs.GeneralLaws.{part-is, sets-out, sets-in}
 use Rattle.soundlaws.proofs.ReadyLaws.{needs-left, needs-right}
 use Rattle.soundlaws.proofs.KeepLaws.{rules-same, write-same}

@@ -18,7 +18,7 @@ use Rattle.cache.specs.Needs.{Needs, Earliest, met, ready}
 use Rattle.cache.specs.State.{stateSize, ruleCount, acceptedCount, storedCount, ruleBase, writeBase, ruleIn, writeIn, flagIn, rulesIn, writesIn, storedIn, marked, storedOn}
 use Rattle.cache.specs.Sound.{Sound, sound}
 use Rattle.cache.specs.Calls.{Left, storing, checked, stepped, stepOf, stepsOf}
-use Rattle.masks.proofs.MaskSteps.{writes-length}
+use Rattle.contents.proofs.ContentSteps.{writes-length}
 use Rattle.soundness.proofs.SoundLaws.{sound-true, true-sound}
 use Rattle.soundlaws.proofs.GeneralLaws.{part-same, count-one-more}
 use Rattle.soundlaws.proofs.ReadyLaws.{met-true, ready-earliest}

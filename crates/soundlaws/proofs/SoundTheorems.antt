@@ -20,7 +20,7 @@ use Rattle.cache.specs.Sound.{Sound, sound}
 use Rattle.cache.specs.Calls.{Left, left, Held, Late, late, handInOf, storing, checked, stepped, stepOf, waiting, stepsOf, drained, drainOf}
 use Rattle.cache.proofs.NeedsLaws.{late-true, true-late, needsRing-true, true-needsRing}
 use Rattle.soundlaws.specs.Theorem.{Decides, Keeps, SomeWaits, AllStored, waitingCount, OneStored, Steps, held, Drains, HandsIn}
-use Rattle.masks.proofs.MaskSteps.{writes-length, write-at}
+use Rattle.contents.proofs.ContentSteps.{writes-length, write-at}
 use Rattle.soundness.proofs.SoundLaws.{sound-true, true-sound, stored-most}
 use Rattle.soundlaws.proofs.GeneralLaws.{count-split, count-some}
 use Rattle.soundlaws.proofs.ReadyLaws.{ready-earliest, none-ready}

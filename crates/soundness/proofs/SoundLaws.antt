@@ -21,7 +21,7 @@ use Rattle.cache.specs.Needs.{Needs, needs, needsRing, met}
 use Rattle.cache.specs.State.{ruleCount, acceptedCount, storedCount, ruleBase, writeBase, rulesIn, writesIn, storedIn}
 use Rattle.cache.specs.Sound.{Sound, zeros, layout, sound}
 use Rattle.cache.proofs.NeedsLaws.{needs-true, true-needs, needsRing-true, true-needsRing}
-use Rattle.masks.proofs.MaskSteps.{writes-length}
+use Rattle.contents.proofs.ContentSteps.{writes-length}
 
 so-not : (b : Bool) → not b ≡ true → b ≡ true → ⊥
 so-not b h e = false≢true (sym (not-true b h) ∙ e)

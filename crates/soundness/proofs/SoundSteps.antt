@@ -27,7 +27,7 @@ use Rattle.cache.specs.State.{ruleCount, acceptedCount, storedCount, rulesIn, w
 use Rattle.cache.specs.Sound.{layout, sound}
 use Rattle.relation.specs.Union.{partOf}
 use Rattle.soundness.specs.Parts.{covered, coveredAt, needsHold, Tabled, TabledIf}
-use Rattle.masks.proofs.MaskSteps.{writes-length}
+use Rattle.contents.proofs.ContentSteps.{writes-length}
 use Rattle.needs.proofs.Steps.{row-at}
 
 -- ---- needs_hold

@@ -59,7 +59,7 @@ fn needs_hold(rows: &mut [u64; 64], state: &[u8], rules: Rules) -> bool
     requires { ⌜ (length (now state) ≡ 1024) × ((rules .count ≤ 32) × (acceptedCount (now state) ≤ 64)) ⌝ }
     ensures { λ r. ⌜ (r ≡ needsHold (rulesOf rules) (now (state .entry))) × (take (acceptedCount (now (state .entry))) (now (rows .exit)) ≡ rowsOf (needs (rulesOf rules) (writesIn (now (state .entry)))) (acceptedCount (now (state .entry)))) ⌝ }
 {
-    let n = masks::wide(state[1]);
+    let n = contents::wide(state[1]);
     needs::fill_needs(rows, state, rules);
     if !all_covered(rows, layout::stored_mask(state), n) {
         return false;
@@ -77,14 +77,14 @@ pub fn is_sound(rows: &mut [u64; 64], state: &[u8]) -> bool
     if !layout::has_layout(state) {
         return false;
     }
-    let rules = masks::state_rules(state);
+    let rules = contents::state_rules(state);
     if !is_known(rules) {
         return false;
     }
     if rules::is_cyclic(rules) {
         return false;
     }
-    if masks::wide(state[2]) != layout::count_stored(state) {
+    if contents::wide(state[2]) != layout::count_stored(state) {
         return false;
     }
     needs_hold(rows, state, rules)

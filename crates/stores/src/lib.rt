@@ -23,7 +23,7 @@ pub fn store_block(disk: &mut [u8], w: Write)
     requires { ⌜ length (now disk) ≡ 1024 ⌝ }
     ensures { λ _. ⌜ now (disk .exit) ≡ storedOn (now (disk .entry)) w ⌝ }
 {
-    put_word(disk, 4 * masks::wide(w.address), w.block);
+    put_word(disk, 4 * contents::wide(w.address), w.block);
 }
 
 // Write i is stored.

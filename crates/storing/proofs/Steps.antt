@@ -22,7 +22,7 @@ use Rattle.cache.specs.Sound.{sound}
 use Rattle.cache.specs.Calls.{Left, Held, left, storing, checked, stepped, stepsOf, drained}
 use Rattle.relation.specs.Union.{partOf}
 use Rattle.soundness.specs.Parts.{Tabled, TabledIf}
-use Rattle.masks.proofs.MaskSteps.{writes-length, write-at}
+use Rattle.contents.proofs.ContentSteps.{writes-length, write-at}
 use Rattle.soundness.proofs.SoundSteps.{stored-bit, row-met}
 use Rattle.soundness.proofs.SoundLaws.{sound-true, stored-most}
 use Rattle.soundlaws.proofs.ReadyLaws.{ready-earliest}

@@ -30,7 +30,7 @@ fn ready(state: &[u8], rows: &[u64; 64], mask: u64) -> usize
     requires { ⌜ (length (now state) ≡ 1024) × ((acceptedCount (now state) ≤ 64) × (Tabled (now state) (now rows) × (mask ≡ maskOf (storedIn (now state)) (acceptedCount (now state))))) ⌝ }
     ensures { λ r. ⌜ (r ≡ ready (rulesIn (now (state .entry))) (writesIn (now (state .entry))) (storedIn (now (state .entry)))) × (r ≤ acceptedCount (now (state .entry))) ⌝ }
 {
-    let n = masks::wide(state[1]);
+    let n = contents::wide(state[1]);
     let mut i: usize = 0;
     while i < n {
         if is_ready(rows[i], mask, i) {
@@ -46,7 +46,7 @@ fn store_write(state: &mut [u8], disk: &mut [u8], i: usize)
     requires { ⌜ (length (now state) ≡ 1024) × ((length (now disk) ≡ 1024) × ((i < 64) × (storedCount (now state) ≤ 64))) ⌝ }
     ensures { λ _. ⌜ (now (state .exit) ≡ marked (now (state .entry)) i) × (now (disk .exit) ≡ storedOn (now (disk .entry)) (writeIn (now (state .entry)) i)) ⌝ }
 {
-    stores::store_block(disk, masks::write_in(state, i));
+    stores::store_block(disk, contents::write_in(state, i));
     stores::mark(state, i);
 }
 
@@ -96,8 +96,8 @@ pub fn drain_sound(state: &mut [u8], disk: &mut [u8], rows: &[u64; 64], mask: u6
     requires { ⌜ (length (now state) ≡ 1024) × ((length (now disk) ≡ 1024) × ((sound (now state) ≡ true) × (Tabled (now state) (now rows) × (mask ≡ maskOf (storedIn (now state)) (acceptedCount (now state)))))) ⌝ }
     ensures { λ r. ⌜ out r (now (state .exit)) (now (disk .exit)) ≡ codedLeft (drained (now (state .entry)) (now (disk .entry))) ⌝ }
 {
-    let accepted = masks::wide(state[1]);
-    let stored = masks::wide(state[2]);
+    let accepted = contents::wide(state[1]);
+    let stored = contents::wide(state[2]);
     let mut done = mask;
     let mut n: usize = stored;
     while n < accepted {

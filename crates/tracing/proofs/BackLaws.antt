@@ -26,7 +26,8 @@ use Rattle.encoding.proofs.PartLaws.{Bounded}
 use Rattle.encoding.proofs.FitLaws.{bounded}
 use Rattle.encoding.proofs.ReadLaws.{one-test}
 use Rattle.log.specs.Puts.{Put, Log, log, start, putWrites, after, afterAll, writesOf, putsOf, logTest, Traced, traced, traceOf}
-use Rattle.tracing.specs.Traced.{putFields, programFields, endFields, testFields, sizeOf, traceFault}
+use Rattle.puts.specs.Fields.{putFields, programFields, endFields}
+use Rattle.tracing.specs.Traced.{testFields, sizeOf, traceFault}
 use Rattle.tracing.specs.Theorem.{ReadBack}
 use Rattle.tracing.proofs.ProgramLaws.{putAt, after-puts, test-bytes, by-fault, fits-initial, fits-main}
 

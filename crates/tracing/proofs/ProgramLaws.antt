@@ -23,7 +23,8 @@ use Rattle.log.specs.Puts.{Put, Log, log, start, putWrites, after, afterAll, wr
 use Rattle.model.specs.Answer.{answer, refused, refusal, coded}
 use Rattle.writing.specs.Writing.{Wrote}
 use Rattle.writing.proofs.WroteLaws.{wrote-then}
-use Rattle.tracing.specs.Traced.{putFields, programFields, emptyBelow, endFields, sizeOf, testFields, traceFault, traceOut, traceAnswer}
+use Rattle.puts.specs.Fields.{putFields, programFields, endFields}
+use Rattle.tracing.specs.Traced.{emptyBelow, sizeOf, testFields, traceFault, traceOut, traceAnswer}
 
 -- put i of a program
 abbrev pub putAt : List ℕ → ℕ → Put

@@ -1,33 +1,18 @@
 -- What trace leaves, in one record.
-use Prim.Native.Nat.{ℕ, zero, suc, _+_, _*_, _/_, _%_}
+use Prim.Native.Nat.{ℕ, _+_, _*_, _/_, _%_}
 use mathlib.Core.Bool.{Bool, cond, not}
 use lib.Dec.{eqb, ltb}
 use lib.ListN.{length}
 use Rattle.relation.specs.Lists.{anyBelow}
-use mathlib.Core.List.{List, [], _∷_, _++_}
+use mathlib.Core.List.{List, _++_}
 use Rattle.model.specs.Answer.{coded}
-use Rattle.format.specs.Bytes.{word, writeBytes}
-use Rattle.format.specs.Encode.{fieldBytes}
+use Rattle.format.specs.Bytes.{word}
 use Rattle.log.specs.Puts.{traceOf}
-
--- the fields of one put of a block: log block at tail, superblock (1, tail + 1)
-unfoldable pub putFields : ℕ → ℕ → ℕ → ℕ → List ℕ
-putFields tag tail epoch block =
-    fieldBytes tag (writeBytes (record { address = tail; name = 1; epoch = epoch; block = block }))
-    ++ fieldBytes tag (writeBytes (record { address = 0; name = 2; epoch = epoch; block = 65537 + tail }))
-
--- the fields of a program's first n puts
-unfoldable pub programFields : ℕ → ℕ → ℕ → List ℕ → ℕ → List ℕ
-programFields tag tail epoch s zero = []
-programFields tag tail epoch s (suc n) = programFields tag tail epoch s n ++ putFields tag (tail + n) (epoch + n) (word s (4 * n))
+use Rattle.puts.specs.Fields.{programFields, endFields}
 
 -- one of the first n puts is (0,0)
 unfoldable pub emptyBelow : List ℕ → ℕ → Bool
 emptyBelow s n = anyBelow (λ i. eqb (word s (4 * i)) 0) n
-
--- a range check at 0, and the end
-abbrev pub endFields : List ℕ
-endFields = 4 ∷ 0 ∷ 1 ∷ 0 ∷ 7 ∷ 0 ∷ 0 ∷ []
 
 -- the size of a trace of n and m puts
 abbrev pub sizeOf : ℕ → ℕ → ℕ

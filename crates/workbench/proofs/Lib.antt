@@ -1,3 +1,2 @@
 pub mod FileLaws
-pub mod JudgedLaws
 pub mod PrintedLaws

@@ -1,18 +1,16 @@
 // The tester's interface: numbers and byte slices. Every refusal is `refusal number place`.
-use counting::Judgement;
-use counting::Verdict;
 use format::Extent;
 use format::Scan;
 use judging::Decided;
 use judging::Judged;
 ghost use mathlib.Core.Path.{_≡_};
-ghost use Prim.Native.Nat.{_+_, _*_, _≤_};
+ghost use Prim.Native.Nat.{_+_, _*_};
 ghost use Rattle.model.specs.Answer.{coded};
-ghost use Rattle.judging.specs.Judge.{caseIn, FewDecided};
+ghost use Rattle.judging.specs.Judge.{caseIn};
 ghost use Rattle.finding.specs.Finder.{out, foundCoded, findOf};
 ghost use Rattle.tracing.specs.Traced.{traceOut, traceAnswer};
 ghost use Rattle.workbench.specs.Printed.{printed, printedOf};
-ghost use Rattle.workbench.specs.Judged.{judgementCode, verdictCode, JudgeAnswer, VerdictAnswer};
+ghost use Rattle.answers.specs.Judged.{JudgeAnswer, VerdictAnswer};
 ghost use Rattle.workbench.specs.File.{readAnswer, locateAnswer, cyclicAnswer, Packed};
 
 // How many rules, and 256 times how many tests, a file holds.
@@ -85,13 +83,6 @@ pub extern "C" fn pelzhondy_cyclic(file: &[u8]) -> u64
     }
 }
 
-fn code_of(j: Judgement) -> u64
-    requires { ⌜ (j .valid ≤ 4096) × ((j .bad ≤ 4096) × (j .shown ≤ 4096)) ⌝ }
-    ensures { λ r. ⌜ r ≡ judgementCode j ⌝ }
-{
-    j.valid + 2097152 * j.bad + 4398046511104 * j.shown
-}
-
 // Judges test `test`, counted from 1: how many schedules are valid, from bit 21 on how many of these
 // are bad, from bit 42 on the number of a bad one, or 0 where none is. Refused by reading, 8, 9.
 #[no_mangle]
@@ -99,18 +90,8 @@ pub extern "C" fn pelzhondy_judge(file: &[u8], test: u64) -> u64
     ensures { λ r. ⌜ JudgeAnswer (caseIn (now (file .entry)) test) r ⌝ }
 {
     match judging::judge(file, test) {
-        Judged::Counts(j) => code_of(j),
+        Judged::Counts(j) => answers::code_of(j),
         Judged::Refused { number, place } => model::refuse(number as u64, place as u64),
-    }
-}
-
-fn code_of_verdict(v: Verdict) -> u64
-    requires { ⌜ FewDecided (Decided.As v) ⌝ }
-    ensures { λ r. ⌜ r ≡ verdictCode v ⌝ }
-{
-    match v {
-        Verdict::Holds => 0,
-        Verdict::Fails(s) => s + 1,
     }
 }
 
@@ -121,7 +102,7 @@ pub extern "C" fn pelzhondy_verdict(file: &[u8], test: u64) -> u64
     ensures { λ r. ⌜ VerdictAnswer (caseIn (now (file .entry)) test) r ⌝ }
 {
     match judging::decide(file, test) {
-        Decided::As(v) => code_of_verdict(v),
+        Decided::As(v) => answers::code_of_verdict(v),
         Decided::Refused { number, place } => model::refuse(number as u64, place as u64),
     }
 }

@@ -1,4 +1,4 @@
-use Rattle.workbench.proofs.JudgedLaws.{judged, counts-few, refused-fits}
+use Rattle.answers.proofs.JudgedLaws.{judged, counts-few, refused-fits}
 use borrow.Author.Needs.{needs}
 use Rattle.workbench.proofs.pelzhondy_judge.Statement.{statement}
 use Rattle.workbench.proofs.pelzhondy_judge.Tie as tie
@@ -6,7 +6,7 @@ use Rattle.workbench.proofs.pelzhondy_judge.Reads as reads
 use Rattle.workbench.proofs.pelzhondy_judge.Lts as lts
 use Rattle.judging.proofs.judge.Reads as judge-reads
 use Rattle.model.proofs.refuse.Reads as refuse-reads
-use Rattle.workbench.proofs.code_of.Reads as code-of-reads
+use Rattle.answers.proofs.code_of.Reads as code-of-reads
 
 judge-requires : tie.Need-judge-requires
 judge-requires c κs = search needs

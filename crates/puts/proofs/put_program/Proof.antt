@@ -2,14 +2,14 @@ use Prim.Native.Nat.{_+_, _-_, _*_, _≤_}
 use mathlib.Core.Path.{_≡_}
 use lib.ListN.{length}
 use Rattle.writing.specs.Writing.{Wrote}
-use Rattle.tracing.specs.Traced.{programFields}
-use Rattle.tracing.proofs.Steps.{traces}
-use Rattle.tracing.proofs.put_program.Statement.{statement}
-use Rattle.tracing.proofs.put_program.Tie as tie
-use Rattle.tracing.proofs.put_program.Reads as reads
-use Rattle.tracing.proofs.put_program.Lts as lts
+use Rattle.puts.specs.Fields.{programFields}
+use Rattle.puts.proofs.PutSteps.{putting}
+use Rattle.puts.proofs.put_program.Statement.{statement}
+use Rattle.puts.proofs.put_program.Tie as tie
+use Rattle.puts.proofs.put_program.Reads as reads
+use Rattle.puts.proofs.put_program.Lts as lts
 use Rattle.format.proofs.word_at.Reads as word-at-reads
-use Rattle.tracing.proofs.put_put.Reads as put-put-reads
+use Rattle.puts.proofs.put_put.Reads as put-put-reads
 
 abbrev Inv-loop : tie.InvT-loop
 Inv-loop out₀ from tag program n tail epoch at₀ i₀ out at i = (i ≤ n) × (length out ≡ length out₀) × (at ≡ from + 26 * i) × Wrote out₀ from (programFields tag tail epoch program i) out at
@@ -18,43 +18,43 @@ abbrev μ-loop : tie.MeasureT-loop
 μ-loop out₀ from tag program n tail epoch at₀ i₀ out at i = n - i
 
 loop-holds : tie.Need-loop-holds Inv-loop μ-loop
-loop-holds c = search traces
+loop-holds c = search putting
 
 mul-word-at : tie.Need-mul-word-at Inv-loop μ-loop
-mul-word-at c = search traces
+mul-word-at c = search putting
 
 word-at-requires : tie.Need-word-at-requires Inv-loop μ-loop
-word-at-requires c κs = search traces
+word-at-requires c κs = search putting
 
 cast-put-put : tie.Need-cast-put-put Inv-loop μ-loop
-cast-put-put c = search traces
+cast-put-put c = search putting
 
 add-put-put : tie.Need-add-put-put Inv-loop μ-loop
-add-put-put c = search traces
+add-put-put c = search putting
 
 cast-put-put-2 : tie.Need-cast-put-put-2 Inv-loop μ-loop
-cast-put-put-2 c = search traces
+cast-put-put-2 c = search putting
 
 add-put-put-2 : tie.Need-add-put-put-2 Inv-loop μ-loop
-add-put-put-2 c = search traces
+add-put-put-2 c = search putting
 
 put-put-requires : tie.Need-put-put-requires Inv-loop μ-loop
-put-put-requires c κs = search traces
+put-put-requires c κs = search putting
 
 add-i : tie.Need-add-i Inv-loop μ-loop
-add-i c = search traces
+add-i c = search putting
 
 loop-less : tie.Need-loop-less Inv-loop μ-loop
-loop-less c = search traces
+loop-less c = search putting
 
 loop-again : tie.Need-loop-again Inv-loop μ-loop
-loop-again c = search traces
+loop-again c = search putting
 
 same-length : tie.Need-same-length Inv-loop μ-loop
-same-length c = search traces
+same-length c = search putting
 
 returns : tie.Need-returns Inv-loop μ-loop
-returns c = search traces
+returns c = search putting
 
 pub put-program-spec : {M : Type 1} → statement M
 put-program-spec =

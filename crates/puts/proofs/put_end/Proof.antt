@@ -1,10 +1,10 @@
 use native.Mathlib.Omega.{arith}
-use Rattle.tracing.proofs.Steps.{end-wrote}
+use Rattle.puts.proofs.PutSteps.{end-wrote}
 use borrow.Author.Needs.{needs}
-use Rattle.tracing.proofs.put_end.Statement.{statement}
-use Rattle.tracing.proofs.put_end.Tie as tie
-use Rattle.tracing.proofs.put_end.Reads as reads
-use Rattle.tracing.proofs.put_end.Lts as lts
+use Rattle.puts.proofs.put_end.Statement.{statement}
+use Rattle.puts.proofs.put_end.Tie as tie
+use Rattle.puts.proofs.put_end.Reads as reads
+use Rattle.puts.proofs.put_end.Lts as lts
 use Rattle.writing.proofs.put.Reads as put-reads
 
 put-requires : tie.Need-put-requires

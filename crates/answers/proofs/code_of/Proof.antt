@@ -1,11 +1,11 @@
 use mathlib.Core.Path.{refl}
-use Rattle.workbench.specs.Judged.{judgementCode}
-use Rattle.workbench.proofs.JudgedLaws.{judged}
+use Rattle.answers.specs.Judged.{judgementCode}
+use Rattle.answers.proofs.JudgedLaws.{judged}
 use borrow.Author.Needs.{needs}
-use Rattle.workbench.proofs.code_of.Statement.{statement}
-use Rattle.workbench.proofs.code_of.Tie as tie
-use Rattle.workbench.proofs.code_of.Reads as reads
-use Rattle.workbench.proofs.code_of.Lts as lts
+use Rattle.answers.proofs.code_of.Statement.{statement}
+use Rattle.answers.proofs.code_of.Tie as tie
+use Rattle.answers.proofs.code_of.Reads as reads
+use Rattle.answers.proofs.code_of.Lts as lts
 
 mul-result : tie.Need-mul-result
 mul-result c = search needs

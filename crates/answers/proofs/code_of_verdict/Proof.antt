@@ -1,10 +1,10 @@
 use native.Mathlib.Omega.{arith}
-use Rattle.workbench.proofs.JudgedLaws.{judged, fails-fits}
+use Rattle.answers.proofs.JudgedLaws.{judged, fails-fits}
 use borrow.Author.Needs.{needs}
-use Rattle.workbench.proofs.code_of_verdict.Statement.{statement}
-use Rattle.workbench.proofs.code_of_verdict.Tie as tie
-use Rattle.workbench.proofs.code_of_verdict.Reads as reads
-use Rattle.workbench.proofs.code_of_verdict.Lts as lts
+use Rattle.answers.proofs.code_of_verdict.Statement.{statement}
+use Rattle.answers.proofs.code_of_verdict.Tie as tie
+use Rattle.answers.proofs.code_of_verdict.Reads as reads
+use Rattle.answers.proofs.code_of_verdict.Lts as lts
 
 enum-told : tie.Need-enum-told
 enum-told c = search needs

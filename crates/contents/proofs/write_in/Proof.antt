@@ -1,7 +1,7 @@
--- `masks::write_in` meets its contract: the body of that field is the write.
-use Rattle.masks.proofs.MaskSteps.{reading}
-use Rattle.masks.proofs.write_in.Statement.{statement}
-use Rattle.masks.proofs.write_in.Tie as tie
+-- `contents::write_in` meets its contract: the body of that field is the write.
+use Rattle.contents.proofs.ContentSteps.{reading}
+use Rattle.contents.proofs.write_in.Statement.{statement}
+use Rattle.contents.proofs.write_in.Tie as tie
 
 mul-write-at : tie.Need-mul-write-at
 mul-write-at c = search reading

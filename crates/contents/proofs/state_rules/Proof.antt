@@ -1,12 +1,12 @@
--- `masks::state_rules` meets its contract. The invariant: the first i rules are read.
+-- `contents::state_rules` meets its contract. The invariant: the first i rules are read.
 use mathlib.Core.Path.{_≡_}
 use Prim.Native.Nat.{_≤_, _-_}
 use lib.ListN.{length, take}
 use Rattle.relation.specs.Lists.{tabulate}
 use Rattle.cache.specs.State.{ruleIn}
-use Rattle.masks.proofs.MaskSteps.{reading}
-use Rattle.masks.proofs.state_rules.Statement.{statement}
-use Rattle.masks.proofs.state_rules.Tie as tie
+use Rattle.contents.proofs.ContentSteps.{reading}
+use Rattle.contents.proofs.state_rules.Statement.{statement}
+use Rattle.contents.proofs.state_rules.Tie as tie
 
 abbrev Inv-loop : tie.InvT-loop
 Inv-loop state n items₀ i₀ items i = (i ≤ n) × (length items ≡ 32) × (take i items ≡ tabulate (ruleIn state) i)

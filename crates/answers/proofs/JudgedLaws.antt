@@ -17,7 +17,7 @@ use Rattle.judging.specs.declared.Decided.{Decided}
 use Rattle.judging.specs.declared.Decided.the-variants.{As}
 use Rattle.judging.specs.declared.Decided.the-variants as Decided
 use Rattle.judging.specs.Judge.{Case, Judges, Decides, Judging, Deciding, Few, FewDecided}
-use Rattle.workbench.specs.Judged.{judgementCode, verdictCode, JudgeAnswer, VerdictAnswer}
+use Rattle.answers.specs.Judged.{judgementCode, verdictCode, JudgeAnswer, VerdictAnswer}
 
 -- what a `Judged` is; two forms are never equal
 isCounts : Judged → Type 0
