@@ -28,7 +28,7 @@ use Rattle.model.proofs.TestLaws.{bad-true, true-bad, bad-fails, count-holds}
 use Rattle.format.specs.Bytes.{half, word, writeBytes, ruleBytes}
 use Rattle.format.specs.Encode.{fieldBytes, ruleFields, writeFields, checkField, checkFields, testBytes, testsBytes, fileBytes}
 use Rattle.format.specs.File.{isTag, isCheck, bodyLength, ruleOf, writeOf, checkOf, countsOf, outOfOrder, overTest, overLimit, ruleFault, bodyFault, faultOf, grown, finished, readFrom, nothing, readOf}
-use Rattle.rules.proofs.Examples.{K5-not-cyclic, K6-cyclic}
+use Rattle.cyclelaws.proofs.Examples.{K5-not-cyclic, K6-cyclic}
 use Rattle.judging.specs.Judge.{Case, caseOf, caseIn}
 use Rattle.log.specs.Puts.{start, after, putWrites, writesOf, afterAll, logTest, putsOf, emptyPut, Traced, traced, traceOf}
 use Rattle.printing.specs.Decimal.{decimalWith, decimal}

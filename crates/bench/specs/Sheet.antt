@@ -14,7 +14,7 @@ use Rattle.model.specs.Disk.{block, blockAt}
 use Rattle.model.specs.Cyclic.{Cyclic, cyclic}
 use Rattle.model.specs.Check.{holds}
 use Rattle.model.specs.Test.{Test, test, file, TestHolds, Bad, validCount, badCount}
-use Rattle.rules.specs.Examples.{rule}
+use Rattle.cyclelaws.specs.Examples.{rule}
 use Rattle.format.specs.Encode.{ruleFields, testBytes, fileBytes}
 use Rattle.judging.specs.Judge.{caseIn}
 use Rattle.log.specs.Puts.{Put, logTest, traced, traceOf}

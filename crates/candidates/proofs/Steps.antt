@@ -23,7 +23,7 @@ use Rattle.format.specs.Scan.{writeField, writesAt, mainPlace, testAt}
 use Rattle.format.specs.Held.{noTest, Tells, Inside}
 use Rattle.reader.proofs.CallerLaws.{refused-read, accepted-file, accepted-read, accepted-tests, accepted-inside, accepted-test}
 use Rattle.rules.specs.declared.Rules.{Rules}
-use Rattle.rules.proofs.Steps.{length-mapped}
+use Rattle.rules.proofs.MatchSteps.{length-mapped}
 use Rattle.rulesets.specs.Kept.{Keeps, Follows}
 use Rattle.candidates.specs.Tests.{paired, testsOf, testsIn}
 use Rattle.rulesets.proofs.KeepLaws.{keeps-all}

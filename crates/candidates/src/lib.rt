@@ -55,11 +55,11 @@ fn from_write(c: Rules, file: &[u8], at: usize, n: usize, i: usize) -> Rules
     requires { ⌜ (c .count ≤ 17) × ((n ≤ 64) × ((i < n) × (at + 13 * n ≤ length (now file)))) ⌝ }
     ensures { λ r. ⌜ (r .count ≤ 17) × Follows (fromWrite (writesAt (now (file .entry)) at n) i n) c r ⌝ }
 {
-    let w = format::write_at(file, at + 13 * i);
+    let w = fields::write_at(file, at + 13 * i);
     let mut out = c;
     let mut j: usize = 0;
     while j < n {
-        let v = format::write_at(file, at + 13 * j);
+        let v = fields::write_at(file, at + 13 * j);
         out = with_pair(out, i, j, w.name, w.epoch, v);
         j += 1;
     }

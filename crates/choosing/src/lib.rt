@@ -49,7 +49,7 @@ fn better_of(table: &[u8; 65536], cands: Rules, m: u64, best: u64) -> u64
     if has_spare(table, m, cands.count) {
         return best;
     }
-    if rules::is_cyclic(rulesets::pick(cands, m)) {
+    if cycles::is_cyclic(rulesets::pick(cands, m)) {
         return best;
     }
     m

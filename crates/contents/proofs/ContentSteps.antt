@@ -13,7 +13,7 @@ use Rattle.model.specs.declared.Rule.{Rule}
 use Rattle.model.specs.declared.Write.{Write}
 use Rattle.model.specs.Schedule.{noWrite, writeAt}
 use Rattle.format.specs.Scan.{ruleField, writeField}
-use Rattle.rules.proofs.Steps.{length-mapped}
+use Rattle.rules.proofs.MatchSteps.{length-mapped}
 use Rattle.cache.specs.State.{ruleCount, acceptedCount, ruleIn, writeIn, rulesIn, writesIn}
 
 -- ---- state_rules, write_in

@@ -28,7 +28,7 @@ pub fn state_rules(state: &[u8]) -> Rules
     }; 32];
     let mut i: usize = 0;
     while i < n {
-        items[i] = format::rule_at(state, 1 + 3 * i);
+        items[i] = fields::rule_at(state, 1 + 3 * i);
         i += 1;
     }
     Rules { items, count: n }
@@ -39,5 +39,5 @@ pub fn write_in(state: &[u8], i: usize) -> Write
     requires { ⌜ (length (now state) ≡ 1024) × (i < 64) ⌝ }
     ensures { λ r. ⌜ r ≡ writeIn (now (state .entry)) i ⌝ }
 {
-    format::write_at(state, 97 + 12 * i)
+    fields::write_at(state, 97 + 12 * i)
 }

@@ -15,7 +15,7 @@ use Rattle.relation.proofs.ListLaws.{below-extend}
 use Rattle.model.specs.declared.Write.{Write}
 use Rattle.model.specs.Schedule.{store, run}
 use Rattle.format.specs.Scan.{writeField, writesAt}
-use Rattle.format.proofs.FieldLaws.{writes-cons}
+use Rattle.fields.proofs.FieldLaws.{writes-cons}
 use Rattle.disks.specs.Packed.{unpacked, Packs, Loads, heldFrom}
 
 -- ---- the disk of a schedule

@@ -21,7 +21,7 @@ pub fn load(table: &mut [u64], file: &[u8], at: usize, n: usize)
 {
     let mut i: usize = 0;
     while i < n {
-        table[i] = pack(format::write_at(file, at + 13 * i));
+        table[i] = pack(fields::write_at(file, at + 13 * i));
         i += 1;
     }
 }

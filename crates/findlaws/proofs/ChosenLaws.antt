@@ -22,7 +22,7 @@ use Rattle.model.specs.Schedule.{labelAt}
 use Rattle.model.specs.Test.{Test, testHolds}
 use Rattle.model.specs.Find.{Candidate, Candidates, Suffices, NoneSuffices, Fewest, picked, Chosen, candidatesOf, suffices, preferred, chosenBelow, chosen}
 use Rattle.model.proofs.TestLaws.{testHolds-true, true-testHolds}
-use Rattle.rules.proofs.CyclicLaws.{cyclic-true, true-cyclic}
+use Rattle.cyclelaws.proofs.CyclicLaws.{cyclic-true, true-cyclic}
 use Rattle.findlaws.specs.Theorem.{Counted, Given, Refused}
 use Rattle.findlaws.proofs.CandidateLaws.{matches-known, collected}
 use Rattle.findlaws.proofs.CutLaws.{picked-member, cut-down}

@@ -11,7 +11,7 @@ use Rattle.relation.proofs.WithoutLaws.{lowest-odd, lowest-even, lowest-half, h
 use Rattle.model.specs.declared.Rule.{Rule}
 use Rattle.model.specs.Cyclic.{Walk, ClosedWalk, cyclic}
 use Rattle.model.specs.Find.{picked}
-use Rattle.rules.proofs.CyclicLaws.{true-walk, walk-true}
+use Rattle.cyclelaws.proofs.CyclicLaws.{true-walk, walk-true}
 
 module _ (few rules : List Rule) (part : (x : Rule) → List·Memᴰ x few → List·Memᴰ x rules) where
   walk-more : (a : ℕ) (rs : List Rule) (b : ℕ) → Walk few a rs b → Walk rules a rs b

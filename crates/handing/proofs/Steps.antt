@@ -2,12 +2,11 @@
 use mathlib.Core.Path.{_≡_, refl, sym, ap, _∙_}
 use mathlib.Core.Bool.{Bool, true, false, cond, not}
 use mathlib.Core.List.{List, [], _∷_, _++_}
-use Prim.Native.Nat.{ℕ, suc, _+_, _*_, _≤_, _<_}
+use Prim.Native.Nat.{ℕ, _+_, _*_, _≤_, _<_}
 use native.Mathlib.Numerals.{add-one}
 use native.Mathlib.Omega.{arith}
 use lib.Dec.{eqb, leb}
-use lib.ListN.{length, take, set, length-append}
-use lib.Seq.{sets}
+use lib.ListN.{length, take, length-append}
 use borrow.Author.Needs.{needs}
 use borrow.Author.Tests.{eqb-true, eq-eqb, ne-eqb, leb-false, le-leb, lt-leb, not-true, not-false}
 use Rattle.relation.specs.Lists.{anyBelow}
@@ -17,31 +16,21 @@ use Rattle.relation.proofs.FiniteLaws.{loops-closed}
 use Rattle.model.specs.declared.Rule.{Rule}
 use Rattle.model.specs.declared.Write.{Write}
 use Rattle.model.specs.Answer.{refused, answer, refusal, coded}
-use Rattle.model.specs.Disk.{block}
 use Rattle.model.specs.Rules.{labelOf, dependsOn}
-use Rattle.format.specs.Bytes.{byte, bytes4, writeBytes}
+use Rattle.format.specs.Bytes.{byte}
 use Rattle.rules.specs.declared.Rules.{Rules}
 use Rattle.rules.specs.Held.{rulesOf}
 use Rattle.cache.specs.Needs.{needsRing}
 use Rattle.cache.specs.Needs as cache
-use Rattle.cache.specs.State.{ruleCount, acceptedCount, rulesIn, writesIn, writeIn, storedIn, entryBytes, handed}
+use Rattle.cache.specs.State.{ruleCount, acceptedCount, rulesIn, writesIn, writeIn, storedIn, handed}
 use Rattle.cache.specs.Sound.{sound}
-use Rattle.cache.specs.Calls.{left, late, handInOf, given}
+use Rattle.cache.specs.Calls.{left, late, handInOf}
 use Rattle.soundness.specs.Parts.{Tabled, TabledIf}
 use Rattle.contents.proofs.ContentSteps.{writes-length, write-at}
 use Rattle.layout.proofs.LayoutSteps.{flag-read}
 use Rattle.soundness.proofs.SoundSteps.{table-agrees}
 use Rattle.storing.specs.Given.{kept, codedKept, lateAt, handFaultBy, handFault}
-use Rattle.stores.proofs.StoreSteps.{inside}
 use Rattle.storing.proofs.Steps.{few-rules, few-writes}
-
--- ---- given
-
-pub value-given : (a n e f s : ℕ) → record { address = a; name = n; epoch = e; block = f * 65536 + s } ≡ given a n e f s
-unfolding block
-value-given a n e f s = refl
-
-pub ruleset giving = (needs, value-given)
 
 -- ---- late_at, is_late
 
@@ -143,34 +132,6 @@ module _ (w : Write) (s : List ℕ) where
           hand-none h = rw (eq-eqb _ _ hs, ← e, not-false b t, lt-leb _ _ m, ← i, ← f, g, ← q, h)
 
 pub ruleset faulting = (needs, hand-short, hand-unsound, hand-rules, hand-writes, hand-tabled, hand-held, hand-full, hand-late, hand-ring, hand-none)
-
--- ---- append
-
--- a run of stores is one run after another
-pub sets-append : (l : List ℕ) (i : ℕ) (xs ys : List ℕ) → sets l i (xs ++ ys) ≡ sets (sets l i xs) (i + length xs) ys
-sets-append l i [] ys = let z : i + 0 ≡ i = omega arith in rw z
-sets-append l i (x ∷ xs) ys =
-    let z : suc i + length xs ≡ i + suc (length xs) = omega arith in
-    sets-append (set l i x) (suc i) xs ys ∙ ap (λ (k : ℕ). sets (sets (set l i x) (suc i) xs) k ys) z
-
-pub pair-put : (l : List ℕ) (at x y : ℕ) → set (set l at x) (at + 1) y ≡ sets l at (x ∷ y ∷ [])
-pair-put l at x y = let z : at + 1 ≡ suc at = omega arith in rw z
-
-pub entry-put : (l l₁ l₂ l₃ l₄ : List ℕ) (at : ℕ) (w : Write) → l₁ ≡ sets l at (w .address ∷ w .name ∷ []) → l₂ ≡ sets l₁ (at + 2) (bytes4 (w .epoch))
-    → l₃ ≡ sets l₂ (at + 6) (bytes4 (w .block)) → l₄ ≡ sets l₃ (at + 10) (0 ∷ 0 ∷ []) → l₄ ≡ sets l at (entryBytes w)
-unfolding entryBytes writeBytes
-entry-put l l₁ l₂ l₃ l₄ at w a b c d =
-    let two : at + 2 ≡ suc (suc at) = omega arith in
-    let six : at + 6 ≡ suc (suc (suc (suc (suc (suc at))))) = omega arith in
-    let ten : at + 10 ≡ suc (suc (suc (suc (suc (suc (suc (suc (suc (suc at))))))))) = omega arith in
-    d ∙ rw (c, b, a, two, six, ten)
-
-pub appended : (s s′ : List ℕ) (w : Write) (n : ℕ) → n ≡ acceptedCount s → s′ ≡ sets s (100 + 12 * n) (entryBytes w)
-    → set s′ 1 (acceptedCount s + 1) ≡ handed s w
-unfolding handed
-appended s s′ w n c e = rw (e, c)
-
-pub ruleset appending = (needs, inside, pair-put, entry-put, appended)
 
 -- ---- pelzhondy_hand_in
 

@@ -79,7 +79,7 @@ pub fn admit(file: &[u8], test: u64) -> Gate
             tests,
             found,
         } => {
-            if rules::is_cyclic(loading::file_rules(file, rules)) {
+            if cycles::is_cyclic(loading::file_rules(file, rules)) {
                 return Gate::Shut {
                     number: 8,
                     place: 0,

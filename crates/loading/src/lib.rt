@@ -21,7 +21,7 @@ pub fn file_rules(file: &[u8], n: usize) -> Rules
     }; 32];
     let mut i: usize = 0;
     while i < n {
-        items[i] = format::rule_at(file, 6 * i);
+        items[i] = fields::rule_at(file, 6 * i);
         i += 1;
     }
     Rules { items, count: n }
@@ -36,7 +36,7 @@ pub fn file_checks(file: &[u8], from: usize, n: usize) -> [Check; 16]
     let mut at = from;
     let mut i: usize = 0;
     while i < n {
-        checks[i] = format::check_at(file, at);
+        checks[i] = fields::check_at(file, at);
         at = format::end_of(file, at);
         i += 1;
     }

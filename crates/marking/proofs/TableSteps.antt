@@ -1,6 +1,6 @@
 -- The code's steps: one law for each return and each turn of a loop, whose premises are what is known at that place.
 use borrow.Author.Needs.{needs}
-use Rattle.rules.proofs.Steps.{length-mapped}
+use Rattle.rules.proofs.MatchSteps.{length-mapped}
 use Rattle.schedules.proofs.TotalLaws.{total-is, total-most}
 use Rattle.marking.proofs.SetLaws.{total-sets, total-sets-most, with-yes, with-no, grown-none, grown-more, grown-all, grown-rule, sets-none, sets-more, sets-all, sets-bounded, bounded-at}
 use Rattle.marking.proofs.MarkLaws.{mark-no, mark-yes, adds-none, adds-more, adds-all, adds-test, marking-none, marking-more, marking-all, either-yes, either-no, with-inside, lowered-none, lowered-more, lowered-all, spreads-none, spreads-more, spreads-all}

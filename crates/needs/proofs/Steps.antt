@@ -23,7 +23,7 @@ use Rattle.model.specs.Rules.{label, labelOf, stands, matches, dependsOn}
 use Rattle.model.specs.Cyclic.{noRule, ruleAt}
 use Rattle.rules.specs.declared.Rules.{Rules}
 use Rattle.rules.specs.Held.{rulesOf}
-use Rattle.rules.proofs.Steps.{length-mapped}
+use Rattle.rules.proofs.MatchSteps.{length-mapped}
 use Rattle.rules.specs.Held.{itemAt}
 use Rattle.cache.specs.Needs as cache
 use Rattle.cache.specs.State.{acceptedCount, writeIn, writesIn}

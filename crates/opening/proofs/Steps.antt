@@ -22,13 +22,13 @@ use Rattle.format.specs.Held.{Tells}
 use Rattle.reader.proofs.CallerLaws.{refused-read, refused-most, accepted-read, accepted-tests, accepted-most, accepted-at, accepted-long}
 use Rattle.rules.specs.declared.Rules.{Rules}
 use Rattle.rules.specs.Held.{rulesOf}
-use Rattle.rules.proofs.Steps.{length-mapped}
+use Rattle.rules.proofs.MatchSteps.{length-mapped}
 use Rattle.rules.specs.Held.{itemAt}
 use Rattle.cache.specs.State.{rulesBytes, opened}
 use Rattle.cache.specs.Calls.{left, openWith, openOf}
 use Rattle.storing.specs.Given.{kept, codedKept, openedBy}
 use Rattle.stores.proofs.StoreSteps.{inside}
-use Rattle.handing.proofs.Steps.{sets-append}
+use Rattle.appending.proofs.AppendSteps.{sets-append}
 
 -- ---- clear
 

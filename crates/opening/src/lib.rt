@@ -50,7 +50,7 @@ pub fn open_with(state: &mut [u8], rules: Rules) -> u64
     requires { ⌜ (length (now state) ≡ 1024) × (rules .count ≤ 32) ⌝ }
     ensures { λ r. ⌜ kept r (now (state .exit)) ≡ openedBy (rulesOf rules) (now (state .entry)) ⌝ }
 {
-    if rules::is_cyclic(rules) {
+    if cycles::is_cyclic(rules) {
         return model::refuse(8, 0);
     }
     clear(state);

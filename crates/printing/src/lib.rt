@@ -120,7 +120,7 @@ pub fn judge_lines(file: &[u8], out: &mut [u8]) -> usize
             tests,
             found: _,
         } => {
-            if rules::is_cyclic(loading::file_rules(file, rules)) {
+            if cycles::is_cyclic(loading::file_rules(file, rules)) {
                 return put_refused(out, 0, 8, 0);
             }
             put_cases(out, file, tests as u64)

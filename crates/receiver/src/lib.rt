@@ -47,12 +47,12 @@ pub extern "C" fn pelzhondy_hand_in(
 ) -> u64
     ensures { λ r. ⌜ kept r (now (state .exit)) ≡ codedKept (handInOf (given address name epoch first second) (now (state .entry)) []) ⌝ }
 {
-    let w = handing::given(address, name, epoch, first, second);
+    let w = appending::given(address, name, epoch, first, second);
     let number = handing::hand_fault(state, w);
     if number != 0 {
         return model::refuse(number, 0);
     }
-    handing::append(state, w)
+    appending::append(state, w)
 }
 
 // Starts a state with a file's rules and no writes. Answers 0.

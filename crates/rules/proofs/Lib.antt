@@ -1,4 +1,1 @@
-pub mod EpochLaws
-pub mod CyclicLaws
-pub mod Examples
-pub mod Steps
+pub mod MatchSteps

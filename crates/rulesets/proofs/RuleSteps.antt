@@ -15,7 +15,7 @@ use Rattle.model.specs.declared.Rule.{Rule}
 use Rattle.model.specs.Find.{before, inserted, picked}
 use Rattle.rules.specs.declared.Rules.{Rules}
 use Rattle.rules.specs.Held.{rulesOf}
-use Rattle.rules.proofs.Steps.{length-mapped}
+use Rattle.rules.proofs.MatchSteps.{length-mapped}
 use Rattle.rules.specs.Held.{itemAt}
 use Rattle.findlaws.proofs.PickedLaws.{picked-snoc}
 use Rattle.rulesets.specs.Kept.{placeOf, Follows}

@@ -23,7 +23,7 @@ use Rattle.model.proofs.TestLaws.{count-none, none-count}
 use Rattle.format.specs.File.{readOf}
 use Rattle.format.specs.Encode.{WriteFits}
 use Rattle.reader.proofs.CallerLaws.{holding-limits}
-use Rattle.rules.proofs.CyclicLaws.{true-cyclic, cyclic-true}
+use Rattle.cyclelaws.proofs.CyclicLaws.{true-cyclic, cyclic-true}
 use Rattle.cache.specs.Needs.{Needs, NeedsRing, Earliest, needsRing, ready}
 use Rattle.cache.specs.State as State
 use Rattle.cache.specs.State.{stateSize, storedIn, handed, storedOn}

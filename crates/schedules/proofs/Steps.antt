@@ -24,7 +24,7 @@ use Rattle.model.specs.Schedule.{run, written}
 use Rattle.format.specs.Scan.{writeField, writesAt}
 use Rattle.rules.specs.declared.Rules.{Rules}
 use Rattle.rules.specs.Held.{rulesOf}
-use Rattle.rules.proofs.Steps.{length-mapped, depends-next}
+use Rattle.rules.proofs.MatchSteps.{length-mapped, depends-next}
 use Rattle.rules.specs.Held.{itemAt}
 use Rattle.disks.specs.Packed.{Loads, heldFrom}
 use Rattle.disks.proofs.Steps.{loaded-run}

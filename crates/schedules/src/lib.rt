@@ -36,7 +36,7 @@ fn rule_row(rule: Rule, file: &[u8], at: usize, n: usize, name: u8, epoch: u32) 
     let mut mask: u64 = 0;
     let mut j: usize = 0;
     while j < n {
-        let w = format::write_at(file, at + 13 * j);
+        let w = fields::write_at(file, at + 13 * j);
         mask = with_match(mask, j, rule, name, epoch, w);
         j += 1;
     }
@@ -64,7 +64,7 @@ fn fill(rows: &mut [u64], rules: Rules, file: &[u8], at: usize, n: usize)
 {
     let mut i: usize = 0;
     while i < n {
-        let w = format::write_at(file, at + 13 * i);
+        let w = fields::write_at(file, at + 13 * i);
         rows[i] = row(rules, file, at, n, w.name, w.epoch);
         i += 1;
     }

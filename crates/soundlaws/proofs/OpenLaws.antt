@@ -19,7 +19,7 @@ use Rattle.format.specs.Bytes.{byte, ruleBytes}
 use Rattle.format.specs.File.{ruleOf}
 use Rattle.reader.proofs.CallerLaws.{holding-limits}
 use Rattle.encoding.proofs.PartLaws.{rule-back}
-use Rattle.rules.proofs.CyclicLaws.{cyclic-true, true-cyclic}
+use Rattle.cyclelaws.proofs.CyclicLaws.{cyclic-true, true-cyclic}
 use Rattle.cache.specs.Needs.{Needs, NeedsRing}
 use Rattle.cache.specs.State.{stateSize, ruleCount, acceptedCount, ruleBase, ruleIn, rulesIn, writesIn, rulesBytes, opened}
 use Rattle.cache.specs.Sound.{Sound}

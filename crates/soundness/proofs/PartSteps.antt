@@ -18,7 +18,7 @@ use Rattle.model.specs.Rules.{known}
 use Rattle.model.specs.Cyclic.{noRule}
 use Rattle.rules.specs.declared.Rules.{Rules}
 use Rattle.rules.specs.Held.{rulesOf}
-use Rattle.rules.proofs.Steps.{length-mapped}
+use Rattle.rules.proofs.MatchSteps.{length-mapped}
 use Rattle.rules.specs.Held.{itemAt}
 use Rattle.relation.specs.Union.{partOf}
 use Rattle.soundness.specs.Parts.{covered}

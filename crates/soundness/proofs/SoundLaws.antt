@@ -16,7 +16,7 @@ use Rattle.model.specs.Test.{countBelow}
 use Rattle.model.proofs.TestLaws.{count-most}
 use Rattle.model.proofs.RuleLaws.{known-true, true-known}
 use Rattle.format.specs.Bytes.{byte}
-use Rattle.rules.proofs.CyclicLaws.{cyclic-true, true-cyclic}
+use Rattle.cyclelaws.proofs.CyclicLaws.{cyclic-true, true-cyclic}
 use Rattle.cache.specs.Needs.{Needs, needs, needsRing, met}
 use Rattle.cache.specs.State.{ruleCount, acceptedCount, storedCount, ruleBase, writeBase, rulesIn, writesIn, storedIn}
 use Rattle.cache.specs.Sound.{Sound, zeros, layout, sound}

@@ -81,7 +81,7 @@ pub fn is_sound(rows: &mut [u64; 64], state: &[u8]) -> bool
     if !is_known(rules) {
         return false;
     }
-    if rules::is_cyclic(rules) {
+    if cycles::is_cyclic(rules) {
         return false;
     }
     if contents::wide(state[2]) != layout::count_stored(state) {

@@ -8,7 +8,7 @@ use Rattle.disks.proofs.load.Tie as tie
 use Rattle.disks.proofs.load.Reads as reads
 use Rattle.disks.proofs.load.Lts as lts
 use Rattle.disks.proofs.pack.Reads as pack-reads
-use Rattle.format.proofs.write_at.Reads as write-at-reads
+use Rattle.fields.proofs.write_at.Reads as write-at-reads
 
 abbrev Inv-loop : tie.InvT-loop
 Inv-loop table₀ file at n i₀ table i = (i ≤ n) × (length table ≡ 64) × Loads file at i table

@@ -1,4 +1,4 @@
-use Rattle.format.proofs.FieldLaws.{fields}
+use Rattle.format.proofs.ByteLaws.{bytes}
 use borrow.Author.Needs.{needs}
 use Rattle.format.proofs.word_at.Statement.{statement}
 use Rattle.format.proofs.word_at.Tie as tie
@@ -25,7 +25,7 @@ cast-result : tie.Need-cast-result
 cast-result c = search needs
 
 returns : tie.Need-returns
-returns c = search fields
+returns c = search bytes
 
 pub word-at-spec : {M : Type 1} → statement M
 word-at-spec =

@@ -8,7 +8,7 @@ use Rattle.judging.proofs.admit.Lts as lts
 use Rattle.loading.proofs.file_rules.Reads as file-rules-reads
 use Rattle.reader.proofs.from_zero.Reads as from-zero-reads
 use Rattle.reader.proofs.read.Reads as read-reads
-use Rattle.rules.proofs.is_cyclic.Reads as is-cyclic-reads
+use Rattle.cycles.proofs.is_cyclic.Reads as is-cyclic-reads
 
 from-zero-requires : tie.Need-from-zero-requires
 from-zero-requires c κs = search needs

@@ -7,7 +7,7 @@ use Rattle.loading.proofs.file_checks.Statement.{statement}
 use Rattle.loading.proofs.file_checks.Tie as tie
 use Rattle.loading.proofs.file_checks.Reads as reads
 use Rattle.loading.proofs.file_checks.Lts as lts
-use Rattle.format.proofs.check_at.Reads as check-at-reads
+use Rattle.fields.proofs.check_at.Reads as check-at-reads
 use Rattle.format.proofs.end_of.Reads as end-of-reads
 
 abbrev Inv-loop : tie.InvT-loop

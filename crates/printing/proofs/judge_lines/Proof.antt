@@ -9,7 +9,7 @@ use Rattle.loading.proofs.file_rules.Reads as file-rules-reads
 use Rattle.printing.proofs.put_cases.Reads as put-cases-reads
 use Rattle.printing.proofs.put_refused.Reads as put-refused-reads
 use Rattle.reader.proofs.read.Reads as read-reads
-use Rattle.rules.proofs.is_cyclic.Reads as is-cyclic-reads
+use Rattle.cycles.proofs.is_cyclic.Reads as is-cyclic-reads
 
 read-requires : tie.Need-read-requires
 read-requires c κs = search needs

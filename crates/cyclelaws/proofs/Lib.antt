@@ -1,0 +1,3 @@
+pub mod EpochLaws
+pub mod CyclicLaws
+pub mod Examples

@@ -1,0 +1,49 @@
+use Rattle.fields.proofs.FieldLaws.{fields}
+use borrow.Author.Needs.{needs}
+use Rattle.fields.proofs.check_at.Statement.{statement}
+use Rattle.fields.proofs.check_at.Tie as tie
+use Rattle.fields.proofs.check_at.Reads as reads
+use Rattle.fields.proofs.check_at.Lts as lts
+use Rattle.format.proofs.body_length.Reads as body-length-reads
+use Rattle.fields.proofs.read_check.Reads as read-check-reads
+
+shared-slice-read-tag : tie.Need-shared-slice-read-tag
+shared-slice-read-tag c = search needs
+
+add-b : tie.Need-add-b
+add-b c = search needs
+
+body-length-requires : tie.Need-body-length-requires
+body-length-requires c κs = search needs
+
+add-e : tie.Need-add-e
+add-e c = search needs
+
+sub-read-check : tie.Need-sub-read-check
+sub-read-check c = search needs
+
+part-read-check-start : tie.Need-part-read-check-start
+part-read-check-start c = search needs
+
+part-read-check-end : tie.Need-part-read-check-end
+part-read-check-end c = search needs
+
+read-check-requires : tie.Need-read-check-requires
+read-check-requires c κs = search needs
+
+returns : tie.Need-returns
+returns c = search fields
+
+pub check-at-spec : {M : Type 1} → statement M
+check-at-spec =
+    tie.close
+    (tie.spec
+    shared-slice-read-tag
+    add-b
+    body-length-requires
+    add-e
+    sub-read-check
+    part-read-check-start
+    part-read-check-end
+    read-check-requires
+    returns)
