@@ -1,3 +1,4 @@
+-- `answers::code_of` meets its contract: the three numbers are small, so the sum fits.
 use mathlib.Core.Path.{refl}
 use Rattle.answers.specs.Judged.{judgementCode}
 use Rattle.answers.proofs.JudgedLaws.{judged}

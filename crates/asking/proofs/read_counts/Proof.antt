@@ -1,3 +1,4 @@
+-- `asking::read_counts` meets its contract, by what the scan tells of the file.
 use native.Mathlib.Omega.{arith}
 use Rattle.asking.proofs.FileLaws.{answers, sizes-fit, refusal-fits}
 use borrow.Author.Needs.{needs}

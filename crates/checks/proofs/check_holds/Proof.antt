@@ -1,3 +1,4 @@
+-- `checks::check_holds` meets its contract, one law for each form of a check.
 use Rattle.checks.proofs.CheckSteps.{checking}
 use borrow.Author.Needs.{needs}
 use Rattle.checks.proofs.check_holds.Statement.{statement}

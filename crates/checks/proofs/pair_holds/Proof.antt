@@ -1,3 +1,4 @@
+-- `checks::pair_holds` meets its contract, by the cases of its definition.
 use Rattle.model.specs.Check.{holds}
 use Rattle.relation.proofs.Cases.{cases}
 use borrow.Author.Needs.{needs}

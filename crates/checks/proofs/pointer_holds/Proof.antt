@@ -1,3 +1,4 @@
+-- `checks::pointer_holds` meets its contract, one law for each of its returns.
 use Rattle.checks.proofs.CheckSteps.{checking}
 use borrow.Author.Needs.{needs}
 use Rattle.checks.proofs.pointer_holds.Statement.{statement}

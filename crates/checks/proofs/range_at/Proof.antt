@@ -1,3 +1,4 @@
+-- `checks::range_at` meets its contract, by the contract of `range_holds`.
 use Rattle.checks.proofs.CheckSteps.{checking}
 use borrow.Author.Needs.{needs}
 use Rattle.checks.proofs.range_at.Statement.{statement}

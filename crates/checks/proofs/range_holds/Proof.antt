@@ -1,3 +1,4 @@
+-- `checks::range_holds` meets its contract. The invariant: the blocks from head up to k are not empty.
 use Prim.Native.Nat.{_-_, _≤_, _<_}
 use Rattle.checks.proofs.CheckSteps.{Full, checking}
 use Rattle.checks.proofs.range_holds.Statement.{statement}

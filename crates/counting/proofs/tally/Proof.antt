@@ -1,3 +1,4 @@
+-- `counting::tally` meets its contract, one law for each of its returns.
 use Rattle.counting.proofs.CountLaws.{counts}
 use Rattle.counting.proofs.tally.Statement.{statement}
 use Rattle.counting.proofs.tally.Tie as tie

@@ -1,3 +1,4 @@
+-- `disks::apply` meets its contract, by induction on the writes left.
 use Rattle.disks.proofs.Steps.{steps}
 use Prim.Native.Nat.{ℕ, _<_}
 use borrow.Fn.Kinds.{In}

@@ -1,3 +1,4 @@
+-- `disks::address_of` meets its contract, by arithmetic.
 use Rattle.disks.specs.Packed.{unpacked}
 use borrow.Author.Needs.{needs}
 use Rattle.disks.proofs.address_of.Statement.{statement}

@@ -1,3 +1,4 @@
+-- `disks::load` meets its contract. The invariant: the first i places of the table pack the file's writes.
 use Prim.Native.Nat.{_-_, _≤_}
 use mathlib.Core.Path.{_≡_}
 use lib.ListN.{length}

@@ -1,3 +1,4 @@
+-- `disks::pack` meets its contract, by arithmetic.
 use Rattle.disks.proofs.Steps.{steps}
 use Rattle.disks.proofs.pack.Statement.{statement}
 use Rattle.disks.proofs.pack.Tie as tie

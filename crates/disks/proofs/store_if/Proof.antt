@@ -1,3 +1,4 @@
+-- `disks::store_if` meets its contract, one law for each case of the flag.
 use Rattle.disks.proofs.Steps.{steps}
 use Rattle.disks.proofs.store_if.Statement.{statement}
 use Rattle.disks.proofs.store_if.Tie as tie

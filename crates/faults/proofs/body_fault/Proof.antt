@@ -1,3 +1,4 @@
+-- `faults::body_fault` meets its contract, by the cases of its definition.
 use mathlib.Core.Path.{_∙_}
 use Rattle.format.specs.File.{bodyFault, bodyLength}
 use Rattle.relation.proofs.Cases.{cases}

@@ -1,3 +1,4 @@
+-- `faults::fault` meets its contract, one law for each of its returns.
 use Rattle.faults.proofs.FaultLaws.{faults}
 use borrow.Author.Needs.{needs}
 use Rattle.faults.proofs.fault.Statement.{statement}

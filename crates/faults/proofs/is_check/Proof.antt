@@ -1,3 +1,4 @@
+-- `faults::is_check` meets its contract, by the cases of its definition.
 use Rattle.format.specs.File.{isCheck}
 use Rattle.relation.proofs.Cases.{cases}
 use Rattle.faults.proofs.is_check.Statement.{statement}

@@ -1,3 +1,4 @@
+-- `faults::is_tag` meets its contract, by the cases of its definition.
 use Rattle.format.specs.File.{isTag}
 use Rattle.relation.proofs.Cases.{cases}
 use Rattle.faults.proofs.is_tag.Statement.{statement}

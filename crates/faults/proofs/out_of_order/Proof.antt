@@ -1,3 +1,4 @@
+-- `faults::out_of_order` meets its contract, by the cases of its definition.
 use Rattle.format.specs.File.{outOfOrder}
 use Rattle.relation.proofs.Cases.{cases}
 use Rattle.faults.proofs.out_of_order.Statement.{statement}

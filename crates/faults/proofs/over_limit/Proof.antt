@@ -1,3 +1,4 @@
+-- `faults::over_limit` meets its contract, by the cases of its definition.
 use Rattle.format.specs.File.{overLimit}
 use Rattle.relation.proofs.Cases.{calls}
 use borrow.Author.Needs.{needs}

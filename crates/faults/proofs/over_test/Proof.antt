@@ -1,3 +1,4 @@
+-- `faults::over_test` meets its contract, by the cases of its definition.
 use Rattle.format.specs.File.{overTest}
 use Rattle.relation.proofs.Cases.{calls}
 use borrow.Author.Needs.{needs}

@@ -1,3 +1,4 @@
+-- `fields::read_check` meets its contract, one law for each tag.
 use Rattle.fields.proofs.FieldLaws.{fields}
 use Rattle.fields.proofs.read_check.Statement.{statement}
 use Rattle.fields.proofs.read_check.Tie as tie

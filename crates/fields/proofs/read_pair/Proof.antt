@@ -1,3 +1,4 @@
+-- `fields::read_pair` meets its contract: each part is the definition's.
 use Rattle.format.specs.File.{checkOf}
 use borrow.Author.Needs.{needs}
 use Rattle.fields.proofs.read_pair.Statement.{statement}

@@ -1,3 +1,4 @@
+-- `fields::read_write` meets its contract: each part is the definition's.
 use Rattle.format.specs.File.{writeOf}
 use borrow.Author.Needs.{needs}
 use Rattle.fields.proofs.read_write.Statement.{statement}

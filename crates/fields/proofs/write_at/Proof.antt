@@ -1,3 +1,4 @@
+-- `fields::write_at` meets its contract: the part of the file that is lent is the field's body.
 use Rattle.fields.proofs.FieldLaws.{fields}
 use borrow.Author.Needs.{needs}
 use Rattle.fields.proofs.write_at.Statement.{statement}

@@ -1,3 +1,4 @@
+-- `format::body_length` meets its contract, by the cases of its definition.
 use Rattle.format.specs.File.{bodyLength}
 use Rattle.relation.proofs.Cases.{cases}
 use Rattle.format.proofs.body_length.Statement.{statement}

@@ -1,3 +1,4 @@
+-- `format::half_at` meets its contract, by the contract of `wide`, and arithmetic.
 use native.Mathlib.Omega.{arith}
 use Rattle.format.specs.Bytes.{half}
 use borrow.Author.Needs.{needs}

@@ -1,3 +1,4 @@
+-- `format::word_at` meets its contract: two halves make a word.
 use Rattle.format.proofs.ByteLaws.{bytes}
 use borrow.Author.Needs.{needs}
 use Rattle.format.proofs.word_at.Statement.{statement}

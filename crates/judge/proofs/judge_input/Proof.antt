@@ -1,3 +1,4 @@
+-- `judge::judge_input` meets its contract: what is read fits the buffer.
 use mathlib.Core.Path.{sym}
 use native.Mathlib.Omega.{arith}
 use lib.Seq.{length-take-le}

@@ -1,3 +1,4 @@
+-- `judge::read_input` meets its contract. The invariant: what is read so far fits the buffer, whose length stays.
 use Prim.Native.Nat.{_-_, _≤_}
 use mathlib.Core.Path.{_≡_}
 use lib.ListN.{length}

@@ -1,3 +1,4 @@
+-- `judging::admit` meets its contract, one law for each refusal and for the test found.
 use native.Mathlib.Omega.{arith}
 use Rattle.judging.proofs.JudgeLaws.{judges, rules-most, rules-inside}
 use borrow.Author.Needs.{needs}

@@ -1,3 +1,4 @@
+-- `judging::decide_test` meets its contract: tables that decide validity and disks give the verdict of the definition.
 use Rattle.judging.proofs.JudgeLaws.{judges}
 use borrow.Author.Needs.{needs}
 use Rattle.judging.proofs.decide_test.Statement.{statement}

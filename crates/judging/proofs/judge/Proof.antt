@@ -1,3 +1,4 @@
+-- `judging::judge` meets its contract: the gate's refusal, or the counts of the test found.
 use native.Mathlib.Omega.{arith}
 use Rattle.judging.proofs.JudgeLaws.{judges, open-rules, open-long, open-inside}
 use borrow.Author.Needs.{needs}

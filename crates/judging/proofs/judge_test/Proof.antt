@@ -1,3 +1,4 @@
+-- `judging::judge_test` meets its contract: tables that decide validity and disks give the counts of the definition.
 use Rattle.judging.proofs.JudgeLaws.{judges}
 use borrow.Author.Needs.{needs}
 use Rattle.judging.proofs.judge_test.Statement.{statement}

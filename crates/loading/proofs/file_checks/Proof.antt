@@ -1,3 +1,4 @@
+-- `loading::file_checks` meets its contract. The invariant: the first i checks are loaded, and the next field's place is known.
 use Prim.Native.Nat.{_-_, _≤_}
 use mathlib.Core.Path.{_≡_}
 use lib.ListN.{length, take}

@@ -1,3 +1,4 @@
+-- `loading::file_rules` meets its contract. The invariant: the first i rules are loaded.
 use Prim.Native.Nat.{_-_, _≤_}
 use mathlib.Core.Path.{_≡_}
 use lib.ListN.{length, take}

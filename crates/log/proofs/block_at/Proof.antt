@@ -1,3 +1,4 @@
+-- `log::block_at` meets its contract, by the contract of `word_at`.
 use Rattle.log.proofs.Steps.{gets}
 use borrow.Author.Needs.{needs}
 use Rattle.log.proofs.block_at.Statement.{statement}

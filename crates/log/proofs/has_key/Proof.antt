@@ -1,3 +1,4 @@
+-- `log::has_key` meets its contract, one law for each of its returns.
 use Rattle.log.proofs.Steps.{gets}
 use borrow.Author.Needs.{needs}
 use Rattle.log.proofs.has_key.Statement.{statement}

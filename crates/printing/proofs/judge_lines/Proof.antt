@@ -1,3 +1,4 @@
+-- `printing::judge_lines` meets its contract, one law for each refusal and for the lines.
 use native.Mathlib.Omega.{arith}
 use Rattle.printing.proofs.TextLaws.{texts, rules-fit, refusal-fits}
 use borrow.Author.Needs.{needs}

@@ -1,3 +1,4 @@
+-- `printing::put_case` meets its contract: the line of the case that the judge was given.
 use Rattle.printing.proofs.TextLaws.{texts}
 use borrow.Author.Needs.{needs}
 use Rattle.printing.proofs.put_case.Statement.{statement}

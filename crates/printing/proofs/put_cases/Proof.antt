@@ -1,3 +1,4 @@
+-- `printing::put_cases` meets its contract. The invariant: the lines of the first i tests are written, in 24 bytes each at most.
 use Prim.Native.Nat.{_*_, _-_, _≤_}
 use mathlib.Core.Path.{_≡_}
 use lib.ListN.{length}

@@ -1,3 +1,4 @@
+-- `printing::put_number` meets its contract: a number below 100,000 has at most five digits.
 use Rattle.printing.proofs.LineLaws.{line-steps}
 use borrow.Author.Needs.{needs}
 use Rattle.printing.proofs.put_number.Statement.{statement}

@@ -1,3 +1,4 @@
+-- `printing::put_verdict` meets its contract, one law for each text.
 use Rattle.printing.proofs.LineLaws.{line-steps}
 use borrow.Author.Needs.{needs}
 use Rattle.printing.proofs.put_verdict.Statement.{statement}

@@ -1,3 +1,4 @@
+-- `puts::put_program` meets its contract. The invariant: the fields of the first i puts are written, in 26 bytes each.
 use Prim.Native.Nat.{_+_, _-_, _*_, _≤_}
 use mathlib.Core.Path.{_≡_}
 use lib.ListN.{length}

@@ -1,3 +1,4 @@
+-- `puts::put_put` meets its contract: its two fields, written one behind the other, are the put's.
 use native.Mathlib.Omega.{arith}
 use Rattle.puts.proofs.PutSteps.{put-wrote}
 use borrow.Author.Needs.{needs}

@@ -1,3 +1,4 @@
+-- `reader::advance` meets its contract, by the contracts of its parts.
 use Rattle.format.specs.Scan.{advanced}
 use borrow.Author.Needs.{needs}
 use Rattle.reader.proofs.advance.Statement.{statement}

@@ -1,3 +1,4 @@
+-- `reader::begin_at` meets its contract, by the cases of its definition.
 use Rattle.format.specs.Scan.{testFrom}
 use Rattle.relation.proofs.Cases.{cases}
 use borrow.Author.Needs.{needs}

@@ -1,3 +1,4 @@
+-- `reader::end_scan` meets its contract, by the cases of its definition.
 use Rattle.format.specs.Scan.{ended}
 use Rattle.relation.proofs.Cases.{cases}
 use borrow.Author.Needs.{needs}

@@ -1,3 +1,4 @@
+-- `reader::find_test` meets its contract, by the cases of its definition.
 use Rattle.format.specs.Scan.{found}
 use Rattle.relation.proofs.Cases.{cases}
 use borrow.Author.Needs.{needs}

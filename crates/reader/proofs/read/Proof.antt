@@ -1,3 +1,4 @@
+-- `reader::read` meets its contract. The invariant, `Going`: from here on the scan goes as the definition does from the front.
 use borrow.Author.Needs.{needs}
 use Prim.Native.Nat.{_-_}
 use lib.ListN.{length}

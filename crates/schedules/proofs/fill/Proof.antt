@@ -1,3 +1,4 @@
+-- `schedules::fill` meets its contract. The invariant: the first i rows are filled.
 use Prim.Native.Nat.{_-_, _≤_}
 use mathlib.Core.Path.{_≡_}
 use lib.ListN.{length, take}

@@ -1,3 +1,4 @@
+-- `schedules::initial_disk` meets its contract: the schedule of all flags stores every write.
 use Rattle.schedules.proofs.Steps.{steps}
 use Rattle.schedules.proofs.initial_disk.Statement.{statement}
 use Rattle.schedules.proofs.initial_disk.Tie as tie

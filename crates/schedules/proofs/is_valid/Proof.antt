@@ -1,3 +1,4 @@
+-- `schedules::is_valid` meets its contract: it is the definition by unions.
 use Rattle.schedules.proofs.Steps.{steps}
 use Rattle.schedules.proofs.is_valid.Statement.{statement}
 use Rattle.schedules.proofs.is_valid.Tie as tie

@@ -1,3 +1,4 @@
+-- `schedules::prepare` meets its contract: the unions of the rows decide validity.
 use Rattle.schedules.proofs.Steps.{steps}
 use Rattle.schedules.proofs.prepare.Statement.{statement}
 use Rattle.schedules.proofs.prepare.Tie as tie

@@ -1,3 +1,4 @@
+-- `schedules::row` meets its contract. The invariant: the mask has what the first k rules pair.
 use Prim.Native.Nat.{_-_, _≤_}
 use mathlib.Core.Path.{_≡_}
 use lib.ListN.{take}

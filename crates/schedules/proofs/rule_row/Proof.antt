@@ -1,3 +1,4 @@
+-- `schedules::rule_row` meets its contract. The invariant: the mask has what the rule pairs among the first j writes.
 use Prim.Native.Nat.{_-_, _≤_}
 use mathlib.Core.Path.{_≡_}
 use Rattle.model.specs.Rules.{label}

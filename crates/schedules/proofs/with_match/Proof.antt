@@ -1,3 +1,4 @@
+-- `schedules::with_match` meets its contract, one law for each case of the match.
 use Rattle.schedules.proofs.Steps.{steps}
 use Rattle.schedules.proofs.with_match.Statement.{statement}
 use Rattle.schedules.proofs.with_match.Tie as tie

@@ -1,3 +1,4 @@
+-- `tracing::put_test` meets its contract: the two programs and the end, written one behind the other, are the test.
 use Rattle.tracing.proofs.ProgramLaws.{faults}
 use borrow.Author.Needs.{needs}
 use Rattle.tracing.proofs.put_test.Statement.{statement}

@@ -1,3 +1,4 @@
+-- `tracing::trace` meets its contract: a refusal, or the test written.
 use Rattle.tracing.proofs.ProgramLaws.{faults}
 use borrow.Author.Needs.{needs}
 use Rattle.tracing.proofs.trace.Statement.{statement}

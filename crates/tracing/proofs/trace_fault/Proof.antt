@@ -1,3 +1,4 @@
+-- `tracing::trace_fault` meets its contract, one law for each of its returns.
 use Rattle.tracing.proofs.ProgramLaws.{faults}
 use Rattle.relation.proofs.Cases.{calls}
 use Rattle.tracing.specs.Traced.{traceFault}

@@ -1,3 +1,4 @@
+-- `workbench::pelzhondy_judge` meets its contract: the judge's refusal, or its numbers as one.
 use Rattle.answers.proofs.JudgedLaws.{judged, counts-few, refused-fits}
 use borrow.Author.Needs.{needs}
 use Rattle.workbench.proofs.pelzhondy_judge.Statement.{statement}

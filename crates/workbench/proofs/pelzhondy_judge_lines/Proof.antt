@@ -1,3 +1,4 @@
+-- `workbench::pelzhondy_judge_lines` meets its contract: 12, or the program's text at the front of the buffer.
 use Rattle.workbench.proofs.PrintedLaws.{prints}
 use borrow.Author.Needs.{needs}
 use Rattle.workbench.proofs.pelzhondy_judge_lines.Statement.{statement}

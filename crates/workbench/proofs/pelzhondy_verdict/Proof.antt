@@ -1,3 +1,4 @@
+-- `workbench::pelzhondy_verdict` meets its contract: the verdict's refusal, or the verdict as one number.
 use Rattle.answers.proofs.JudgedLaws.{judged, decided-fits}
 use borrow.Author.Needs.{needs}
 use Rattle.workbench.proofs.pelzhondy_verdict.Statement.{statement}

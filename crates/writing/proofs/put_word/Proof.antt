@@ -1,3 +1,4 @@
+-- `writing::put_word` meets its contract: its four bytes, written one behind the other, are the number's.
 use Rattle.writing.proofs.WroteLaws.{wrotes}
 use borrow.Author.Needs.{needs}
 use Rattle.writing.proofs.put_word.Statement.{statement}
