@@ -1,8 +1,6 @@
 -- From the judge's answer to its code, outcome by outcome.
-use mathlib.Core.Path.{_≡_, refl, sym, _∙_}
-use mathlib.Core.Bool.{Bool}
-use mathlib.Core.List.{List}
-use Prim.Native.Nat.{ℕ, _+_, _*_, _≤_, _<_}
+use mathlib.Core.Path.{_≡_}
+use Prim.Native.Nat.{ℕ, _+_, _≤_, _<_}
 use native.Mathlib.Omega.{arith}
 use borrow.Author.Needs.{needs}
 use Rattle.model.specs.Answer.{Outcome, answer, refused, refusal}
@@ -16,7 +14,7 @@ use Rattle.judging.specs.declared.Judged.the-variants as Judged
 use Rattle.judging.specs.declared.Decided.{Decided}
 use Rattle.judging.specs.declared.Decided.the-variants.{As}
 use Rattle.judging.specs.declared.Decided.the-variants as Decided
-use Rattle.judging.specs.Judge.{Case, Judges, Decides, Judging, Deciding, Few, FewDecided}
+use Rattle.judging.specs.Judge.{Case, Judging, Deciding, Few, FewDecided}
 use Rattle.answers.specs.Judged.{judgementCode, verdictCode, JudgeAnswer, VerdictAnswer}
 
 -- what a `Judged` is; two forms are never equal

@@ -1,12 +1,13 @@
 -- From the scan's answer to the routine's, outcome by outcome.
-use mathlib.Core.Path.{_≡_, refl, sym, ap, _∙_}
+use mathlib.Core.Path.{_≡_}
 use mathlib.Core.List.{List}
-use mathlib.Core.Bool.{Bool, true, false, cond}
+use mathlib.Core.Bool.{Bool, true, false, cond, not, _&&_}
 use Prim.Native.Nat.{ℕ, _+_, _*_, _-_, _≤_, _<_}
 use native.Mathlib.Omega.{arith}
+use lib.Dec.{leb}
 use lib.ListN.{length}
 use borrow.Author.Needs.{needs}
-use borrow.Author.Tests.{le-leb, lt-leb}
+use borrow.Author.Tests.{not-true, not-false}
 use Rattle.model.specs.Answer.{answer, coded, refusal}
 use Rattle.model.specs.Cyclic.{cyclic}
 use Rattle.rules.specs.declared.Rules.{Rules}
@@ -15,10 +16,9 @@ use Rattle.format.specs.declared.Extent.{Extent}
 use Rattle.format.specs.declared.Scan.{Scan}
 use Rattle.format.specs.declared.Scan.the-variants.{Accepted, Refused}
 use Rattle.format.specs.File.{readOf}
-use Rattle.format.specs.Scan.{scanOf, checksPlace, rulesAt}
-use Rattle.reader.specs.Limits.{longest}
-use Rattle.format.specs.Held.{Tells, Inside}
-use Rattle.reader.proofs.CallerLaws.{refused-read, refused-most, accepted-read, accepted-rules, accepted-tests, accepted-most, accepted-inside, accepted-at, accepted-long}
+use Rattle.format.specs.Scan.{scanOf, rulesAt}
+use Rattle.format.specs.Held.{Tells}
+use Rattle.reader.proofs.CallerLaws.{refused-read, refused-most, accepted-read, accepted-rules, accepted-tests, accepted-most, accepted-inside, accepted-at, accepted-long, listed-below}
 use Rattle.asking.specs.File.{sizes, readAnswer, located, locateAnswer, cyclicIn, cyclicAnswer, Packed}
 
 module _ (s : List ℕ) (wanted : ℕ) (x : Scan) (t : Tells s wanted (readOf s) x) where
@@ -75,22 +75,21 @@ module _ (s : List ℕ) (wanted : ℕ) (x : Scan) (t : Tells s wanted (readOf s)
       let w = i .writes in
       record { at = omega arith; initial = i .initial-most; main = i .main-most; checks = i .checks-most }
 
-module _ (s : List ℕ) (k w : ℕ) (x : Scan) (z : w ≡ k - 1) (q : x ≡ scanOf s w) where
+  pub packs : (k rules tests : ℕ) (found : Extent) (b : Bool) → wanted ≡ k - 1 → x ≡ Accepted rules tests found → b ≡ leb 1 k && leb k tests → not b ≡ false → Packed found
+  packs k rules tests found b z e h n = packed rules tests found e (listed-below k wanted tests b z h n)
+
+module _ (s : List ℕ) (k w : ℕ) (x : Scan) (z : w ≡ k - 1) (q₀ : x ≡ scanOf s w) where
   pub locate-refused : (number place r : ℕ) → x ≡ Refused number place → r ≡ refusal number place → r ≡ coded (locateAnswer s k)
   unfolding locateAnswer located coded
-  locate-refused number place r e h = rw (← z, ← q, e) h
+  locate-refused number place r e h = rw (← z, ← q₀, e) h
 
-  pub locate-zero : (rules tests : ℕ) (found : Extent) (r : ℕ) → x ≡ Accepted rules tests found → k < 1 → r ≡ refusal 9 0 → r ≡ coded (locateAnswer s k)
-  unfolding locateAnswer located coded
-  locate-zero rules tests found r e l h = rw (← z, ← q, e, lt-leb 1 k l) h
+  module _ (rules tests : ℕ) (found : Extent) (r : ℕ) (b : Bool) (e : x ≡ Accepted rules tests found) (h : b ≡ leb 1 k && leb k tests) where
+    pub locate-none : not b ≡ true → r ≡ refusal 9 0 → r ≡ coded (locateAnswer s k)
+    unfolding locateAnswer located coded
+    locate-none n q = rw (← z, ← q₀, e, ← h, not-true b n) q
 
-  pub locate-none : (rules tests : ℕ) (found : Extent) (r : ℕ) → x ≡ Accepted rules tests found → 1 ≤ k → tests < k → r ≡ refusal 9 0 → r ≡ coded (locateAnswer s k)
-  unfolding locateAnswer located coded
-  locate-none rules tests found r e l m h = rw (← z, ← q, e, le-leb 1 k l, lt-leb k tests m) h
+    pub locate-found : not b ≡ false → r ≡ found .at + 65536 * found .initial + 16777216 * found .main + 4294967296 * found .checks → r ≡ coded (locateAnswer s k)
+    unfolding locateAnswer located coded
+    locate-found n q = rw (← z, ← q₀, e, ← h, not-false b n) q
 
-  pub locate-found : (rules tests : ℕ) (found : Extent) (r : ℕ) → x ≡ Accepted rules tests found → 1 ≤ k → k ≤ tests
-      → r ≡ found .at + 65536 * found .initial + 16777216 * found .main + 4294967296 * found .checks → r ≡ coded (locateAnswer s k)
-  unfolding locateAnswer located coded
-  locate-found rules tests found r e l m h = rw (← z, ← q, e, le-leb 1 k l, le-leb k tests m) h
-
-pub ruleset answers = (needs, refusal-fits, read-refused, sizes-fit, read-accepted, packed, locate-refused, locate-zero, locate-none, locate-found, cyclic-yes, cyclic-no, cyclic-refused)
+pub ruleset answers = (needs, refusal-fits, read-refused, sizes-fit, read-accepted, packs, locate-refused, locate-none, locate-found, cyclic-yes, cyclic-no, cyclic-refused)

@@ -43,10 +43,7 @@ pub fn locate_test(file: &[u8], test: u64) -> u64
             tests,
             found,
         } => {
-            if test < 1 {
-                return model::refuse(9, 0);
-            }
-            if (tests as u64) < test {
+            if !reader::has_test(tests, test) {
                 return model::refuse(9, 0);
             }
             pack(found)

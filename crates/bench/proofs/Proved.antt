@@ -3,7 +3,7 @@ use mathlib.Core.Path.{_≡_, refl, sym, ap, _∙_}
 use mathlib.Core.Bool.{Bool, true, cond, not, _||_}
 use mathlib.Core.List.{List, [], _∷_, _++_, append-nil}
 use Prim.{tt}
-use Prim.Native.Nat.{ℕ, _≤_}
+use Prim.Native.Nat.{ℕ}
 use native.Mathlib.Omega.{arith}
 use lib.Count.{ones, onesIn}
 use lib.Dec.{eqb, ltb, lit<}
@@ -26,7 +26,7 @@ use Rattle.model.specs.Test.{Test, File, file, initialDisk, Bad, bad, testHolds
 use Rattle.model.specs.Find.{before, picked, pairing, inserted, fromWrite, fromTrace, candidatesOf, suffices, preferred, chosenBelow, chosen}
 use Rattle.model.proofs.TestLaws.{bad-true, true-bad, bad-fails, count-holds}
 use Rattle.format.specs.Bytes.{half, word, writeBytes, ruleBytes}
-use Rattle.format.specs.Encode.{fieldBytes, ruleFields, writeFields, checkField, checkFields, testBytes, testsBytes, fileBytes}
+use Rattle.format.specs.Encode.{fieldBytes, ruleFields, writeFields, checkFieldBytes, checkFields, testBytes, testsBytes, fileBytes}
 use Rattle.format.specs.File.{isTag, isCheck, bodyLength, ruleOf, writeOf, checkOf, countsOf, outOfOrder, overTest, overLimit, ruleFault, bodyFault, faultOf, grown, finished, readFrom, nothing, readOf}
 use Rattle.cyclelaws.proofs.Examples.{K5-not-cyclic, K6-cyclic}
 use Rattle.judging.specs.Judge.{Case, caseOf, caseIn}
@@ -59,7 +59,7 @@ ringed rules = cyclic rules
 
 -- files
 fileRead : File → Outcome File
-unfolding fileBytes testsBytes testBytes checkFields checkField writeFields ruleFields fieldBytes writeBytes ruleBytes readOf readFrom nothing finished grown faultOf bodyFault ruleFault overLimit overTest outOfOrder countsOf checkOf writeOf ruleOf bodyLength isCheck isTag word half
+unfolding fileBytes testsBytes testBytes checkFields checkFieldBytes writeFields ruleFields fieldBytes writeBytes ruleBytes readOf readFrom nothing finished grown faultOf bodyFault ruleFault overLimit overTest outOfOrder countsOf checkOf writeOf ruleOf bodyLength isCheck isTag word half
 fileRead f = readOf (fileBytes f)
 
 -- the test that a judge is given

@@ -1,21 +1,20 @@
 -- The computed forms of needs, of a ring of needs and of a late write agree with their meaning.
-use mathlib.Core.Path.{_≡_, refl, sym, _∙_}
-use mathlib.Core.Logic.{_⊎_, inl, inr, ⊎-elim}
-use mathlib.Core.Bool.{Bool, true, _&&_, _||_}
+use mathlib.Core.Path.{_≡_}
+use mathlib.Core.Logic.{inl, inr, ⊎-elim}
+use mathlib.Core.Bool.{Bool, true, _&&_}
 use mathlib.Core.List.{List}
 use Prim.Native.Nat.{ℕ, _<_}
-use lib.Dec.{eqb, ltb}
+use lib.Dec.{ltb}
 use lib.ListN.{length}
 use borrow.Author.Tests.{ltb-true, lt-ltb, eqb-true, eq-eqb}
 use Rattle.relation.specs.Finite.{Below}
-use Rattle.relation.specs.Transitive.{Plus, Ring}
 use Rattle.relation.proofs.ListLaws.{or-cases, or-left, or-right, and-left, and-right, and-intro, anyBelow-true, anyBelow-intro}
 use Rattle.relation.proofs.TransitiveLaws.{plus-map}
 use Rattle.relation.proofs.FiniteLaws.{hasRing-ring, ring-hasRing}
 use Rattle.model.specs.declared.Write.{Write}
 use Rattle.model.specs.declared.Rule.{Rule}
 use Rattle.model.specs.Rules.{labelOf, dependsOn}
-use Rattle.model.specs.Schedule.{writeAt, labelAt}
+use Rattle.model.specs.Schedule.{labelAt}
 use Rattle.model.proofs.RuleLaws.{dependsOn-true, true-dependsOn}
 use Rattle.cache.specs.Needs.{Needs, NeedsRing, needs, needsRing}
 use Rattle.cache.specs.Calls.{Late, late}

@@ -92,16 +92,19 @@ pub record Held : Type 0 where
   pub state : List ℕ
   pub disk : List ℕ
 
+abbrev pub holding : List ℕ → List ℕ → Held
+holding s d = record { state = s; disk = d }
+
 -- those after n steps
 unfoldable pub stepsOf : ℕ → Held → Held
 stepsOf zero h = h
 stepsOf (suc n) h =
     let once = stepOf (h .state) (h .disk) in
-    stepsOf n (record { state = once .state; disk = once .disk })
+    stepsOf n (holding (once .state) (once .disk))
 
 unfoldable pub drained : List ℕ → List ℕ → Left
 drained state disk =
-    let all = stepsOf (waiting state) (record { state = state; disk = disk }) in
+    let all = stepsOf (waiting state) (holding state disk) in
     left (answer (waiting state)) (all .state) (all .disk)
 
 unfoldable pub drainOf : List ℕ → List ℕ → Left

@@ -4,17 +4,19 @@ use mathlib.Core.Bool.{Bool, true, false, cond, not, _&&_, and-true, and-false}
 use mathlib.Core.List.{List}
 use mathlib.Core.Option.{Option, none, some}
 use Prim.Native.Nat.{ℕ, zero, suc, _+_, _-_, _*_, _%_, _^_, _≤_, _<_}
-use native.Mathlib.Nat.{lt-of-lt-of-le}
+use native.Mathlib.Nat.{one-mul, lt-of-lt-of-le}
 use native.Mathlib.Numerals.{add-one}
 use native.Mathlib.Omega.{arith}
+use lib.Bits.{bitOr, bitXor, or-add-and, xor-add-and}
 use lib.Count.{ones, ones-ones, ones-le}
 use lib.Dec.{eqb, leb}
 use lib.ListN.{length, getD}
 use lib.Pow.{pow-mono, pow-pos}
 use lib.Seq.{length-take-le}
 use borrow.Author.Tests.{le-leb, lt-leb, eq-eqb, ne-eqb, not-true, not-false}
-use Rattle.relation.specs.Bits.{bit}
+use Rattle.relation.specs.Bits.{bit, withBit}
 use Rattle.relation.specs.Lists.{all, anyBelow}
+use Rattle.relation.proofs.BitLaws.{or-bit}
 use Rattle.relation.proofs.ListLaws.{and-left, and-right, anyBelow-true, anyBelow-intro}
 use Rattle.relation.proofs.WithoutLaws.{bit-most, ones-without}
 use Rattle.model.specs.declared.Rule.{Rule}
@@ -65,12 +67,22 @@ module _ (table : List ℕ) (m i : ℕ) (b : Bool) (e : b ≡ bit m i) where
     set : bit m i ≡ true
     set = sym e ∙ not-false b t
 
-    pub spare-within : power ≤ m
-    spare-within = rw (total-sets i (omega arith)) (bit-most m i set)
+    -- a flag that is set is taken away by turning it over
+    less-is : bitXor m power ≡ m - 2 ^ i
+    unfolding withBit
+    less-is =
+        let whole : bitOr m (2 ^ i) ≡ m = rw (one-mul (2 ^ i)) at (or-bit m i) ∙ rw set in
+        let both = or-add-and m (2 ^ i) in
+        let rest = xor-add-and m (2 ^ i) in
+        let most = bit-most m i set in
+        rw (total-sets i (omega arith)) (omega arith)
 
-    pub spare-is : not (eqb (getD table (m - power) 0) 1) ≡ spare table m i
+    pub spare-within : m < 65536 → bitXor m power < 65536
+    spare-within h = rw less-is (omega arith)
+
+    pub spare-is : not (eqb (getD table (bitXor m power) 0) 1) ≡ spare table m i
     unfolding spare
-    spare-is = rw (total-sets i (omega arith), set)
+    spare-is = rw (less-is, set)
 
 module _ (table : List ℕ) (m : ℕ) where
   pub spares-begun : anyBelow (spare table m) 0 ≡ false

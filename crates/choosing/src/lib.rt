@@ -15,7 +15,7 @@ fn is_spare(table: &[u8; 65536], m: u64, i: usize) -> bool
     if !relation::has_bit(m, i) {
         return false;
     }
-    let less = m - (1u64 << i);
+    let less = m ^ (1u64 << i);
     table[less as usize] != 1
 }
 

@@ -1,15 +1,13 @@
 -- The loops over schedules: the counts so far, and no bad schedule so far.
-use mathlib.Core.Path.{_≡_, refl, sym, ap, subst, _∙_}
+use mathlib.Core.Path.{_≡_, refl, sym, _∙_}
 use mathlib.Core.Logic.{_⊎_, ⊎-elim}
-use mathlib.Core.Bool.{Bool, true, false, cond, not, _&&_, false≢true}
+use mathlib.Core.Bool.{Bool, true, false, not, _&&_}
 use mathlib.Core.List.{List}
-use Prim.Native.Nat.{ℕ, zero, suc, _+_, _*_, _%_, _^_, _≤_, _<_}
-use native.Mathlib.Nat.{one-mul}
+use Prim.Native.Nat.{ℕ, _+_, _^_, _≤_, _<_}
 use native.Mathlib.Numerals.{add-one}
 use native.Mathlib.Omega.{arith}
-use lib.Dec.{eqb, lit<}
+use lib.Dec.{eqb}
 use lib.ListN.{length, getD, take}
-use lib.Pow.{shl-exact, pow-mono}
 use borrow.Author.Needs.{needs}
 use borrow.Author.Tests.{eq-eqb, ne-eqb, not-true, not-false}
 use Rattle.relation.proofs.ListLaws.{below-extend, and-intro}
@@ -17,9 +15,7 @@ use Rattle.model.specs.declared.Write.{Write}
 use Rattle.model.specs.declared.Check.{Check}
 use Rattle.model.specs.Schedule.{run}
 use Rattle.model.specs.Check.{holds, consistent}
-use Rattle.model.specs.Test.{countBelow}
-use Rattle.model.proofs.TestLaws.{count-most}
-use Rattle.checks.proofs.CheckSteps.{checks-start, checks-more, checks-stop}
+use Rattle.checks.proofs.CheckSteps.{checks-stop}
 use Rattle.counting.specs.declared.Judgement.{Judgement}
 use Rattle.counting.specs.declared.Verdict.the-variants.{Holds, Fails}
 use Rattle.schedules.specs.Rows.{validBy, badBy}

@@ -3,12 +3,12 @@ use mathlib.Core.Path.{_≡_, refl, sym, ap, ap₂, subst, _∙_}
 use mathlib.Core.Logic.{_⊎_, inl, inr, ⊎-elim}
 use mathlib.Core.Bool.{Bool, true, false, cond, not, _&&_}
 use mathlib.Core.List.{List}
-use Prim.Native.Nat.{ℕ, zero, suc, _+_, _-_, _*_, _%_, _^_, _≤_, _<_}
-use native.Mathlib.Nat.{one-mul, mul-zero, mul-suc, mul-le-mul, mul-le-mul-left, add-zero, add-suc}
+use Prim.Native.Nat.{ℕ, zero, suc, _+_, _*_, _%_, _^_, _≤_, _<_}
+use native.Mathlib.Nat.{one-mul, mul-comm, mul-zero, mul-suc, mul-le-mul, mul-le-mul-left, add-zero, add-suc}
 use native.Mathlib.Numerals.{add-one}
 use native.Mathlib.Omega.{arith}
+use lib.Bits.{bitOr, or-shifted-r}
 use lib.Dec.{lit<}
-use lib.ListN.{length, take}
 use lib.Pow.{shl-exact, pow-mono, pow-add}
 use borrow.Author.Needs.{needs}
 use borrow.Author.Tests.{not-true, not-false}
@@ -135,12 +135,11 @@ pub record Grid (v b : ℕ → Bool) (rows far x : ℕ) (j : Judgement) : Type 0
   pub shown : (j .bad ≡ 0 → ⊥) → (j .shown < rows * 2 ^ far) × (b (j .shown) ≡ true)
   pub none : j .bad ≡ 0 → j .shown ≡ 0
 
--- a number of the grid fits
-pub product-fits : (rows y : ℕ) → rows ≤ 64 → y < 64 → rows * y < 18446744073709551616
-product-fits rows y h l = let m = mul-le-mul {n₁ = rows} {m₁ = y} {n₂ = 64} {m₂ = 64} h (omega arith) in omega arith
-
-pub sum-fits : (x rows y : ℕ) → x < 64 → rows ≤ 64 → y < 64 → x + rows * y < 18446744073709551616
-sum-fits x rows y i h l = let m = mul-le-mul {n₁ = rows} {m₁ = y} {n₂ = 64} {m₂ = 64} h (omega arith) in omega arith
+-- the flags of a beginning with those of an end shifted behind them
+pub joined-is : (x near y : ℕ) → x < 2 ^ near → near ≤ 6 → y < 64 → bitOr x (y * 2 ^ near % 18446744073709551616) ≡ x + 2 ^ near * y
+joined-is x near y h l m =
+    rw (shl-exact {a = y} 6 near 64 m (omega arith), or-shifted-r y near x h)
+    (let c = mul-comm y (2 ^ near) in omega arith)
 
 -- how many schedules six writes have
 pub part-is : (k : ℕ) → k ≤ 6 → 1 * 2 ^ k % 18446744073709551616 ≡ 2 ^ k
@@ -173,9 +172,9 @@ module _ (low high base t : List ℕ) (cs : List Check) (near far : ℕ) where
 
   module _ (x : ℕ) (j : Judgement) (g : Gridded x j) where
     pub grid-more : (rows : ℕ) (mid : List ℕ) (r : Judgement) → rows ≡ 2 ^ near → x < rows → mid ≡ run (heldFrom t 0 near) x base
-        → Gains (after (validBy low high) x rows) (badAfter (validBy low high) x rows mid (heldFrom t near far) cs) x rows (2 ^ far) j r → Gridded (x + 1) r
+        → Gains (after (validBy low high) x (2 ^ near)) (badAfter (validBy low high) x (2 ^ near) mid (heldFrom t near far) cs) x (2 ^ near) (2 ^ far) j r → Gridded (x + 1) r
     unfolding countRows
-    grid-more rows mid r e h q w = rw (add-one x) (go (subst (λ (k : ℕ). Gains (after (validBy low high) x k) (badAfter (validBy low high) x k mid (heldFrom t near far) cs) x k (2 ^ far) j r) e w))
+    grid-more rows mid r e h q w = rw (add-one x) (go w)
       where
         inside : x < 2 ^ near
         inside = omega arith
@@ -225,4 +224,4 @@ module _ (low high base t : List ℕ) (cs : List Check) (near far : ℕ) where
             let y : x ≡ 2 ^ near = omega arith in
             ap (countRows p (2 ^ near) (2 ^ far)) y ∙ rows-all p (2 ^ near) (2 ^ far) ∙ ap (countBelow p) (sym (pow-add 2 near far))
 
-pub ruleset grids = (needs, product-fits, sum-fits, part-is, part-most, gains-none, gains-skip, gains-more, gained-valid, gained-bad, gains-all, grid-none, grid-more, grid-valid, grid-bad, grid-all)
+pub ruleset grids = (needs, joined-is, part-is, part-most, gains-none, gains-skip, gains-more, gained-valid, gained-bad, gains-all, grid-none, grid-more, grid-valid, grid-bad, grid-all)

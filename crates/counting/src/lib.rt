@@ -50,12 +50,12 @@ fn half(n: usize) -> usize
     6
 }
 
-// The schedule that begins with x and ends with y.
-fn joined(x: u64, rows: u64, y: u64) -> u64
-    requires { ⌜ (x < 64) × ((rows ≤ 64) × (y < 64)) ⌝ }
-    ensures { λ r. ⌜ r ≡ x + rows * y ⌝ }
+// The schedule that begins with x, of the writes before place `near`, and ends with y.
+fn joined(x: u64, near: usize, y: u64) -> u64
+    requires { ⌜ (x < 2 ^ near) × ((near ≤ 6) × (y < 64)) ⌝ }
+    ensures { λ r. ⌜ r ≡ x + 2 ^ near * y ⌝ }
 {
-    x + rows * y
+    x | (y << near)
 }
 
 // The schedules that begin with x, of the writes before place `near`, in the counts: mid is the disk
@@ -63,7 +63,6 @@ fn joined(x: u64, rows: u64, y: u64) -> u64
 fn count_after(
     j: Judgement,
     x: u64,
-    rows: u64,
     low: &[u64; 64],
     high: &[u64; 64],
     mid: [u32; 256],
@@ -73,15 +72,15 @@ fn count_after(
     checks: [Check; 16],
     m: usize,
 ) -> Judgement
-    requires { ⌜ ((j .valid ≤ 4032) × (j .bad ≤ 4032)) × (((x < 64) × (rows ≤ 64)) × ((near + far ≤ 64) × ((far ≤ 6) × (m ≤ 16)))) ⌝ }
-    ensures { λ r. ⌜ Gains (after (validBy (now (low .entry)) (now (high .entry))) x rows) (badAfter (validBy (now (low .entry)) (now (high .entry))) x rows mid (heldFrom (now (table .entry)) near far) (take m checks)) x rows (2 ^ far) j r ⌝ }
+    requires { ⌜ ((j .valid ≤ 4032) × (j .bad ≤ 4032)) × (((x < 2 ^ near) × (near ≤ 6)) × ((far ≤ 6) × (m ≤ 16))) ⌝ }
+    ensures { λ r. ⌜ Gains (after (validBy (now (low .entry)) (now (high .entry))) x (2 ^ near)) (badAfter (validBy (now (low .entry)) (now (high .entry))) x (2 ^ near) mid (heldFrom (now (table .entry)) near far) (take m checks)) x (2 ^ near) (2 ^ far) j r ⌝ }
 {
     let columns = 1u64 << far;
     let mut counts = j;
     let mut disk = mid;
     let mut y: u64 = 0;
     'schedules: while y < columns {
-        let s = joined(x, rows, y);
+        let s = joined(x, near, y);
         if !schedules::is_valid(low, high, s) {
             y += 1;
             continue 'schedules;
@@ -127,7 +126,7 @@ pub fn count_all(
     while x < rows {
         let mut mid = base;
         disks::apply(&mut mid, table, 0, near, x);
-        let next = count_after(j, x, rows, low, high, mid, table, near, far, checks, m);
+        let next = count_after(j, x, low, high, mid, table, near, far, checks, m);
         j = next;
         x += 1;
     }

@@ -1,4 +1,4 @@
--- Labels can form a ring exactly if some closed walk of rules uses only =, or both > and <, exactly if `cyclic` computes to true.
+-- Labels can form a ring cyclic-exactly if some closed walk of rules uses only =, or both > and <, cyclic-exactly if `cyclic` computes to true.
 -- The rules of a ring are a walk whose epochs return (`EpochLaws`); on the numbers of the rules any two rules of a closed walk reach each other.
 use mathlib.Core.Path.{_≡_, refl, sym, ap, subst, subst⁻¹, _∙_}
 use mathlib.Core.Logic.{inl, inr, ⊎-elim}
@@ -16,7 +16,7 @@ use Rattle.relation.proofs.FiniteLaws.{reaches-plus, plus-reaches, hasRing-ring
 use Rattle.model.specs.declared.Rule.{Rule}
 use Rattle.model.specs.Rules.{Label, label, stands, matches, DependsOn, Known}
 use Rattle.model.specs.Cyclic.{Cyclic, Walk, onlyEqual, bothWays, ClosedWalk, noRule, ruleAt, leads, has, equalLeads, meets, cyclic}
-use Rattle.cyclelaws.specs.Theorem.{Exactly}
+use Rattle.cyclelaws.specs.Theorem.{CyclicExactly}
 use Rattle.cyclelaws.proofs.EpochLaws.{Epochs, epochs-mixed, mixed-epochs}
 
 -- ---- rings of labels and walks of rules
@@ -264,5 +264,5 @@ cyclic-true rules known e = walk-cyclic rules known (true-walk rules e)
 pub true-cyclic : (rules : List Rule) → Cyclic rules → cyclic rules ≡ true
 true-cyclic rules c = walk-true rules (cyclic-walk rules c)
 
-pub exactly : Exactly
-exactly rules known = ((cyclic-walk rules, walk-cyclic rules known), (true-cyclic rules, cyclic-true rules known))
+pub cyclic-exactly : CyclicExactly
+cyclic-exactly rules known = ((cyclic-walk rules, walk-cyclic rules known), (true-cyclic rules, cyclic-true rules known))

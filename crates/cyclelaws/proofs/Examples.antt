@@ -1,4 +1,4 @@
--- The rule sets of `specs/Examples.antt`, about `Cyclic` itself: what is cyclic shows a ring of labels; what isn't, isn't because `cyclic` computes to false.
+-- The worked lines, `Worked`: what is cyclic shows a ring of labels; what isn't, isn't because `cyclic` computes to false.
 use mathlib.Core.Path.{_≡_, refl, sym, _∙_}
 use mathlib.Core.Bool.{Bool, true, false, false≢true}
 use mathlib.Core.List.{List}
@@ -15,6 +15,7 @@ use Rattle.model.specs.declared.Rule.{Rule}
 use Rattle.model.specs.Rules.{Label, label, stands, matches, DependsOn}
 use Rattle.model.specs.Cyclic.{Cyclic, noRule, ruleAt, leads, has, equalLeads, meets, cyclic}
 use Rattle.cyclelaws.specs.Examples.{K5, K6, equalAlone, greaterAlone}
+use Rattle.cyclelaws.specs.Theorem.{Worked}
 use Rattle.cyclelaws.proofs.CyclicLaws.{true-cyclic}
 
 -- `cyclic`, with all that it is computed by
@@ -48,3 +49,6 @@ equal-cyclic a = (label a 0, one (paired (equalAlone a) 0 (label a 0) (label a 0
 pub greater-not-cyclic : (a : ℕ) → Cyclic (greaterAlone a) → ⊥
 unfolding computed
 greater-not-cyclic a = not-cyclic (greaterAlone a) refl
+
+pub worked : Worked
+worked = record { equal-cyclic = equal-cyclic; greater-not-cyclic = greater-not-cyclic; K5-not-cyclic = K5-not-cyclic; K6-cyclic = K6-cyclic }

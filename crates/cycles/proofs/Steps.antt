@@ -179,15 +179,15 @@ filled-agrees rules equal rows e i j hi hj =
     ap (λ (row : ℕ). bit row j) (sym (getD-take (rules .count) rows i 0 hi) ∙ ap (λ (l : List ℕ). getD l i 0) e)
     ∙ related-rows (linked equal (rulesOf rules)) (rules .count) i j hi hj
 
-module _ (rules : Rules) (rows shut : List ℕ) (b : Bool) where
-  pub equal-ring : take (rules .count) rows ≡ rowsOf (linked true (rulesOf rules)) (rules .count) → shut ≡ closed (rules .count) rows
-      → b ≡ loops shut (rules .count) → b ≡ hasRing (equalLeads (rulesOf rules)) (rules .count)
+module _ (rules : Rules) (rows reached : List ℕ) (b : Bool) where
+  pub equal-ring : take (rules .count) rows ≡ rowsOf (linked true (rulesOf rules)) (rules .count) → reached ≡ closed (rules .count) rows
+      → b ≡ loops reached (rules .count) → b ≡ hasRing (equalLeads (rulesOf rules)) (rules .count)
   unfolding links equalLeads has leads
   equal-ring e q f = f ∙ rw q (loops-closed rows (linked true (rulesOf rules)) (rules .count) (filled-agrees rules true rows e))
 
   -- the search asks a table about rules that are held only
   pub mixed-ring : length (rules .items) ≡ 32 → rules .count ≤ 32 → take (rules .count) rows ≡ rowsOf (linked false (rulesOf rules)) (rules .count)
-      → shut ≡ closed (rules .count) rows → b ≡ meets (rulesOf rules) shut
+      → reached ≡ closed (rules .count) rows → b ≡ meets (rulesOf rules) reached
       → b ≡ meets (rulesOf rules) (closed (rules .count) (rowsOf (leads (rulesOf rules)) (rules .count)))
   unfolding meets reaches leads links
   mixed-ring all few e q f =

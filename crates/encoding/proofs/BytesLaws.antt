@@ -19,11 +19,11 @@ use Rattle.format.specs.declared.Counts.{Counts}
 use Rattle.format.specs.Bytes.{byte, half}
 use Rattle.format.specs.File.{isTag, bodyLength, outOfOrder, faultOf, fieldEnd, bodyAt, ruleOf, writeOf, checkOf, Progress, progress, countsOf, grown, finished, readFrom, readOf, nothing}
 use Rattle.reader.specs.Limits.{Within}
-use Rattle.format.specs.Encode.{fieldBytes, ruleFields, writeFields, checkField, checkFields, testBytes, testsBytes, fileBytes, FileFits}
+use Rattle.format.specs.Encode.{fieldBytes, ruleFields, writeFields, checkFieldBytes, checkFields, testBytes, testsBytes, fileBytes, FileFits}
 use Rattle.reader.proofs.LimitLaws.{Clean, clean, by-tag, within-counted}
 use Rattle.reader.proofs.CallerLaws.{holding-limits}
 use Rattle.reader.proofs.TellsLaws.{counts-grown}
-use Rattle.encoding.specs.Theorem.{Small, Exactly}
+use Rattle.encoding.specs.Theorem.{Small, ReadsExactly}
 use Rattle.encoding.proofs.FitLaws.{bounded, bounded-part, Fitting, fitting-start, fitting-on}
 use Rattle.encoding.proofs.RunLaws.{rule-run, write-run, check-run, test-run, run-last}
 use Rattle.encoding.proofs.ReadLaws.{read-bytes}
@@ -77,7 +77,7 @@ module _ (p : Progress) (w : Within (countsOf p)) where
       rw (none-yet (p .current .checks) o)
       (simp (append-nil, append-assoc, writes-last 2 (p .current .main) b h e))
 
-  adds-check : (c : Check) (tag : ℕ) (b : List ℕ) → checkField c ≡ fieldBytes tag b
+  adds-check : (c : Check) (tag : ℕ) (b : List ℕ) → checkFieldBytes c ≡ fieldBytes tag b
       → soFar (progress (p .rules) (p .tests) true (test (p .current .initial) (p .current .main) (p .current .checks ++ (c ∷ [])))) ≡ soFar p ++ fieldBytes tag b
   unfolding soFar
   adds-check c tag b e = simp (run-last check-run, e, append-assoc)
@@ -198,10 +198,10 @@ bytes-read s f h e = holds s f h e .0
 pub fits-read : (s : List ℕ) (f : File) → Small s → readOf s ≡ answer f → FileFits f
 fits-read s f h e = holds s f h e .1
 
--- reading accepts exactly the bytes of files
-pub exactly : Exactly
-unfolding Exactly
-exactly s f h = (
+-- reading accepts reads-exactly the bytes of files
+pub reads-exactly : ReadsExactly
+unfolding ReadsExactly
+reads-exactly s f h = (
   λ e. record { limits = holding-limits s f e .0; fits = fits-read s f h e; bytes = bytes-read s f h e },
   λ k. rw (← k .bytes) (read-bytes f (k .limits) (k .fits)),
 )

@@ -13,7 +13,7 @@ use Rattle.model.specs.declared.Rule.{Rule}
 use Rattle.model.specs.declared.Check.the-variants.{Pair}
 use Rattle.format.specs.Bytes.{byte, half, word, bytes4, writeBytes, ruleBytes}
 use Rattle.format.specs.File.{writeOf, ruleOf, checkOf}
-use Rattle.format.specs.Encode.{WriteFits, fieldBytes, checkField}
+use Rattle.format.specs.Encode.{WriteFits, fieldBytes, checkFieldBytes}
 
 -- ---- numbers
 
@@ -66,18 +66,18 @@ module _ (b : List ℕ) (small : Bounded b) where
   unfolding writeBytes writeOf tabulate
   write-forth e = ap₂ (λ (x y : List ℕ). byte b 0 ∷ byte b 1 ∷ (x ++ y)) (word-digits 2) (word-digits 6) ∙ spelled b 10 e
 
-  pub pair-forth : length b ≡ 10 → checkField (checkOf 5 b) ≡ fieldBytes 5 b
-  unfolding checkField checkOf tabulate
+  pub pair-forth : length b ≡ 10 → checkFieldBytes (checkOf 5 b) ≡ fieldBytes 5 b
+  unfolding checkFieldBytes checkOf tabulate
   pair-forth e = ap₂ (λ (x y : List ℕ). fieldBytes 5 (byte b 0 ∷ (x ++ (byte b 5 ∷ y)))) (word-digits 1) (word-digits 6) ∙ ap (fieldBytes 5) (spelled b 10 e)
 
 pub rule-forth : (b : List ℕ) → length b ≡ 3 → ruleBytes (ruleOf b) ≡ b
 unfolding ruleBytes ruleOf tabulate
 rule-forth b e = spelled b 3 e
 
-pub range-forth : (b : List ℕ) → length b ≡ 1 → checkField (checkOf 4 b) ≡ fieldBytes 4 b
-unfolding checkField checkOf tabulate
+pub range-forth : (b : List ℕ) → length b ≡ 1 → checkFieldBytes (checkOf 4 b) ≡ fieldBytes 4 b
+unfolding checkFieldBytes checkOf tabulate
 range-forth b e = ap (fieldBytes 4) (spelled b 1 e)
 
-pub pointer-forth : (b : List ℕ) → length b ≡ 1 → checkField (checkOf 6 b) ≡ fieldBytes 6 b
-unfolding checkField checkOf tabulate
+pub pointer-forth : (b : List ℕ) → length b ≡ 1 → checkFieldBytes (checkOf 6 b) ≡ fieldBytes 6 b
+unfolding checkFieldBytes checkOf tabulate
 pointer-forth b e = ap (fieldBytes 6) (spelled b 1 e)

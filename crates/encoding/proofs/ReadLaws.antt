@@ -13,14 +13,14 @@ use Rattle.model.specs.declared.Write.{Write}
 use Rattle.model.specs.declared.Rule.{Rule}
 use Rattle.model.specs.declared.Check.{Check}
 use Rattle.model.specs.declared.Check.the-variants.{Range, Pair, Pointer}
-use Rattle.model.specs.Answer.{answer, refused}
+use Rattle.model.specs.Answer.{answer}
 use Rattle.model.specs.Rules.{Known}
 use Rattle.model.specs.Test.{Test, test, File, file}
 use Rattle.format.specs.declared.Counts.{Counts}
 use Rattle.format.specs.Bytes.{byte, half, bytes4, writeBytes, ruleBytes}
 use Rattle.format.specs.File.{isTag, isCheck, bodyLength, outOfOrder, overTest, overLimit, ruleFault, bodyFault, faultOf, checkOf, Progress, progress, countsOf, grown, finished, readFrom, readOf, nothing}
 use Rattle.reader.specs.Limits.{TestLimits, FileLimits}
-use Rattle.format.specs.Encode.{fieldBytes, ruleFields, checkField, testBytes, testsBytes, fileBytes, RuleFits, WriteFits, CheckFits, TestFits, FileFits}
+use Rattle.format.specs.Encode.{fieldBytes, ruleFields, checkFieldBytes, testBytes, testsBytes, fileBytes, RuleFits, WriteFits, CheckFits, TestFits, FileFits}
 use Rattle.reader.proofs.LimitLaws.{Clean}
 use Rattle.encoding.proofs.RunLaws.{ruleField, writeField, rule-run, write-run, check-run, test-run, run-on}
 use Rattle.encoding.proofs.PartLaws.{write-back, rule-back, pair-back}
@@ -148,8 +148,8 @@ module _ (f : File) (rules : List Rule) (tests : List Test) (room : length tests
       (fine 2 (writeBytes w) (test initial done []) b refl refl refl refl (lt-leb 12 (length done) l)) (rw (write-back w h) (g true))
 
   gives-check : (initial main : List Write) (c : Check) (done : List Check) (rest : List ℕ) → CheckFits c → length done < 16
-      → During rest (test initial main (done ++ (c ∷ []))) → During (checkField c ++ rest) (test initial main done)
-  unfolding grown countsOf isTag isCheck bodyLength outOfOrder overTest checkField checkOf CheckFits
+      → During rest (test initial main (done ++ (c ∷ []))) → During (checkFieldBytes c ++ rest) (test initial main done)
+  unfolding grown countsOf isTag isCheck bodyLength outOfOrder overTest checkFieldBytes checkOf CheckFits
   gives-check initial main (Range a) done rest h l g b =
       gives-field 4 (a ∷ []) rest (progress rules tests b (test initial main done)) f
       (fine 4 (a ∷ []) (test initial main done) b refl refl refl refl (lt-leb 16 (length done) l)) (g true)

@@ -7,7 +7,7 @@ use lib.ListN.{length, length-append}
 use Rattle.model.specs.declared.Write.{Write}
 use Rattle.model.specs.declared.Rule.{Rule}
 use Rattle.format.specs.Bytes.{writeBytes, ruleBytes}
-use Rattle.format.specs.Encode.{fieldBytes, ruleFields, writeFields, checkField, checkFields, testBytes, testsBytes}
+use Rattle.format.specs.Encode.{fieldBytes, ruleFields, writeFields, checkFieldBytes, checkFields, testBytes, testsBytes}
 
 -- `all` is the bytes of a list whose elements have these bytes
 pub record Run {A : Type 0} (bytes : A → List ℕ) (all : List A → List ℕ) : Type 0 where
@@ -28,7 +28,7 @@ pub write-run : (tag : ℕ) → Run (writeField tag) (writeFields tag)
 unfolding writeFields
 write-run tag = record { none = refl; more = λ w ws. refl }
 
-pub check-run : Run checkField checkFields
+pub check-run : Run checkFieldBytes checkFields
 unfolding checkFields
 check-run = record { none = refl; more = λ c cs. refl }
 

@@ -22,5 +22,5 @@ pub record Encodes (s : List ℕ) (f : File) : Type 0 where
   pub bytes : fileBytes f ≡ s
 
 -- a file is read from exactly its own bytes
-unfoldable pub Exactly : Type 0
-Exactly = (s : List ℕ) (f : File) → Small s → (readOf s ≡ answer f) ↔ Encodes s f
+unfoldable pub ReadsExactly : Type 0
+ReadsExactly = (s : List ℕ) (f : File) → Small s → (readOf s ≡ answer f) ↔ Encodes s f

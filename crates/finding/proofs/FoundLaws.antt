@@ -31,7 +31,7 @@ use Rattle.candidates.specs.Tests.{testsOf, testsIn}
 use Rattle.rulesets.proofs.KeepLaws.{keeps-short, keeps-same, keeps-long}
 use Rattle.findlaws.proofs.ChosenLaws.{some-chosen}
 use Rattle.choosing.specs.Choice.{choiceCode}
-use Rattle.finding.specs.Finder.{ruleBlock, found, over, wrote, findAmong, findIn, findOf, out, foundCoded}
+use Rattle.finding.specs.Finder.{ruleBlock, found, over, wrote, findAmong, findIn, findOf, findLeaves, foundCoded}
 
 -- ---- put_rule
 
@@ -113,7 +113,7 @@ module _ (tests : List Test) (few : length (candidatesOf tests) ≤ 16) where
   among-few buffer = rw (le-ltb 16 (length (candidatesOf tests)) few)
 
 module _ (tests : List Test) (cands : Rules) (buffer : List ℕ) (k : Keeps (candidatesOf tests) cands) where
-  pub among-many : (r : ℕ) → 16 < cands .count → r ≡ refusal 11 0 → out r buffer ≡ foundCoded (findAmong tests buffer)
+  pub among-many : (r : ℕ) → 16 < cands .count → r ≡ refusal 11 0 → findLeaves r buffer ≡ foundCoded (findAmong tests buffer)
   unfolding foundCoded findAmong coded
   among-many r h e = rw (lt-ltb 16 (length (candidatesOf tests)) (keeps-long (candidatesOf tests) cands k h), e)
 
@@ -127,23 +127,23 @@ module _ (tests : List Test) (cands : Rules) (buffer : List ℕ) (k : Keeps (can
     code : best ≡ choiceCode (chosen tests (candidatesOf tests))
     code = e ∙ ap (λ (l : List Rule). choiceCode (chosen tests l)) same
 
-    pub among-none : (r : ℕ) → best ≡ 18446744073709551615 → r ≡ refusal 13 0 → out r buffer ≡ foundCoded (findAmong tests buffer)
+    pub among-none : (r : ℕ) → best ≡ 18446744073709551615 → r ≡ refusal 13 0 → findLeaves r buffer ≡ foundCoded (findAmong tests buffer)
     unfolding foundCoded wrote coded
     among-none r n q =
         rw (among-few tests short buffer, choice-none tests short (chosen tests (candidatesOf tests)) refl (sym code ∙ n), q)
 
     pub among-some : (set : Rules) (new : List ℕ) → (best ≡ 18446744073709551615 → ⊥) → length (set .items) ≡ 32 → set .count ≤ cands .count
-        → rulesOf set ≡ picked (rulesOf cands) best → new ≡ over (ruleFields (rulesOf set)) buffer → out (set .count) new ≡ foundCoded (findAmong tests buffer)
+        → rulesOf set ≡ picked (rulesOf cands) best → new ≡ over (ruleFields (rulesOf set)) buffer → findLeaves (set .count) new ≡ foundCoded (findAmong tests buffer)
     unfolding foundCoded wrote coded
     among-some set new n whole less q p =
         let o = choice-some tests short (chosen tests (candidatesOf tests)) (λ z. n (code ∙ z)) ∙ ap some (sym code) in
         let held : set .count ≡ length (rulesOf set) = sym (length-take-le (set .count) (set .items) (omega arith)) in
-        rw (among-few tests short buffer, o, ← same, ← q, p) (ap (λ (n : ℕ). out n (over (ruleFields (rulesOf set)) buffer)) held)
+        rw (among-few tests short buffer, o, ← same, ← q, p) (ap (λ (n : ℕ). findLeaves n (over (ruleFields (rulesOf set)) buffer)) held)
 
 -- ---- find
 
 module _ (s buffer : List ℕ) (x : Scan) (t : Tells s 0 (readOf s) x) where
-  pub find-refused : (number place r : ℕ) → x ≡ Refused number place → r ≡ refusal number place → out r buffer ≡ foundCoded (findOf s buffer)
+  pub find-refused : (number place r : ℕ) → x ≡ Refused number place → r ≡ refusal number place → findLeaves r buffer ≡ foundCoded (findOf s buffer)
   unfolding foundCoded findOf findIn coded
   find-refused number place r e q = rw (refused-read s 0 number place (rw e at t), q)
 
@@ -167,14 +167,14 @@ module _ (s buffer : List ℕ) (x : Scan) (t : Tells s 0 (readOf s) x) where
     unfolding findOf findIn testsIn testsOf
     reads = rw (accepted-read s 0 rules tests at accepted, accepted-rules s 0 rules tests at accepted)
 
-    pub find-rules : (r : ℕ) → 0 < rules → r ≡ refusal 10 0 → out r buffer ≡ foundCoded (findOf s buffer)
+    pub find-rules : (r : ℕ) → 0 < rules → r ≡ refusal 10 0 → findLeaves r buffer ≡ foundCoded (findOf s buffer)
     unfolding foundCoded coded
     find-rules r h q = rw q (sym (reads ∙ rw (lt-ltb 0 rules h)))
 
-    pub find-short : (r : ℕ) → rules ≤ 0 → length buffer < 96 → r ≡ refusal 12 0 → out r buffer ≡ foundCoded (findOf s buffer)
+    pub find-short : (r : ℕ) → rules ≤ 0 → length buffer < 96 → r ≡ refusal 12 0 → findLeaves r buffer ≡ foundCoded (findOf s buffer)
     unfolding foundCoded coded
     find-short r h l q = rw q (sym (reads ∙ rw (le-ltb 0 rules h, lt-ltb (length buffer) 96 l)))
 
-    pub find-done : (r : ℕ) (new : List ℕ) → rules ≤ 0 → 96 ≤ length buffer → out r new ≡ foundCoded (findAmong (testsIn s) buffer)
-        → out r new ≡ foundCoded (findOf s buffer)
+    pub find-done : (r : ℕ) (new : List ℕ) → rules ≤ 0 → 96 ≤ length buffer → findLeaves r new ≡ foundCoded (findAmong (testsIn s) buffer)
+        → findLeaves r new ≡ foundCoded (findOf s buffer)
     find-done r new h l q = q ∙ sym (reads ∙ rw (le-ltb 0 rules h, le-ltb (length buffer) 96 l))

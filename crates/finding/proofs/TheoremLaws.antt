@@ -10,13 +10,14 @@ use lib.ListN.{length}
 use Rattle.model.specs.declared.Rule.{Rule}
 use Rattle.model.specs.Answer.{Outcome, answer, refused}
 use Rattle.model.specs.Test.{Test, File}
-use Rattle.model.specs.Find.{Suffices, NoneSuffices, Fewest, candidatesOf, picked, chosen}
+use Rattle.model.specs.Find.{Candidates, NoneSuffices, Fewest, picked, Chosen, candidatesOf, chosen}
 use Rattle.format.specs.Encode.{ruleFields}
 use Rattle.format.specs.File.{readOf}
 use Rattle.reader.proofs.CallerLaws.{refused-limits}
+use Rattle.findlaws.proofs.CandidateLaws.{collected}
 use Rattle.findlaws.proofs.ChosenLaws.{given, refused as unmet}
 use Rattle.finding.specs.Finder.{Found, found, over, wrote, findAmong, findIn, findOf}
-use Rattle.finding.specs.Theorem.{Answered, Wanting, Left}
+use Rattle.finding.specs.Theorem.{FindsSmallest, Wanting, RefusalLeaves}
 
 -- ---- outcomes told apart
 
@@ -38,27 +39,31 @@ module _ (tests : List Test) (buffer : List ℕ) where
   -- right for these tests: an answer, 13, and the buffer of a refusal
   pub record Right (r : Found) : Type 0 where
     pub given : (n : ℕ) → r .outcome ≡ answer n
-        → (rules : List Rule) × Suffices tests rules × Fewest tests rules × (n ≡ length rules) × (r .buffer ≡ over (ruleFields rules) buffer)
+        → (m : ℕ)
+        × Chosen tests (candidatesOf tests) m
+        × Fewest tests (picked (candidatesOf tests) m)
+        × (n ≡ length (picked (candidatesOf tests) m))
+        × (r .buffer ≡ over (ruleFields (picked (candidatesOf tests) m)) buffer)
     pub wanting : (place : ℕ) → r .outcome ≡ refused 13 place → NoneSuffices tests
-    pub left : (number place : ℕ) → r .outcome ≡ refused number place → r .buffer ≡ buffer
+    pub unchanged : (number place : ℕ) → r .outcome ≡ refused number place → r .buffer ≡ buffer
 
   right-refused : (number : ℕ) → (number ≡ 13 → NoneSuffices tests) → Right (found (refused number 0) buffer)
   right-refused number f =
       record {
         given = λ n e. apart number 0 n e;
         wanting = λ place e. f (unfold valueOf in ap valueOf e);
-        left = λ m place e. refl;
+        unchanged = λ m place e. refl;
       }
 
   right-wrote : (o : Option ℕ) → chosen tests (candidatesOf tests) ≡ o → Right (wrote (candidatesOf tests) o buffer)
   unfolding wrote
   right-wrote none e = right-refused 13 (λ q. unmet tests .0 e)
   right-wrote (some m) e =
-      let (enough, chosen, fewest) = given tests m e in
+      let (enough, choice, fewest) = given tests m e in
       record {
-        given = λ n q. (picked (candidatesOf tests) m, enough, fewest, unfold valueOf in sym (ap valueOf q), refl);
+        given = λ n q. (m, choice, fewest, unfold valueOf in sym (ap valueOf q), refl);
         wanting = λ place q. apart 13 place (length (picked (candidatesOf tests) m)) (sym q);
-        left = λ number place q. apart number place (length (picked (candidatesOf tests) m)) (sym q);
+        unchanged = λ number place q. apart number place (length (picked (candidatesOf tests) m)) (sym q);
       }
 
   right-cond : (b : Bool) (x y : Found) → Right x → Right y → Right (cond b x y)
@@ -83,22 +88,24 @@ right-file f buffer =
 
 -- ---- all files
 
-pub answered : Answered
+pub finds-smallest : FindsSmallest
 unfolding findOf
-answered s buffer n = go (readOf s) refl
+finds-smallest s buffer n = go (readOf s) refl
   where
     go : (o : Outcome File) → readOf s ≡ o → findIn o buffer .outcome ≡ answer n
         → (f : File)
-        × (rules : List Rule)
+        × (candidates : List Rule)
+        × (m : ℕ)
         × (o ≡ answer f)
-        × Suffices (f .tests) rules
-        × Fewest (f .tests) rules
-        × (n ≡ length rules)
-        × (findIn o buffer .buffer ≡ over (ruleFields rules) buffer)
+        × Candidates (f .tests) candidates
+        × Chosen (f .tests) candidates m
+        × Fewest (f .tests) (picked candidates m)
+        × (n ≡ length (picked candidates m))
+        × (findIn o buffer .buffer ≡ over (ruleFields (picked candidates m)) buffer)
     go (refused number place) e q = unfold findIn in apart number place n q
     go (answer f) e q =
-        let (rules, enough, fewest, m, b) = right-file f buffer .given n q in
-        (f, rules, refl, enough, fewest, m, b)
+        let (m, choice, fewest, count, bytes) = right-file f buffer .given n q in
+        (f, candidatesOf (f .tests), m, refl, collected (f .tests), choice, fewest, count, bytes)
 
 pub wanting : Wanting
 unfolding findOf
@@ -111,10 +118,10 @@ wanting s buffer place = go (readOf s) refl
         absurd (omega arith)
     go (answer f) e q = (f, refl, right-file f buffer .wanting place q)
 
-pub left : Left
+pub refusal-leaves : RefusalLeaves
 unfolding findOf
-left s buffer number place = go (readOf s)
+refusal-leaves s buffer number place = go (readOf s)
   where
     go : (o : Outcome File) → findIn o buffer .outcome ≡ refused number place → findIn o buffer .buffer ≡ buffer
     go (refused n at) q = unfold findIn in refl
-    go (answer f) q = right-file f buffer .left number place q
+    go (answer f) q = right-file f buffer .unchanged number place q

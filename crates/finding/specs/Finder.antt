@@ -54,11 +54,11 @@ pub record Coded : Type 0 where
   pub number : ℕ
   pub buffer : List ℕ
 
-abbrev pub out : ℕ → List ℕ → Coded
-out n b = record { number = n; buffer = b }
+abbrev pub findLeaves : ℕ → List ℕ → Coded
+findLeaves n b = record { number = n; buffer = b }
 
 unfoldable pub foundCoded : Found → Coded
-foundCoded f = out (coded (f .outcome)) (f .buffer)
+foundCoded f = findLeaves (coded (f .outcome)) (f .buffer)
 
 -- a rule's field
 unfoldable pub ruleBlock : Rule → List ℕ

@@ -11,7 +11,7 @@ ghost use Rattle.format.specs.Encode.{ruleFields};
 ghost use Rattle.rules.specs.Held.{rulesOf};
 ghost use Rattle.candidates.specs.Tests.{testsIn};
 ghost use Rattle.choosing.specs.Choice.{choiceCode};
-ghost use Rattle.finding.specs.Finder.{ruleBlock, over, out, foundCoded, findAmong, findOf};
+ghost use Rattle.finding.specs.Finder.{ruleBlock, over, findLeaves, foundCoded, findAmong, findOf};
 
 // The choice among the candidates of a file.
 fn choice(cands: Rules, file: &[u8], tests: usize) -> u64
@@ -52,7 +52,7 @@ fn put_rules(buffer: &mut [u8], set: Rules)
 // Finds rules for the tests of a file without rules: 11, 13, or how many rules stand in the buffer.
 fn find_among(file: &[u8], tests: usize, buffer: &mut [u8]) -> u64
     requires { ⌜ (length (testsIn (now file)) ≡ tests) × (96 ≤ length (now buffer)) ⌝ }
-    ensures { λ r. ⌜ out r (now (buffer .exit)) ≡ foundCoded (findAmong (testsIn (now (file .entry))) (now (buffer .entry))) ⌝ }
+    ensures { λ r. ⌜ findLeaves r (now (buffer .exit)) ≡ foundCoded (findAmong (testsIn (now (file .entry))) (now (buffer .entry))) ⌝ }
 {
     let cands = candidates::collect(file, tests);
     if 16 < cands.count {
@@ -70,7 +70,7 @@ fn find_among(file: &[u8], tests: usize, buffer: &mut [u8]) -> u64
 // Finds the smallest rule set under which all tests of a file hold, writes its rules as fields to
 // the front of the buffer, and answers how many; or the refusal.
 pub fn find(file: &[u8], buffer: &mut [u8]) -> u64
-    ensures { λ r. ⌜ out r (now (buffer .exit)) ≡ foundCoded (findOf (now (file .entry)) (now (buffer .entry))) ⌝ }
+    ensures { λ r. ⌜ findLeaves r (now (buffer .exit)) ≡ foundCoded (findOf (now (file .entry)) (now (buffer .entry))) ⌝ }
 {
     match reader::read(file, 0) {
         Scan::Accepted {

@@ -59,25 +59,25 @@ equal-same : (r q : Rule) → r ≡ q → same r q ≡ true
 equal-same r q e = rw e (rw (eq-eqb (q .first) (q .first) refl, eq-eqb (q .predicate) (q .predicate) refl, eq-eqb (q .second) (q .second) refl))
 
 -- the number of the candidates that are members of a list
-unfoldable kept : List Rule → List Rule → ℕ
-kept [] rules = 0
-kept (c ∷ cs) rules = cond (any (same c) rules) 1 0 + 2 * kept cs rules
+unfoldable keptMask : List Rule → List Rule → ℕ
+keptMask [] rules = 0
+keptMask (c ∷ cs) rules = cond (any (same c) rules) 1 0 + 2 * keptMask cs rules
 
-kept-below : (cs rules : List Rule) → kept cs rules < 2 ^ length cs
-unfolding kept
+kept-below : (cs rules : List Rule) → keptMask cs rules < 2 ^ length cs
+unfolding keptMask
 kept-below [] rules = lit< tt
 kept-below (c ∷ cs) rules = go (any (same c) rules) (kept-below cs rules)
   where
-    go : (b : Bool) → kept cs rules < 2 ^ length cs → cond b 1 0 + 2 * kept cs rules < 2 ^ suc (length cs)
+    go : (b : Bool) → keptMask cs rules < 2 ^ length cs → cond b 1 0 + 2 * keptMask cs rules < 2 ^ suc (length cs)
     go true h = let e = pow-suc 2 (length cs) in omega arith
     go false h = let e = pow-suc 2 (length cs) in omega arith
 
 module _ (rules : List Rule) where
   -- the first candidate is kept exactly if it is a member
   kept-step : (c : Rule) (cs : List Rule)
-      → picked (c ∷ cs) (kept (c ∷ cs) rules) ≡ cond (any (same c) rules) (c ∷ picked cs (kept cs rules)) (picked cs (kept cs rules))
-  unfolding picked kept
-  kept-step c cs = go (any (same c) rules) (kept cs rules)
+      → picked (c ∷ cs) (keptMask (c ∷ cs) rules) ≡ cond (any (same c) rules) (c ∷ picked cs (keptMask cs rules)) (picked cs (keptMask cs rules))
+  unfolding picked keptMask
+  kept-step c cs = go (any (same c) rules) (keptMask cs rules)
     where
       go : (b : Bool) (k : ℕ)
           → cond (eqb ((cond b 1 0 + 2 * k) % 2) 1) (c ∷ picked cs ((cond b 1 0 + 2 * k) / 2)) (picked cs ((cond b 1 0 + 2 * k) / 2))
@@ -91,24 +91,24 @@ module _ (rules : List Rule) where
           let h : (0 + 2 * k) / 2 ≡ k = omega arith in
           rw (e, h)
 
-  kept-out : (cs : List Rule) (x : Rule) → List·Memᴰ x (picked cs (kept cs rules)) → List·Memᴰ x rules
+  kept-out : (cs : List Rule) (x : Rule) → List·Memᴰ x (picked cs (keptMask cs rules)) → List·Memᴰ x rules
   kept-out [] x k = unfold picked in absurd (List·Memᴰ·not-nil k)
   kept-out (c ∷ cs) x k = go (any (same c) rules) refl (rw (kept-step c cs) at k) (kept-out cs x)
     where
-      go : (b : Bool) → any (same c) rules ≡ b → List·Memᴰ x (cond b (c ∷ picked cs (kept cs rules)) (picked cs (kept cs rules)))
-          → (List·Memᴰ x (picked cs (kept cs rules)) → List·Memᴰ x rules) → List·Memᴰ x rules
+      go : (b : Bool) → any (same c) rules ≡ b → List·Memᴰ x (cond b (c ∷ picked cs (keptMask cs rules)) (picked cs (keptMask cs rules)))
+          → (List·Memᴰ x (picked cs (keptMask cs rules)) → List·Memᴰ x rules) → List·Memᴰ x rules
       go true e n f = ⊎-elim
           (λ (q : x ≡ c). let (y, m, p) = any-true (same c) rules e in rw (q ∙ same-equal c y p) m)
           f
           (List·Memᴰ·cases-cons n)
       go false e n f = f n
 
-  kept-in : (cs : List Rule) (x : Rule) → List·Memᴰ x cs → List·Memᴰ x rules → List·Memᴰ x (picked cs (kept cs rules))
+  kept-in : (cs : List Rule) (x : Rule) → List·Memᴰ x cs → List·Memᴰ x rules → List·Memᴰ x (picked cs (keptMask cs rules))
   kept-in [] x n m = absurd (List·Memᴰ·not-nil n)
   kept-in (c ∷ cs) x n m = rw (kept-step c cs) (go (any (same c) rules) refl (List·Memᴰ·cases-cons n) (λ k. kept-in cs x k m))
     where
-      go : (b : Bool) → any (same c) rules ≡ b → (x ≡ c) ⊎ List·Memᴰ x cs → (List·Memᴰ x cs → List·Memᴰ x (picked cs (kept cs rules)))
-          → List·Memᴰ x (cond b (c ∷ picked cs (kept cs rules)) (picked cs (kept cs rules)))
+      go : (b : Bool) → any (same c) rules ≡ b → (x ≡ c) ⊎ List·Memᴰ x cs → (List·Memᴰ x cs → List·Memᴰ x (picked cs (keptMask cs rules)))
+          → List·Memᴰ x (cond b (c ∷ picked cs (keptMask cs rules)) (picked cs (keptMask cs rules)))
       go true e (inl q) f = List·Memᴰ·head q
       go true e (inr k) f = List·Memᴰ·tail (f k)
       go false e (inl q) f = absurd (false≢true (sym e ∙ any-intro (same c) m (equal-same c x (sym q))))
@@ -150,7 +150,7 @@ module _ (few rules : List Rule) (part : (x : Rule) → List·Memᴰ x few → L
 
 module _ (tests : List Test) (cs rules : List Rule) (given : Candidates tests cs) where
   abbrev cut : List Rule
-  cut = picked cs (kept cs rules)
+  cut = picked cs (keptMask cs rules)
 
   cut-valid : (t : Test) (s : ℕ) → List·Memᴰ t tests → Valid cut (t .main) s → Valid rules (t .main) s
   unfolding Valid DependsOn Candidates Candidate
@@ -166,10 +166,10 @@ module _ (tests : List Test) (cs rules : List Rule) (given : Candidates tests cs
 
   cut-shorter : length cut ≤ length rules
   unfolding Candidates
-  cut-shorter = no-longer cut rules (picked-ordered cs (kept cs rules) (given .0)) (kept-out rules cs)
+  cut-shorter = no-longer cut rules (picked-ordered cs (keptMask cs rules) (given .0)) (kept-out rules cs)
 
 pub cut-down : CutDown
 cut-down tests rules h =
     let cs = candidatesOf tests in
     let given = collected tests in
-    (kept cs rules, kept-below cs rules, cut-suffices tests cs rules given h, cut-shorter tests cs rules given)
+    (keptMask cs rules, kept-below cs rules, cut-suffices tests cs rules given h, cut-shorter tests cs rules given)

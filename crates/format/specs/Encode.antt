@@ -22,14 +22,14 @@ unfoldable pub writeFields : ℕ → List Write → List ℕ
 writeFields tag [] = []
 writeFields tag (w ∷ ws) = fieldBytes tag (writeBytes w) ++ writeFields tag ws
 
-unfoldable pub checkField : Check → List ℕ
-checkField (Range a) = fieldBytes 4 (a ∷ [])
-checkField (Pair a v b w) = fieldBytes 5 (a ∷ (bytes4 v ++ (b ∷ bytes4 w)))
-checkField (Pointer a) = fieldBytes 6 (a ∷ [])
+unfoldable pub checkFieldBytes : Check → List ℕ
+checkFieldBytes (Range a) = fieldBytes 4 (a ∷ [])
+checkFieldBytes (Pair a v b w) = fieldBytes 5 (a ∷ (bytes4 v ++ (b ∷ bytes4 w)))
+checkFieldBytes (Pointer a) = fieldBytes 6 (a ∷ [])
 
 unfoldable pub checkFields : List Check → List ℕ
 checkFields [] = []
-checkFields (c ∷ cs) = checkField c ++ checkFields cs
+checkFields (c ∷ cs) = checkFieldBytes c ++ checkFields cs
 
 -- a test: its 01s, its 02s, its checks, one 07
 unfoldable pub testBytes : Test → List ℕ

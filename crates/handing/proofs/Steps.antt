@@ -29,7 +29,7 @@ use Rattle.soundness.specs.Parts.{Tabled, TabledIf}
 use Rattle.contents.proofs.ContentSteps.{writes-length, write-at}
 use Rattle.layout.proofs.LayoutSteps.{flag-read}
 use Rattle.soundness.proofs.SoundSteps.{table-agrees}
-use Rattle.storing.specs.Given.{kept, codedKept, lateAt, handFaultBy, handFault}
+use Rattle.storing.specs.Given.{callLeavesState, codedKept, lateAt, handFaultBy, handFault}
 use Rattle.storing.proofs.Steps.{few-rules, few-writes}
 
 -- ---- late_at, is_late
@@ -68,11 +68,11 @@ pub ruleset lateness = (needs, late-waits, late-depends, late-begun, late-more, 
 
 -- ---- closes_ring
 
-pub ring-closed : (rules : List Rule) (s rows shut : List ℕ) (w : Write) (n : ℕ) (b : Bool) → n ≡ acceptedCount s
+pub ring-closed : (rules : List Rule) (s rows reached : List ℕ) (w : Write) (n : ℕ) (b : Bool) → n ≡ acceptedCount s
     → take (acceptedCount s + 1) rows ≡ rowsOf (cache.needs rules (writesIn s ++ (w ∷ []))) (acceptedCount s + 1)
-    → shut ≡ closed (n + 1) rows → b ≡ loops shut (n + 1) → b ≡ needsRing rules (writesIn s ++ (w ∷ []))
+    → reached ≡ closed (n + 1) rows → b ≡ loops reached (n + 1) → b ≡ needsRing rules (writesIn s ++ (w ∷ []))
 unfolding needsRing
-ring-closed rules s rows shut w n b c e q f =
+ring-closed rules s rows reached w n b c e q f =
     let z : length (writesIn s ++ (w ∷ [])) ≡ acceptedCount s + 1 = length-append (writesIn s) (w ∷ []) ∙ ap (λ (k : ℕ). k + 1) (writes-length s) in
     f ∙ rw (q, c, z) (loops-closed rows (cache.needs rules (writesIn s ++ (w ∷ []))) (acceptedCount s + 1) (table-agrees _ rows (acceptedCount s + 1) e))
 
@@ -136,13 +136,13 @@ pub ruleset faulting = (needs, hand-short, hand-unsound, hand-rules, hand-writes
 -- ---- pelzhondy_hand_in
 
 module _ (w : Write) (s : List ℕ) (n : ℕ) (e : n ≡ handFault w s) where
-  hand-refused : (r : ℕ) → (n ≡ 0 → ⊥) → r ≡ refusal n 0 → kept r s ≡ codedKept (handInOf w s [])
+  hand-refused : (r : ℕ) → (n ≡ 0 → ⊥) → r ≡ refusal n 0 → callLeavesState r s ≡ codedKept (handInOf w s [])
   unfolding handFault handFaultBy handInOf codedKept coded
   hand-refused r z q =
       go (eqb (length s) 1024) (sound s) (leb 64 (acceptedCount s)) (late (rulesIn s) (writesIn s) (storedIn s) w) (needsRing (rulesIn s) (writesIn s ++ (w ∷ []))) e
     where
       go : (a b c d f : Bool) → n ≡ handFaultBy a b c d f
-          → kept r s ≡ codedKept (cond (not a) (left (refused 14 0) s []) (cond (not b) (left (refused 15 0) s []) (cond c (left (refused 16 0) s []) (cond d (left (refused 17 0) s []) (cond f (left (refused 18 0) s []) (left (answer (acceptedCount s + 1)) (handed s w) []))))))
+          → callLeavesState r s ≡ codedKept (cond (not a) (left (refused 14 0) s []) (cond (not b) (left (refused 15 0) s []) (cond c (left (refused 16 0) s []) (cond d (left (refused 17 0) s []) (cond f (left (refused 18 0) s []) (left (answer (acceptedCount s + 1)) (handed s w) []))))))
       go false b c d f e = rw (q, e)
       go true false c d f e = rw (q, e)
       go true true true d f e = rw (q, e)
@@ -176,7 +176,7 @@ module _ (w : Write) (s : List ℕ) (n : ℕ) (e : n ≡ handFault w s) where
   pub hand-room : n ≡ 0 → (length s ≡ 1024) × (acceptedCount s < 64)
   hand-room z = (eqb-true _ _ (welcome z .size), leb-false _ _ (welcome z .room))
 
-  hand-taken : (r : ℕ) (s′ : List ℕ) → n ≡ 0 → r ≡ acceptedCount s + 1 → s′ ≡ handed s w → kept r s′ ≡ codedKept (handInOf w s [])
+  hand-taken : (r : ℕ) (s′ : List ℕ) → n ≡ 0 → r ≡ acceptedCount s + 1 → s′ ≡ handed s w → callLeavesState r s′ ≡ codedKept (handInOf w s [])
   unfolding handInOf codedKept coded
   hand-taken r s′ z p q =
       let h = welcome z in
@@ -184,10 +184,10 @@ module _ (w : Write) (s : List ℕ) (n : ℕ) (e : n ≡ handFault w s) where
 
 -- the same of the write of the five values
 module _ (v w : Write) (s : List ℕ) (n r : ℕ) (g : w ≡ v) (e : n ≡ handFault w s) where
-  pub given-refused : (n ≡ 0 → ⊥) → r ≡ refusal n 0 → kept r s ≡ codedKept (handInOf v s [])
+  pub given-refused : (n ≡ 0 → ⊥) → r ≡ refusal n 0 → callLeavesState r s ≡ codedKept (handInOf v s [])
   given-refused z q = rw (← g) (hand-refused w s n e r z q)
 
-  pub given-taken : (s′ : List ℕ) → n ≡ 0 → r ≡ acceptedCount s + 1 → s′ ≡ handed s w → kept r s′ ≡ codedKept (handInOf v s [])
+  pub given-taken : (s′ : List ℕ) → n ≡ 0 → r ≡ acceptedCount s + 1 → s′ ≡ handed s w → callLeavesState r s′ ≡ codedKept (handInOf v s [])
   given-taken s′ z p q = rw (← g) (hand-taken w s n e r s′ z p q)
 
 pub ruleset handing = (needs, given-refused, given-taken)

@@ -1,7 +1,11 @@
 // The judging program: a file on standard input, a line for each of its tests on standard output.
-// 19,456 bytes are enough: a longer file is refused as its first 19,389 bytes are.
-ghost use Prim.Native.Nat.{_+_, _≤_};
+// 19,456 bytes are enough: a longer file is refused as its first 19,389 bytes are (`enough`).
+ghost use mathlib.Core.List.{List};
+ghost use Prim.Native.Nat.{ℕ, _+_, _≤_};
 ghost use lib.ListN.{length};
+ghost use Rattle.printing.specs.Lines.{programText};
+ghost use Rattle.printing.specs.Theorem.{enough, Read};
+ghost use Rattle.writing.specs.Writing.{Wrote};
 
 // Reads until the buffer is full or the input ends, and answers how many bytes it read; one more
 // than the buffer's length if a read fails.
@@ -23,15 +27,24 @@ fn read_input(buffer: &mut [u8]) -> usize
     done
 }
 
-// Judges the first n bytes of `buffer`, by way of `out`.
+// The text of an input of which the first n bytes of `buffer` were read, at the front of `out`, and
+// how many bytes that is.
+fn render(buffer: &[u8], n: usize, out: &mut [u8]) -> usize
+    requires { ⌜ (enough ≤ length (now buffer)) × ((n ≤ length (now buffer)) × (400 ≤ length (now out))) ⌝ }
+    ensures { λ r. ⌜ ((input : List ℕ) → Read input (now (buffer .entry)) n → Wrote (now (out .entry)) 0 (programText input) (now (out .exit)) r) × (r ≤ 400) ⌝ }
+{
+    printing::judge_lines(&buffer[..n], out)
+}
+
+// Judges what was read into `buffer`, n bytes, by way of `out`.
 fn judge_input(buffer: &[u8], n: usize, out: &mut [u8])
-    requires { ⌜ 400 ≤ length (now out) ⌝ }
+    requires { ⌜ (enough ≤ length (now buffer)) × (400 ≤ length (now out)) ⌝ }
 {
     if buffer.len() < n {
         io::write_all(2, b"judge: standard input could not be read\n");
         return;
     }
-    let m = printing::judge_lines(&buffer[..n], out);
+    let m = render(buffer, n, out);
     io::write_all(1, &out[..m]);
 }
 

@@ -1,24 +1,23 @@
 -- From the loops' answers to the judge's: the table of rows is the rules', the disk is the test's initial one, the checks are the test's.
-use mathlib.Core.Path.{_≡_, refl, sym, ap, ap₂, subst, _∙_}
+use mathlib.Core.Path.{_≡_, refl, sym, ap, subst, _∙_}
 use mathlib.Core.Bool.{Bool, true, false, cond, not, _&&_}
 use mathlib.Core.List.{List}
-use Prim.Native.Nat.{ℕ, _+_, _-_, _*_, _^_, _≤_, _<_}
+use Prim.Native.Nat.{ℕ, _-_, _*_, _^_, _≤_, _<_}
 use native.Mathlib.Decide.{ℕ-discrete}
 use native.Mathlib.Omega.{arith}
 use lib.Pow.{pow-mono}
 use lib.Dec.{leb}
 use lib.ListN.{length, take}
 use borrow.Author.Needs.{needs}
-use borrow.Author.Tests.{le-leb, lt-leb}
+use borrow.Author.Tests.{not-true, not-false}
 use Rattle.relation.proofs.ListLaws.{allBelow-intro}
 use Rattle.model.specs.declared.Rule.{Rule}
 use Rattle.model.specs.declared.Check.{Check}
 use Rattle.model.specs.Answer.{Outcome, answer, refused}
 use Rattle.model.specs.Cyclic.{cyclic}
 use Rattle.model.specs.Disk.{emptyDisk}
-use Rattle.model.specs.Schedule.{written, run, valid}
-use Rattle.model.specs.Check.{consistent}
-use Rattle.model.specs.Test.{Test, File, initialDisk, bad, TestHolds, testHolds, Bad, countBelow, validCount, badCount}
+use Rattle.model.specs.Schedule.{written, valid}
+use Rattle.model.specs.Test.{File, initialDisk, bad, testHolds, Bad, countBelow, validCount, badCount}
 use Rattle.model.proofs.TestLaws.{bad-true, testHolds-true, count-ext, count-most}
 use Rattle.format.specs.declared.Extent.{Extent}
 use Rattle.format.specs.declared.Scan.{Scan}
@@ -27,13 +26,14 @@ use Rattle.format.specs.File.{readOf}
 use Rattle.reader.specs.Limits.{longest}
 use Rattle.format.specs.Scan.{rulesAt, writesAt, checksAt, mainPlace, checksPlace, testAt}
 use Rattle.format.specs.Held.{Tells, Inside, testOf}
-use Rattle.reader.proofs.CallerLaws.{refused-read, refused-most, accepted-file, accepted-read, accepted-tests, accepted-most, accepted-inside, accepted-test, accepted-at, accepted-long}
+use Rattle.reader.proofs.CallerLaws.{refused-read, refused-most, accepted-file, accepted-read, accepted-tests, accepted-most, accepted-inside, accepted-test, accepted-at, accepted-long, listed-below}
 use Rattle.rules.specs.declared.Rules.{Rules}
 use Rattle.rules.specs.Held.{rulesOf}
 use Rattle.disks.specs.Packed.{Loads, heldFrom}
 use Rattle.disks.proofs.Steps.{loaded-run}
-use Rattle.judging.specs.declared.Gate.the-variants.{Open, Shut}
-use Rattle.judging.specs.declared.Gate.{Gate}
+use Rattle.judging.specs.declared.Selected.the-variants.{Found}
+use Rattle.judging.specs.declared.Selected.the-variants as Selected
+use Rattle.judging.specs.declared.Selected.{Selected}
 use Rattle.counting.specs.declared.Judgement.{Judgement}
 use Rattle.counting.specs.declared.Verdict.{Verdict}
 use Rattle.counting.specs.declared.Verdict.the-variants.{Holds, Fails}
@@ -42,7 +42,7 @@ use Rattle.judging.specs.declared.Judged.the-variants as Judged
 use Rattle.judging.specs.declared.Decided.the-variants.{As}
 use Rattle.judging.specs.declared.Decided.the-variants as Decided
 use Rattle.schedules.specs.Rows.{validBy, badBy, Validates}
-use Rattle.judging.specs.Judge.{Case, caseOf, caseIn, caseAt, Judges, Decides, Gates, Judging, Deciding, Few, FewDecided}
+use Rattle.judging.specs.Judge.{Case, caseOf, caseIn, caseAt, Judges, Decides, Selects, Judging, Deciding, Few, FewDecided}
 use Rattle.counting.specs.Tally.{Finds, Tallies}
 use Rattle.schedules.proofs.RowLaws.{writes-length}
 
@@ -126,9 +126,9 @@ unfolding caseIn caseOf
 case-file s k rules tests rs b f h a n q p = rw (h, a, n, p, q)
 
 module _ (s : List ℕ) (k w : ℕ) (x : Scan) (z : w ≡ k - 1) (t : Tells s w (readOf s) x) where
-  pub shut-reading : (number place : ℕ) → x ≡ Refused number place → Gates s k (Shut number place)
-  unfolding Gates caseIn caseOf
-  shut-reading number place e =
+  pub refused-reading : (number place : ℕ) → x ≡ Refused number place → Selects s k (Selected.Refused number place)
+  unfolding Selects caseIn caseOf
+  refused-reading number place e =
       let h = rw e at t in
       let l = refused-most s w number place h in
       let m = l .0 in
@@ -148,70 +148,67 @@ module _ (s : List ℕ) (k w : ℕ) (x : Scan) (z : w ≡ k - 1) (t : Tells s w 
           let h = rw e at t in
           case-file s k rules tests (rulesOf r) b (accepted-file s w rules tests found h) (accepted-read s w rules tests found h) (accepted-at s w rules tests found h) (accepted-tests s w rules tests found h) q p
 
-      pub shut-cyclic : b ≡ true → Gates s k (Shut 8 0)
-      unfolding Gates
-      shut-cyclic h = (reads ∙ rw h, omega arith, omega arith)
+      pub refused-cyclic : b ≡ true → Selects s k (Selected.Refused 8 0)
+      unfolding Selects
+      refused-cyclic h = (reads ∙ rw h, omega arith, omega arith)
 
-      pub shut-zero : b ≡ false → k < 1 → Gates s k (Shut 9 0)
-      unfolding Gates
-      shut-zero h l = (reads ∙ rw (h, lt-leb 1 k l), omega arith, omega arith)
+      module _ (d : Bool) (g : d ≡ leb 1 k && leb k tests) where
+        pub refused-none : b ≡ false → not d ≡ true → Selects s k (Selected.Refused 9 0)
+        unfolding Selects
+        refused-none h n = (reads ∙ rw (h, ← g, not-true d n), omega arith, omega arith)
 
-      pub shut-none : b ≡ false → 1 ≤ k → tests < k → Gates s k (Shut 9 0)
-      unfolding Gates
-      shut-none h l m = (reads ∙ rw (h, le-leb 1 k l, lt-leb k tests m), omega arith, omega arith)
+        pub test-found : b ≡ false → not d ≡ false → Selects s k (Found rules found)
+        unfolding Selects
+        test-found h n =
+            let i : w < tests = listed-below k w tests d z g n in
+            let a = accepted-test s w rules tests found (rw e at t) i in
+            (reads ∙ rw (h, ← g, not-false d n, ← z, a), rules-most, rules-inside, accepted-inside s w rules tests found (rw e at t) i)
 
-      pub gate-open : b ≡ false → 1 ≤ k → k ≤ tests → Gates s k (Open rules found)
-      unfolding Gates
-      gate-open h l m =
-          let i : w < tests = omega arith in
-          let a = accepted-test s w rules tests found (rw e at t) i in
-          (reads ∙ rw (h, le-leb 1 k l, le-leb k tests m, ← z, a), rules-most, rules-inside, accepted-inside s w rules tests found (rw e at t) i)
+-- ---- from the test that is selected to the answers
 
--- ---- from the gate to the answers
+module _ (s : List ℕ) (k : ℕ) (g : Selected) (t : Selects s k g) where
+  pub judging-refused : (number place : ℕ) → g ≡ Selected.Refused number place → Judging (caseIn s k) (Judged.Refused number place)
+  unfolding Selects Judging
+  judging-refused number place e = let h : (caseIn s k ≡ refused number place) × (number ≤ 9) × (place ≤ longest) = rw e at t in rw (h .0)
 
-module _ (s : List ℕ) (k : ℕ) (g : Gate) (t : Gates s k g) where
-  pub judging-shut : (number place : ℕ) → g ≡ Shut number place → Judging (caseIn s k) (Judged.Refused number place)
-  unfolding Gates Judging
-  judging-shut number place e = let h : (caseIn s k ≡ refused number place) × (number ≤ 9) × (place ≤ longest) = rw e at t in rw (h .0)
+  pub few-refused : (number place : ℕ) → g ≡ Selected.Refused number place → Few (Judged.Refused number place)
+  unfolding Selects Few
+  few-refused number place e = let h : (caseIn s k ≡ refused number place) × (number ≤ 9) × (place ≤ longest) = rw e at t in (h .1, h .2)
 
-  pub few-shut : (number place : ℕ) → g ≡ Shut number place → Few (Judged.Refused number place)
-  unfolding Gates Few
-  few-shut number place e = let h : (caseIn s k ≡ refused number place) × (number ≤ 9) × (place ≤ longest) = rw e at t in (h .1, h .2)
+  pub few-decided-refused : (number place : ℕ) → g ≡ Selected.Refused number place → FewDecided (Decided.Refused number place)
+  unfolding Selects FewDecided
+  few-decided-refused number place e = let h : (caseIn s k ≡ refused number place) × (number ≤ 9) × (place ≤ longest) = rw e at t in (h .1, h .2)
 
-  pub few-decided-shut : (number place : ℕ) → g ≡ Shut number place → FewDecided (Decided.Refused number place)
-  unfolding Gates FewDecided
-  few-decided-shut number place e = let h : (caseIn s k ≡ refused number place) × (number ≤ 9) × (place ≤ longest) = rw e at t in (h .1, h .2)
+  pub deciding-refused : (number place : ℕ) → g ≡ Selected.Refused number place → Deciding (caseIn s k) (Decided.Refused number place)
+  unfolding Selects Deciding
+  deciding-refused number place e = let h : (caseIn s k ≡ refused number place) × (number ≤ 9) × (place ≤ longest) = rw e at t in rw (h .0)
 
-  pub deciding-shut : (number place : ℕ) → g ≡ Shut number place → Deciding (caseIn s k) (Decided.Refused number place)
-  unfolding Gates Deciding
-  deciding-shut number place e = let h : (caseIn s k ≡ refused number place) × (number ≤ 9) × (place ≤ longest) = rw e at t in rw (h .0)
+  module _ (rules : ℕ) (found : Extent) (e : g ≡ Found rules found) where
+    case-found : (caseIn s k ≡ answer (caseAt (rulesAt s rules) s found)) × (rules ≤ 32) × (6 * rules ≤ length s) × Inside s found
+    unfolding Selects
+    case-found = rw e at t
 
-  module _ (rules : ℕ) (found : Extent) (e : g ≡ Open rules found) where
-    opened : (caseIn s k ≡ answer (caseAt (rulesAt s rules) s found)) × (rules ≤ 32) × (6 * rules ≤ length s) × Inside s found
-    unfolding Gates
-    opened = rw e at t
+    pub found-rules : rules ≤ 32
+    found-rules = case-found .1
 
-    pub open-rules : rules ≤ 32
-    open-rules = opened .1
+    pub found-long : 6 * rules ≤ length s
+    found-long = case-found .2
 
-    pub open-long : 6 * rules ≤ length s
-    open-long = opened .2
+    pub found-inside : Inside s found
+    found-inside = case-found .3
 
-    pub open-inside : Inside s found
-    open-inside = opened .3
-
-    pub judging-open : (r : Rules) (j : Judgement) → rulesOf r ≡ rulesAt s rules → Judges (caseAt (rulesOf r) s found) j → Judging (caseIn s k) (Counts j)
+    pub judging-found : (r : Rules) (j : Judgement) → rulesOf r ≡ rulesAt s rules → Judges (caseAt (rulesOf r) s found) j → Judging (caseIn s k) (Counts j)
     unfolding Judging
-    judging-open r j q p = rw (opened .0) (j, refl, rw q at p)
+    judging-found r j q p = rw (case-found .0) (j, refl, rw q at p)
 
-    pub few-open : (r : Rules) (j : Judgement) → Judges (caseAt (rulesOf r) s found) j → Few (Counts j)
-    few-open r j p = judges-few (rulesOf r) s found open-inside j p
+    pub few-found : (r : Rules) (j : Judgement) → Judges (caseAt (rulesOf r) s found) j → Few (Counts j)
+    few-found r j p = judges-few (rulesOf r) s found found-inside j p
 
-    pub few-decided-open : (r : Rules) (v : Verdict) → Decides (caseAt (rulesOf r) s found) v → FewDecided (As v)
-    few-decided-open r v p = decides-few (rulesOf r) s found open-inside v p
+    pub few-decided-found : (r : Rules) (v : Verdict) → Decides (caseAt (rulesOf r) s found) v → FewDecided (As v)
+    few-decided-found r v p = decides-few (rulesOf r) s found found-inside v p
 
-    pub deciding-open : (r : Rules) (v : Verdict) → rulesOf r ≡ rulesAt s rules → Decides (caseAt (rulesOf r) s found) v → Deciding (caseIn s k) (As v)
+    pub deciding-found : (r : Rules) (v : Verdict) → rulesOf r ≡ rulesAt s rules → Decides (caseAt (rulesOf r) s found) v → Deciding (caseIn s k) (As v)
     unfolding Deciding
-    deciding-open r v q p = rw (opened .0) (v, refl, rw q at p)
+    deciding-found r v q p = rw (case-found .0) (v, refl, rw q at p)
 
-pub ruleset judges = (needs, judges-all, decides-all, shut-reading, shut-cyclic, shut-zero, shut-none, gate-open, judging-shut, deciding-shut, judging-open, deciding-open, few-shut, few-decided-shut, few-open, few-decided-open)
+pub ruleset judges = (needs, judges-all, decides-all, refused-reading, refused-cyclic, refused-none, test-found, judging-refused, deciding-refused, judging-found, deciding-found, few-refused, few-decided-refused, few-found, few-decided-found)

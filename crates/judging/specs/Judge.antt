@@ -14,8 +14,9 @@ use Rattle.format.specs.declared.Extent.{Extent}
 use Rattle.reader.specs.Limits.{longest}
 use Rattle.format.specs.Scan.{rulesAt, testAt}
 use Rattle.format.specs.Held.{testOf, Inside}
-use Rattle.judging.specs.declared.Gate.{Gate}
-use Rattle.judging.specs.declared.Gate.the-variants.{Open, Shut}
+use Rattle.judging.specs.declared.Selected.{Selected}
+use Rattle.judging.specs.declared.Selected.the-variants.{Found}
+use Rattle.judging.specs.declared.Selected.the-variants as Selected
 use Rattle.judging.specs.declared.Judged.{Judged}
 use Rattle.judging.specs.declared.Judged.the-variants.{Counts}
 use Rattle.judging.specs.declared.Judged.the-variants as Judged
@@ -60,10 +61,10 @@ Decides c (Fails s) = Bad (c .rules) (c .test) s
 abbrev pub caseAt : List Rule → List ℕ → Extent → Case
 caseAt rules s e = record { rules = rules; test = testAt s e }
 
--- a test of an accepted file, by its place, or the refusal
-unfoldable pub Gates : List ℕ → ℕ → Gate → Type 0
-Gates s k (Shut number place) = (caseIn s k ≡ refused number place) × (number ≤ 9) × (place ≤ longest)
-Gates s k (Open rules found) =
+-- the test that a call asks for, by its place in an accepted file, or the refusal
+unfoldable pub Selects : List ℕ → ℕ → Selected → Type 0
+Selects s k (Selected.Refused number place) = (caseIn s k ≡ refused number place) × (number ≤ 9) × (place ≤ longest)
+Selects s k (Found rules found) =
     (caseIn s k ≡ answer (caseAt (rulesAt s rules) s found)) × (rules ≤ 32) × (6 * rules ≤ length s) × Inside s found
 
 -- the judge: the refusal, or numbers that judge the case

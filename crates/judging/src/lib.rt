@@ -7,12 +7,12 @@ use rules::Rules;
 ghost use Prim.Native.Nat.{_≤_};
 ghost use Rattle.rules.specs.Held.{rulesOf};
 ghost use Rattle.format.specs.Held.{Inside};
-ghost use Rattle.judging.specs.Judge.{caseAt, caseIn, Judges, Decides, Gates, Judging, Deciding, Few, FewDecided};
+ghost use Rattle.judging.specs.Judge.{caseAt, caseIn, Judges, Decides, Selects, Judging, Deciding, Few, FewDecided};
 
-// A test found in a file, or the refusal of the call.
-pub enum Gate {
-    Open { rules: usize, found: Extent },
-    Shut { number: u8, place: usize },
+// The test of a file that a call asks for, or the refusal of the call.
+pub enum Selected {
+    Found { rules: usize, found: Extent },
+    Refused { number: u8, place: usize },
 }
 
 // What a judge gives: its numbers, or a refusal.
@@ -70,8 +70,8 @@ fn decide_test(file: &[u8], rules: Rules, e: Extent) -> Verdict
 }
 
 // The test to be judged, or the refusal: reading's, 8, 9.
-pub fn admit(file: &[u8], test: u64) -> Gate
-    ensures { λ r. ⌜ Gates (now (file .entry)) test r ⌝ }
+pub fn select(file: &[u8], test: u64) -> Selected
+    ensures { λ r. ⌜ Selects (now (file .entry)) test r ⌝ }
 {
     match reader::read(file, reader::from_zero(test)) {
         Scan::Accepted {
@@ -80,26 +80,20 @@ pub fn admit(file: &[u8], test: u64) -> Gate
             found,
         } => {
             if cycles::is_cyclic(loading::file_rules(file, rules)) {
-                return Gate::Shut {
+                return Selected::Refused {
                     number: 8,
                     place: 0,
                 };
             }
-            if test < 1 {
-                return Gate::Shut {
+            if !reader::has_test(tests, test) {
+                return Selected::Refused {
                     number: 9,
                     place: 0,
                 };
             }
-            if (tests as u64) < test {
-                return Gate::Shut {
-                    number: 9,
-                    place: 0,
-                };
-            }
-            Gate::Open { rules, found }
+            Selected::Found { rules, found }
         }
-        Scan::Refused { number, place } => Gate::Shut { number, place },
+        Scan::Refused { number, place } => Selected::Refused { number, place },
     }
 }
 
@@ -107,11 +101,11 @@ pub fn admit(file: &[u8], test: u64) -> Gate
 pub fn judge(file: &[u8], test: u64) -> Judged
     ensures { λ r. ⌜ Judging (caseIn (now (file .entry)) test) r × Few r ⌝ }
 {
-    match admit(file, test) {
-        Gate::Open { rules, found } => {
+    match select(file, test) {
+        Selected::Found { rules, found } => {
             Judged::Counts(judge_test(file, loading::file_rules(file, rules), found))
         }
-        Gate::Shut { number, place } => Judged::Refused { number, place },
+        Selected::Refused { number, place } => Judged::Refused { number, place },
     }
 }
 
@@ -119,10 +113,10 @@ pub fn judge(file: &[u8], test: u64) -> Judged
 pub fn decide(file: &[u8], test: u64) -> Decided
     ensures { λ r. ⌜ Deciding (caseIn (now (file .entry)) test) r × FewDecided r ⌝ }
 {
-    match admit(file, test) {
-        Gate::Open { rules, found } => {
+    match select(file, test) {
+        Selected::Found { rules, found } => {
             Decided::As(decide_test(file, loading::file_rules(file, rules), found))
         }
-        Gate::Shut { number, place } => Decided::Refused { number, place },
+        Selected::Refused { number, place } => Decided::Refused { number, place },
     }
 }

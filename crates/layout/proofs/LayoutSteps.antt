@@ -9,7 +9,7 @@ use lib.Dec.{eqb, leb}
 use borrow.Author.Needs.{needs}
 use borrow.Author.Tests.{eq-eqb, ne-eqb, not-true, not-false}
 use Rattle.relation.specs.Bits.{withBit, maskOf}
-use Rattle.relation.specs.Lists.{allBelow, all}
+use Rattle.relation.specs.Lists.{allBelow}
 use Rattle.relation.proofs.ListLaws.{allBelow-true, and-intro}
 use Rattle.model.specs.Test.{countBelow}
 use Rattle.format.specs.Bytes.{byte}

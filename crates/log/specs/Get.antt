@@ -21,6 +21,14 @@ Gets disk key head tail (some v) =
     (a : ℕ) × (head ≤ a) × (a < tail) × (keyed disk key a ≡ true) × (v ≡ secondOf (blockIn disk a))
     × ((b : ℕ) → a < b → b < tail → keyed disk key b ≡ false)
 
+-- the superblock, block 0, names the head and the tail of the log
+abbrev pub LogGets : List ℕ → ℕ → Option ℕ → Type 0
+LogGets disk key v = Gets disk key (firstOf (blockIn disk 0)) (secondOf (blockIn disk 0)) v
+
+-- it names blocks beyond the disk: head < tail and tail > 256
+abbrev pub PastDisk : List ℕ → Type 0
+PastDisk disk = (firstOf (blockIn disk 0) < secondOf (blockIn disk 0)) × (256 < secondOf (blockIn disk 0))
+
 -- the same, computed: the n addresses below head + n, from the highest down
 unfoldable pub getFrom : List ℕ → ℕ → ℕ → ℕ → Option ℕ
 getFrom disk key head zero = none

@@ -33,7 +33,7 @@ use Rattle.disks.proofs.Steps.{loaded-run}
 use Rattle.schedules.proofs.RowLaws.{writes-length}
 use Rattle.findlaws.specs.Hit.{allows, allowed, marks, marked, spread}
 use Rattle.candidates.specs.Tests.{testsIn}
-use Rattle.marking.specs.Table.{Sets, spoilt, Adds, Blank, Shows, either, Lowered, Spreads}
+use Rattle.marking.specs.Table.{Sets, inconsistentSet, Adds, Blank, Shows, either, Lowered, Spreads}
 
 -- ---- one schedule
 
@@ -53,13 +53,13 @@ mark-set l y x h = go (eqb y x) refl
     go false e = ap (λ (n : ℕ). eqb n 1) (getD-set-other l y x 1 0 (λ (z : x ≡ y). eqb-false y x e (sym z)))
 
 module _ (checks : List Check) (ws : List Write) (base sets old : List ℕ) where
-  pub adds-none : Adds (spoilt checks ws base sets 0) old old
-  unfolding spoilt anyBelow
+  pub adds-none : Adds (inconsistentSet checks ws base sets 0) old old
+  unfolding inconsistentSet anyBelow
   adds-none = record { size = refl; at = λ x h. refl }
 
-  pub adds-more : (new next : List ℕ) (s y : ℕ) (c : Bool) (d : List ℕ) → Adds (spoilt checks ws base sets s) old new → y ≡ getD sets s 0 → y < length new
-      → d ≡ run ws s base → c ≡ consistent checks d → next ≡ cond c new (set new y 1) → Adds (spoilt checks ws base sets (s + 1)) old next
-  unfolding spoilt anyBelow
+  pub adds-more : (new next : List ℕ) (s y : ℕ) (c : Bool) (d : List ℕ) → Adds (inconsistentSet checks ws base sets s) old new → y ≡ getD sets s 0 → y < length new
+      → d ≡ run ws s base → c ≡ consistent checks d → next ≡ cond c new (set new y 1) → Adds (inconsistentSet checks ws base sets (s + 1)) old next
+  unfolding inconsistentSet anyBelow
   adds-more new next s y c d a e h k i q = rw (q, i, k, add-one s) (go (consistent checks (run ws s base)) refl)
     where
       swap : (p q r : Bool) → q || (p || r) ≡ p || q || r
@@ -74,29 +74,29 @@ module _ (checks : List Check) (ws : List Write) (base sets old : List ℕ) wher
       go : (b : Bool) → consistent checks (run ws s base) ≡ b
           → Adds (λ x. anyBelow (λ s. not (consistent checks (run ws s base)) && eqb (getD sets s 0) x) s || not (consistent checks (run ws s base)) && eqb (getD sets s 0) x) old (cond b new (set new y 1))
       go true f =
-          record { size = a .size; at = λ x l. a .at x l ∙ rw f (drop-false (spoilt checks ws base sets s x) (eqb (getD old x 0) 1)) }
+          record { size = a .size; at = λ x l. a .at x l ∙ rw f (drop-false (inconsistentSet checks ws base sets s x) (eqb (getD old x 0) 1)) }
       go false f =
           record {
             size = length-set new y 1 ∙ a .size;
             at =
                 λ x l. mark-set new y x h
-                ∙ rw (f, a .at x l, e) (swap (spoilt checks ws base sets s x) (eqb (getD sets s 0) x) (eqb (getD old x 0) 1));
+                ∙ rw (f, a .at x l, e) (swap (inconsistentSet checks ws base sets s x) (eqb (getD sets s 0) x) (eqb (getD old x 0) 1));
           }
 
-  pub adds-all : (new : List ℕ) (s total n : ℕ) → Adds (spoilt checks ws base sets s) old new → total ≡ 2 ^ n → s ≤ total → total ≤ s
-      → Adds (spoilt checks ws base sets (2 ^ n)) old new
-  adds-all new s total n a e h l = let z : s ≡ 2 ^ n = omega arith in subst (λ (k : ℕ). Adds (spoilt checks ws base sets k) old new) z a
+  pub adds-all : (new : List ℕ) (s total n : ℕ) → Adds (inconsistentSet checks ws base sets s) old new → total ≡ 2 ^ n → s ≤ total → total ≤ s
+      → Adds (inconsistentSet checks ws base sets (2 ^ n)) old new
+  adds-all new s total n a e h l = let z : s ≡ 2 ^ n = omega arith in subst (λ (k : ℕ). Adds (inconsistentSet checks ws base sets k) old new) z a
 
 -- ---- one test
 
 module _ (cands : Rules) (s : List ℕ) (e : Extent) (writes base sets old new : List ℕ) (checks : List Check) where
-  pub adds-test : Adds (spoilt (take (e .checks) checks) (heldFrom writes 0 (e .main)) base sets (2 ^ e .main)) old new
+  pub adds-test : Adds (inconsistentSet (take (e .checks) checks) (heldFrom writes 0 (e .main)) base sets (2 ^ e .main)) old new
       → Loads s (mainPlace e) (e .main) writes → length (cands .items) ≡ 32 → cands .count ≤ 16
       → base ≡ written (writesAt s (e .at) (e .initial)) emptyDisk
       → take (e .checks) checks ≡ checksAt s (checksPlace e) (e .checks)
       → Sets (rulesOf cands) (writesAt s (mainPlace e) (e .main)) (2 ^ e .main) (cands .count) sets
       → Adds (marks (rulesOf cands) (testAt s e)) old new
-  unfolding spoilt marks testAt initialDisk allowed
+  unfolding inconsistentSet marks testAt initialDisk allowed
   adds-test a lw all few eb ec k =
       let cs = rulesOf cands in
       let ws = writesAt s (mainPlace e) (e .main) in

@@ -8,7 +8,7 @@ use native.Mathlib.Nat.{one-mul, lt-of-lt-of-le}
 use native.Mathlib.Numerals.{add-one}
 use native.Mathlib.Omega.{arith}
 use lib.Dec.{lit<}
-use lib.ListN.{length, getD, take, set, length-set, replicate, length-replicate, getD-replicate}
+use lib.ListN.{length, getD, set, length-set, replicate, length-replicate, getD-replicate}
 use lib.Pow.{shl-exact, pow-mono}
 use lib.Seq.{getD-set-same, getD-set-other, getD-take}
 use Rattle.relation.specs.Bits.{withBit, maskOf}

@@ -41,8 +41,8 @@ pub record Bounded (l : List ℕ) (n : ℕ) : Type 0 where
 -- ---- marks
 
 -- x is the set of an inconsistent schedule below n
-unfoldable pub spoilt : List Check → List Write → List ℕ → List ℕ → ℕ → ℕ → Bool
-spoilt checks ws base sets n x = anyBelow (λ s. not (consistent checks (run ws s base)) && eqb (getD sets s 0) x) n
+unfoldable pub inconsistentSet : List Check → List Write → List ℕ → List ℕ → ℕ → ℕ → Bool
+inconsistentSet checks ws base sets n x = anyBelow (λ s. not (consistent checks (run ws s base)) && eqb (getD sets s 0) x) n
 
 -- the marks of a table, and those of f
 pub record Adds (f : ℕ → Bool) (old new : List ℕ) : Type 0 where

@@ -14,7 +14,7 @@ ghost use Rattle.disks.specs.Packed.{heldFrom};
 ghost use Rattle.schedules.specs.Rows.{validBy};
 ghost use Rattle.findlaws.specs.Hit.{marks, marked};
 ghost use Rattle.candidates.specs.Tests.{testsIn};
-ghost use Rattle.marking.specs.Table.{withValid, validUnder, Grown, Sets, Bounded, spoilt, Adds, Blank, Shows, either, Lowered, Spreads};
+ghost use Rattle.marking.specs.Table.{withValid, validUnder, Grown, Sets, Bounded, inconsistentSet, Adds, Blank, Shows, either, Lowered, Spreads};
 
 // mask, with bit c set where schedule s is valid by the unions.
 fn with_valid(mask: u64, c: usize, low: &[u64; 64], high: &[u64; 64], s: u64) -> u64
@@ -87,7 +87,7 @@ fn mark(
     m: usize,
 )
     requires { ⌜ (length (now table) ≡ 65536) × ((Bounded allowed n) × ((n ≤ 12) × (m ≤ 16))) ⌝ }
-    ensures { λ _. ⌜ Adds (spoilt (take m checks) (heldFrom (now (writes .entry)) 0 n) base allowed (2 ^ n)) (now (table .entry)) (now (table .exit)) ⌝ }
+    ensures { λ _. ⌜ Adds (inconsistentSet (take m checks) (heldFrom (now (writes .entry)) 0 n) base allowed (2 ^ n)) (now (table .entry)) (now (table .exit)) ⌝ }
 {
     let total = 1usize << n;
     let mut disk = base;

@@ -1,17 +1,17 @@
 -- The computed forms of the checks agree with their meaning.
-use mathlib.Core.Path.{_≡_, refl, sym, ap, subst, _∙_}
-use mathlib.Core.Logic.{_⊎_, inl, inr, ⊎-elim}
-use mathlib.Core.Bool.{Bool, true, false, not, _&&_, _||_, false≢true, true≢false}
-use mathlib.Core.List.{List, List·Memᴰ}
-use Prim.Native.Nat.{ℕ, _+_, _-_, _≤_, _<_}
+use mathlib.Core.Path.{_≡_, refl, sym, subst, _∙_}
+use mathlib.Core.Logic.{⊎-elim}
+use mathlib.Core.Bool.{Bool, true, false, not, _&&_, _||_, false≢true}
+use mathlib.Core.List.{List}
+use Prim.Native.Nat.{ℕ, _+_, _-_}
 use native.Mathlib.Omega.{arith}
 use lib.Dec.{eqb, leb}
-use borrow.Author.Tests.{leb-true, leb-false, le-leb, lt-leb, eqb-true, eq-eqb, not-true}
+use borrow.Author.Tests.{leb-true, leb-false, le-leb, eqb-true, eq-eqb, not-true}
 use Rattle.relation.proofs.ListLaws.{or-cases, or-left, or-right, and-left, and-right, and-intro, allBelow-true, allBelow-intro, all-true, all-intro}
 use Rattle.relation.proofs.MaskLaws.{implies, implied}
 use Rattle.model.specs.declared.Check.{Check}
 use Rattle.model.specs.declared.Check.the-variants.{Range, Pair, Pointer}
-use Rattle.model.specs.Disk.{empty, firstOf, secondOf, blockAt}
+use Rattle.model.specs.Disk.{empty, secondOf, blockAt}
 use Rattle.model.specs.Check.{RangeHolds, Holds, Consistent, rangeHolds, holds, consistent}
 
 not-false-intro : (b : Bool) → b ≡ false → not b ≡ true

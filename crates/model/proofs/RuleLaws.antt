@@ -1,8 +1,7 @@
 -- The computed forms of dependency and of known predicates agree with their meaning.
 use mathlib.Core.Path.{_≡_}
-use mathlib.Core.Bool.{Bool, true}
-use mathlib.Core.List.{List, List·Memᴰ}
-use Prim.Native.Nat.{_≤_}
+use mathlib.Core.Bool.{true}
+use mathlib.Core.List.{List}
 use borrow.Author.Tests.{leb-true, le-leb}
 use lib.Dec.{leb}
 use Rattle.relation.proofs.ListLaws.{any-true, any-intro, all-true, all-intro}

@@ -1,15 +1,14 @@
 -- The computed form of validity agrees with its meaning.
-use mathlib.Core.Path.{_≡_, refl, sym, _∙_}
-use mathlib.Core.Bool.{Bool, true, false, not, _||_, false≢true}
+use mathlib.Core.Path.{_≡_}
+use mathlib.Core.Bool.{true}
 use mathlib.Core.List.{List}
-use Prim.Native.Nat.{ℕ, _<_}
+use Prim.Native.Nat.{ℕ}
 use lib.ListN.{length}
-use Rattle.relation.specs.Lists.{allBelow}
 use Rattle.relation.proofs.ListLaws.{allBelow-true, allBelow-intro}
 use Rattle.relation.proofs.MaskLaws.{implies, implied}
 use Rattle.model.specs.declared.Rule.{Rule}
 use Rattle.model.specs.declared.Write.{Write}
-use Rattle.model.specs.Rules.{DependsOn, dependsOn}
+use Rattle.model.specs.Rules.{dependsOn}
 use Rattle.model.specs.Schedule.{flagged, labelAt, Valid, valid}
 use Rattle.model.proofs.RuleLaws.{dependsOn-true, true-dependsOn}
 

@@ -1,15 +1,15 @@
 -- The computed forms of a bad schedule and of a test that holds agree with their meaning, and so does the count of bad schedules.
-use mathlib.Core.Path.{_≡_, refl, sym, ap, _∙_}
+use mathlib.Core.Path.{_≡_, refl, sym, _∙_}
 use mathlib.Core.Logic.{_⊎_, inl, inr, ⊎-elim}
-use mathlib.Core.Bool.{Bool, true, false, cond, not, _&&_, false≢true}
+use mathlib.Core.Bool.{Bool, true, false, cond, not, false≢true}
 use mathlib.Core.List.{List}
 use Prim.Native.Nat.{ℕ, zero, suc, _+_, _≤_, _<_}
 use native.Mathlib.Omega.{arith}
-use borrow.Author.Tests.{not-true, not-false}
+use borrow.Author.Tests.{not-true}
 use Rattle.relation.proofs.ListLaws.{not-so, and-left, and-right, and-intro, allBelow-true, allBelow-intro, anyBelow-true, anyBelow-false, below-suc}
-use Rattle.relation.specs.Lists.{allBelow, anyBelow}
+use Rattle.relation.specs.Lists.{anyBelow}
 use Rattle.model.specs.declared.Rule.{Rule}
-use Rattle.model.specs.Schedule.{Valid, valid}
+use Rattle.model.specs.Schedule.{valid}
 use Rattle.model.specs.Check.{Consistent, consistent}
 use Rattle.model.specs.Test.{Test, schedules, diskAfter, TestHolds, testHolds, Bad, bad, countBelow, badCount}
 use Rattle.model.proofs.ScheduleLaws.{valid-true, true-valid}

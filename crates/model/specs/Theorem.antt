@@ -1,5 +1,5 @@
 -- The theorems of the definitions: each computed form agrees with its meaning, which speaks of every rule, write, check or schedule.
--- (Cyclic rules: crate `rules`; candidates and the choice among their sets: crate `findlaws`.)
+-- (Cyclic rules: crate `cyclelaws`; candidates and the choice among their sets: crate `findlaws`.)
 use Prim.Native.Nat.{ℕ, _<_}
 use mathlib.Core.Path.{_≡_}
 use mathlib.Core.Logic.{_↔_, _⊎_}

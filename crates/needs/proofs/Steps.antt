@@ -30,7 +30,7 @@ use Rattle.cache.specs.State.{acceptedCount, writeIn, writesIn}
 use Rattle.masks.specs.declared.Epochs.{Epochs}
 use Rattle.masks.specs.Masks.{namedMask, addressMask, epochMask, secondMask, standingBy, withRule, pairedBy, Compared, dependentMask, needsOf, neededMask}
 use Rattle.contents.proofs.ContentSteps.{front-at, last-at, write-at}
-use Rattle.masks.proofs.MaskSteps.{at-end, masks}
+use Rattle.masks.proofs.MaskSteps.{at-end}
 
 -- ---- standing, with_rule
 

@@ -26,7 +26,7 @@ use Rattle.rules.proofs.MatchSteps.{length-mapped}
 use Rattle.rules.specs.Held.{itemAt}
 use Rattle.cache.specs.State.{rulesBytes, opened}
 use Rattle.cache.specs.Calls.{left, openWith, openOf}
-use Rattle.storing.specs.Given.{kept, codedKept, openedBy}
+use Rattle.storing.specs.Given.{callLeavesState, codedKept, openedBy}
 use Rattle.stores.proofs.StoreSteps.{inside}
 use Rattle.appending.proofs.AppendSteps.{sets-append}
 
@@ -99,11 +99,11 @@ pub ruleset putting = (needs, length-mapped, inside, rule-put, rules-begun, rule
 -- ---- open_with
 
 module _ (rules : List Rule) (s : List ℕ) (b : Bool) (e : b ≡ cyclic rules) where
-  pub open-cyclic : (r : ℕ) → b ≡ true → r ≡ refusal 8 0 → kept r s ≡ openedBy rules s
+  pub open-cyclic : (r : ℕ) → b ≡ true → r ≡ refusal 8 0 → callLeavesState r s ≡ openedBy rules s
   unfolding openedBy
   open-cyclic r t q = rw (← e, t, q)
 
-  pub open-started : (s′ : List ℕ) → b ≡ false → s′ ≡ opened rules → kept 0 s′ ≡ openedBy rules s
+  pub open-started : (s′ : List ℕ) → b ≡ false → s′ ≡ opened rules → callLeavesState 0 s′ ≡ openedBy rules s
   unfolding openedBy
   open-started s′ f q = rw (← e, f, q)
 
@@ -112,31 +112,31 @@ pub ruleset beginning = (needs, open-cyclic, open-started)
 -- ---- pelzhondy_open
 
 module _ (file s : List ℕ) where
-  pub open-short : (r : ℕ) → (length s ≡ 1024 → ⊥) → r ≡ refusal 14 0 → kept r s ≡ codedKept (openOf file s [])
+  pub open-short : (r : ℕ) → (length s ≡ 1024 → ⊥) → r ≡ refusal 14 0 → callLeavesState r s ≡ codedKept (openOf file s [])
   unfolding openOf codedKept coded
   open-short r h q = rw (ne-eqb _ _ h, q)
 
   module _ (x : Scan) (hs : length s ≡ 1024) (t : Tells file 0 (readOf file) x) where
-    pub open-refused : (number place r : ℕ) → x ≡ Refused number place → r ≡ refusal number place → kept r s ≡ codedKept (openOf file s [])
+    pub open-refused : (number place r : ℕ) → x ≡ Refused number place → r ≡ refusal number place → callLeavesState r s ≡ codedKept (openOf file s [])
     unfolding openOf openWith codedKept coded
     open-refused number place r e q = rw (eq-eqb _ _ hs, refused-read file 0 number place (rw e at t), q)
 
     module _ (rules tests : ℕ) (found : Extent) (e : x ≡ Accepted rules tests found) where
-      pub open-tests : (r : ℕ) → 0 < tests → r ≡ refusal 22 0 → kept r s ≡ codedKept (openOf file s [])
+      pub open-tests : (r : ℕ) → 0 < tests → r ≡ refusal 22 0 → callLeavesState r s ≡ codedKept (openOf file s [])
       unfolding openOf openWith codedKept coded
       open-tests r h q =
           let k = rw e at t in
           rw (eq-eqb _ _ hs, accepted-read file 0 rules tests found k, accepted-tests file 0 rules tests found k, lt-ltb 0 tests h, q)
 
-      pub open-made : (held : Rules) (r : ℕ) (s′ : List ℕ) → tests ≤ 0 → rulesOf held ≡ rulesAt file rules → kept r s′ ≡ openedBy (rulesOf held) s
-          → kept r s′ ≡ codedKept (openOf file s [])
+      pub open-made : (held : Rules) (r : ℕ) (s′ : List ℕ) → tests ≤ 0 → rulesOf held ≡ rulesAt file rules → callLeavesState r s′ ≡ openedBy (rulesOf held) s
+          → callLeavesState r s′ ≡ codedKept (openOf file s [])
       unfolding openOf openWith codedKept coded openedBy
       open-made held r s′ h i q =
           let k = rw e at t in
           q ∙ rw (eq-eqb _ _ hs, accepted-read file 0 rules tests found k, accepted-tests file 0 rules tests found k, le-ltb 0 tests h, accepted-at file 0 rules tests found k, i)
           (go (cyclic (rulesAt file rules)))
         where
-          go : (b : Bool) → cond b (kept (refusal 8 0) s) (kept 0 (opened (rulesAt file rules)))
+          go : (b : Bool) → cond b (callLeavesState (refusal 8 0) s) (callLeavesState 0 (opened (rulesAt file rules)))
               ≡ codedKept (cond b (left (refused 8 0) s []) (left (answer 0) (opened (rulesAt file rules)) []))
           go true = refl
           go false = refl

@@ -8,7 +8,7 @@ ghost use lib.Seq.{sets};
 ghost use Rattle.format.specs.Bytes.{ruleBytes};
 ghost use Rattle.rules.specs.Held.{rulesOf};
 ghost use Rattle.cache.specs.State.{opened};
-ghost use Rattle.storing.specs.Given.{kept, openedBy};
+ghost use Rattle.storing.specs.Given.{callLeavesState, openedBy};
 
 // All bytes are zero.
 fn clear(state: &mut [u8])
@@ -48,7 +48,7 @@ fn put_rules(state: &mut [u8], rules: Rules)
 // A state with these rules and no writes, unless they are cyclic.
 pub fn open_with(state: &mut [u8], rules: Rules) -> u64
     requires { ⌜ (length (now state) ≡ 1024) × (rules .count ≤ 32) ⌝ }
-    ensures { λ r. ⌜ kept r (now (state .exit)) ≡ openedBy (rulesOf rules) (now (state .entry)) ⌝ }
+    ensures { λ r. ⌜ callLeavesState r (now (state .exit)) ≡ openedBy (rulesOf rules) (now (state .entry)) ⌝ }
 {
     if cycles::is_cyclic(rules) {
         return model::refuse(8, 0);

@@ -1,7 +1,7 @@
 -- The program's text from its lines, outcome by outcome.
 use mathlib.Core.Path.{_≡_, refl, sym, ap, _∙_}
-use mathlib.Core.Bool.{Bool, true, false, cond, _&&_}
-use mathlib.Core.List.{List, [], _∷_, _++_}
+use mathlib.Core.Bool.{Bool, true, false, cond}
+use mathlib.Core.List.{List}
 use Prim.Native.Nat.{ℕ, zero, suc, _+_, _-_, _*_, _≤_, _<_}
 use native.Mathlib.Numerals.{add-one}
 use native.Mathlib.Omega.{arith}
@@ -15,7 +15,6 @@ use Rattle.format.specs.declared.Extent.{Extent}
 use Rattle.format.specs.declared.Scan.{Scan}
 use Rattle.format.specs.declared.Scan.the-variants.{Accepted, Refused}
 use Rattle.format.specs.File.{readOf}
-use Rattle.reader.specs.Limits.{longest}
 use Rattle.format.specs.Scan.{rulesAt}
 use Rattle.format.specs.Held.{Tells, testOf}
 use Rattle.reader.proofs.CallerLaws.{refused-read, refused-most, accepted-file, accepted-read, accepted-tests, accepted-most, accepted-at, accepted-long}

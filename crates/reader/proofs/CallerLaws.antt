@@ -1,14 +1,17 @@
 -- What a caller of `read` learns of the file from the answer.
-use mathlib.Core.Path.{_≡_, refl, sym, ap, _∙_}
+use mathlib.Core.Path.{_≡_, sym, ap, _∙_}
+use mathlib.Core.Bool.{Bool, true, false, not, _&&_}
 use mathlib.Core.List.{List}
-use Prim.Native.Nat.{ℕ, _+_, _*_, _≤_, _<_}
+use Prim.Native.Nat.{ℕ, _-_, _*_, _≤_, _<_}
 use native.Mathlib.Omega.{arith}
+use lib.Dec.{leb}
 use lib.ListN.{length}
-use Rattle.relation.proofs.ListLaws.{length-tabulate}
+use borrow.Author.Tests.{leb-true, not-false}
+use Rattle.relation.proofs.ListLaws.{and-left, and-right, length-tabulate}
 use Rattle.model.specs.Test.{File}
 use Rattle.format.specs.declared.Extent.{Extent}
 use Rattle.format.specs.declared.Scan.the-variants.{Accepted, Refused}
-use Rattle.model.specs.Answer.{Outcome, answer, refused}
+use Rattle.model.specs.Answer.{answer, refused}
 use Rattle.format.specs.File.{readOf}
 use Rattle.format.specs.Scan.{rulesAt, ruleField, testAt}
 use Rattle.reader.specs.Limits.{FileLimits, Limited, longest}
@@ -71,3 +74,11 @@ module _ (s : List ℕ) (wanted : ℕ) where
     pub accepted-test : wanted < tests → testOf accepted-file wanted ≡ testAt s found
     unfolding Tells accepted-file
     accepted-test h = t .5 h .0
+
+-- a test that is there, counted from 1, is one of those that count from 0
+pub listed-below : (k w tests : ℕ) (b : Bool) → w ≡ k - 1 → b ≡ leb 1 k && leb k tests → not b ≡ false → w < tests
+listed-below k w tests b z e n =
+    let t : leb 1 k && leb k tests ≡ true = sym e ∙ not-false b n in
+    let l = leb-true 1 k (and-left (leb 1 k) (leb k tests) t) in
+    let m = leb-true k tests (and-right (leb 1 k) (leb k tests) t) in
+    omega arith

@@ -1,19 +1,19 @@
 -- The loop over the fields: from each place on the scan gives what it gives from the start.
-use mathlib.Core.Path.{_≡_, refl, sym, ap, _∙_}
+use mathlib.Core.Path.{_≡_, refl, sym, _∙_}
 use mathlib.Core.List.{List}
-use Prim.Native.Nat.{ℕ, zero, suc, _+_, _-_, _≤_, _<_}
+use Prim.Native.Nat.{ℕ, zero, suc, _+_, _≤_, _<_}
 use native.Mathlib.Omega.{arith}
 use lib.ListN.{length}
 use borrow.Author.Needs.{needs}
 use borrow.Author.Tests.{lt-ltb, le-ltb, eq-eqb, ne-eqb}
 use Rattle.format.specs.declared.ScanState.{ScanState}
 use Rattle.format.specs.declared.Scan.{Scan}
-use Rattle.format.specs.declared.Scan.the-variants.{Accepted, Refused}
+use Rattle.format.specs.declared.Scan.the-variants.{Refused}
 use Rattle.format.specs.Bytes.{byte}
 use Rattle.format.specs.File.{bodyLength, faultOf, fieldEnd}
 use Rattle.format.specs.Scan.{advanced, ended, scanFrom, started, scanOf}
 use Rattle.reader.specs.Limits.{Within}
-use Rattle.reader.proofs.LimitLaws.{Clean, clean, clean-fits, within-counted}
+use Rattle.reader.proofs.LimitLaws.{clean, clean-fits, within-counted}
 
 -- fuel enough is left, and the answer from here is the whole answer
 abbrev pub Ahead : List ℕ → ℕ → ℕ → ScanState → Type 0

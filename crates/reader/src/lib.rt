@@ -4,7 +4,9 @@ use format::Extent;
 use format::Scan;
 use format::ScanState;
 ghost use mathlib.Core.Path.{_≡_};
+ghost use mathlib.Core.Bool.{_&&_};
 ghost use Prim.Native.Nat.{_-_};
+ghost use lib.Dec.{leb};
 ghost use lib.ListN.{length};
 ghost use Rattle.format.specs.Scan.{counted, testFrom, found, advanced, ended, scanOf};
 ghost use Rattle.reader.specs.Limits.{Within};
@@ -172,4 +174,14 @@ pub fn from_zero(test: u64) -> usize
         return 0;
     }
     (test - 1) as usize
+}
+
+// Whether there is a test of that number, counted from 1, among so many.
+pub fn has_test(tests: usize, test: u64) -> bool
+    ensures { λ r. ⌜ r ≡ leb 1 test && leb test tests ⌝ }
+{
+    if test < 1 {
+        return false;
+    }
+    test <= tests as u64
 }

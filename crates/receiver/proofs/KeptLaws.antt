@@ -14,11 +14,11 @@ use Rattle.cache.specs.Needs.{needsRing}
 use Rattle.cache.specs.State.{acceptedCount, rulesIn, writesIn, storedIn}
 use Rattle.cache.specs.Sound.{sound}
 use Rattle.cache.specs.Calls.{Left, late, openWith, openOf, handInOf}
-use Rattle.storing.specs.Given.{out, codedLeft, codedKept}
+use Rattle.storing.specs.Given.{callLeaves, codedLeft, codedKept}
 
 -- answer and state are those with no disk, and the disk is as it was
 abbrev pub Apart : (List ℕ → Left) → Type 0
-Apart f = (d : List ℕ) → codedLeft (f d) ≡ out (codedKept (f []) .answer) (codedKept (f []) .state) d
+Apart f = (d : List ℕ) → codedLeft (f d) ≡ callLeaves (codedKept (f []) .answer) (codedKept (f []) .state) d
 
 branch : (b : Bool) (f g : List ℕ → Left) → Apart f → Apart g → Apart (λ d. cond b (f d) (g d))
 branch true f g p q = p

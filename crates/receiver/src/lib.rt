@@ -1,16 +1,16 @@
 // The write-back cache for the receiver's C host: a state of 1,024 lent bytes, a disk of 1,024 lent
 // bytes. Every refusal is `refusal number place` and leaves all bytes.
+ghost use mathlib.Core.List.{[]};
 use format::Scan;
 ghost use mathlib.Core.Path.{_≡_};
-ghost use mathlib.Core.List.{[]};
 ghost use Rattle.cache.specs.Calls.{openOf, handInOf, given, stepOf, drainOf};
 ghost use Rattle.log.specs.Get.{getAnswer};
-ghost use Rattle.storing.specs.Given.{out, codedLeft, kept, codedKept};
+ghost use Rattle.storing.specs.Given.{callLeaves, codedLeft, callLeavesState, codedKept};
 
 // Stores the earliest waiting write whose needs are all stored, and answers its place from 1; or 0.
 #[no_mangle]
 pub extern "C" fn pelzhondy_step(state: &mut [u8], disk: &mut [u8]) -> u64
-    ensures { λ r. ⌜ out r (now (state .exit)) (now (disk .exit)) ≡ codedLeft (stepOf (now (state .entry)) (now (disk .entry))) ⌝ }
+    ensures { λ r. ⌜ callLeaves r (now (state .exit)) (now (disk .exit)) ≡ codedLeft (stepOf (now (state .entry)) (now (disk .entry))) ⌝ }
 {
     let mut rows = [0u64; 64];
     let number = storing::fault(&mut rows, state, disk);
@@ -24,7 +24,7 @@ pub extern "C" fn pelzhondy_step(state: &mut [u8], disk: &mut [u8]) -> u64
 // As many steps as there are waiting writes, and how many.
 #[no_mangle]
 pub extern "C" fn pelzhondy_drain(state: &mut [u8], disk: &mut [u8]) -> u64
-    ensures { λ r. ⌜ out r (now (state .exit)) (now (disk .exit)) ≡ codedLeft (drainOf (now (state .entry)) (now (disk .entry))) ⌝ }
+    ensures { λ r. ⌜ callLeaves r (now (state .exit)) (now (disk .exit)) ≡ codedLeft (drainOf (now (state .entry)) (now (disk .entry))) ⌝ }
 {
     let mut rows = [0u64; 64];
     let number = storing::fault(&mut rows, state, disk);
@@ -45,7 +45,7 @@ pub extern "C" fn pelzhondy_hand_in(
     first: u16,
     second: u16,
 ) -> u64
-    ensures { λ r. ⌜ kept r (now (state .exit)) ≡ codedKept (handInOf (given address name epoch first second) (now (state .entry)) []) ⌝ }
+    ensures { λ r. ⌜ callLeavesState r (now (state .exit)) ≡ codedKept (handInOf (given address name epoch first second) (now (state .entry)) []) ⌝ }
 {
     let w = appending::given(address, name, epoch, first, second);
     let number = handing::hand_fault(state, w);
@@ -58,7 +58,7 @@ pub extern "C" fn pelzhondy_hand_in(
 // Starts a state with a file's rules and no writes. Answers 0.
 #[no_mangle]
 pub extern "C" fn pelzhondy_open(state: &mut [u8], file: &[u8]) -> u64
-    ensures { λ r. ⌜ kept r (now (state .exit)) ≡ codedKept (openOf (now (file .entry)) (now (state .entry)) []) ⌝ }
+    ensures { λ r. ⌜ callLeavesState r (now (state .exit)) ≡ codedKept (openOf (now (file .entry)) (now (state .entry)) []) ⌝ }
 {
     if state.len() != 1024 {
         return model::refuse(14, 0);

@@ -1,33 +1,24 @@
 -- What stays true of a book: stored writes need only stored ones, and needs form no ring. So a waiting write can always be stored.
 use mathlib.Core.Path.{_≡_, refl, sym, ap, subst, _∙_}
-use mathlib.Core.Logic.{_≢_, _⊎_, inl, inr, ⊎-elim}
-use mathlib.Core.Bool.{Bool, true, false, cond, not, _&&_, _||_, false≢true, true≢false}
-use mathlib.Core.List.{List, [], _∷_, _++_, map}
-use Prim.Native.Nat.{ℕ, zero, suc, _+_, _-_, _≤_, _<_}
-use native.Mathlib.Decide.{ℕ-discrete, decLt}
+use mathlib.Core.Logic.{_≢_, inl, inr}
+use mathlib.Core.Bool.{true, false, false≢true}
+use mathlib.Core.List.{List, [], _∷_, _++_}
+use Prim.Native.Nat.{ℕ, zero, suc, _≤_, _<_}
+use native.Mathlib.Decide.{ℕ-discrete}
 use native.Mathlib.Omega.{arith}
-use lib.ListN.{length, getD, length-append, length-map, List·getD-append, List·getD-map}
+use lib.ListN.{length, getD, length-map, List·getD-append, List·getD-map}
 use lib.Seq.{getD-at}
-use borrow.Author.Tests.{not-true, not-false}
-use Rattle.relation.specs.Lists.{allBelow}
-use Rattle.relation.specs.Finite.{Below}
-use Rattle.relation.specs.Transitive.{Ring}
-use Rattle.relation.proofs.ListLaws.{and-left, and-right, and-intro, allBelow-true, allBelow-intro}
-use Rattle.relation.proofs.MaskLaws.{implies, implied}
-use Rattle.relation.proofs.TransitiveLaws.{plus-map}
-use Rattle.relation.proofs.FiniteLaws as Finite
 use Rattle.model.specs.declared.Write.{Write}
 use Rattle.model.specs.declared.Rule.{Rule}
-use Rattle.model.specs.Rules.{Known, DependsOn, labelOf}
+use Rattle.model.specs.Rules.{Known, DependsOn}
 use Rattle.model.specs.Cyclic.{Cyclic}
 use Rattle.model.specs.Schedule.{noWrite, writeAt, labelAt}
 use Rattle.format.specs.Encode.{WriteFits}
-use Rattle.cache.specs.Needs.{Needs, NeedsRing, Earliest, needs, met, readyFrom, ready}
+use Rattle.cache.specs.Needs.{Needs, NeedsRing, Earliest, ready}
 use Rattle.cache.specs.Calls.{Late}
-use Rattle.cache.proofs.NeedsLaws.{needs-true, true-needs, below-needs}
 use Rattle.soundlaws.proofs.ReadyLaws.{needs-left, needs-right, ready-earliest}
 use Rattle.soundlaws.proofs.HandLaws.{closed-with}
-use Rattle.runs.specs.Book.{Entry, entry, Book, accepted, flagAt, appended, flagging, stepped}
+use Rattle.runs.specs.Book.{entry, Book, accepted, flagAt, appended, flagging, stepEntered}
 use Rattle.model.specs.Test.{countBelow}
 use Rattle.model.proofs.TestLaws.{count-ext}
 use Rattle.cache.specs.State.{rulesIn, writesIn, storedIn, acceptedCount}
@@ -87,8 +78,8 @@ fine-flagging rules b i f e =
       ringless = λ r. f .ringless (rw (accepted-flagging b (suc i)) at r);
     }
 
-pub fine-stepped : (rules : List Rule) (b : Book) → Fine rules b → Fine rules (stepped rules b)
-unfolding stepped
+pub fine-stepped : (rules : List Rule) (b : Book) → Fine rules b → Fine rules (stepEntered rules b)
+unfolding stepEntered
 fine-stepped rules b f = go (ready rules (accepted b) (flagAt b)) refl
   where
     go : (k : ℕ) → ready rules (accepted b) (flagAt b) ≡ k → Fine rules (flagging k b)

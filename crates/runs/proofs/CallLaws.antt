@@ -1,27 +1,36 @@
--- Calls on any buffers: what a lent buffer is to them, what they give and leave if it has another length or is unsound, and that openings and
--- hand-ins take no disk.
-use mathlib.Core.Path.{_≡_, refl}
-use mathlib.Core.Logic.{_⊎_, inl, inr}
-use mathlib.Core.Bool.{Bool, true, false, cond, not}
+-- Calls on any buffers: what a lent buffer is to them, what they give if it has another length or is unsound, that a refused one leaves what it
+-- was lent, which openings are refused, and that openings and hand-ins take no disk.
+use mathlib.Core.Path.{_≡_, refl, sym, ap, _∙_}
+use mathlib.Core.Logic.{_⊎_, inl, inr, ⊎-elim}
+use mathlib.Core.Bool.{Bool, true, false, cond, not, _&&_, _||_}
 use mathlib.Core.List.{List, [], _∷_, _++_}
-use Prim.Native.Nat.{ℕ}
+use mathlib.Core.Option.{Option}
+use Prim.{tt}
+use Prim.Native.Nat.{ℕ, zero, suc, _-_}
 use native.Mathlib.Decide.{ℕ-discrete}
+use native.Mathlib.Omega.{arith}
 use lib.Dec.{eqb, leb, ltb}
 use lib.ListN.{length}
-use borrow.Author.Tests.{eq-eqb, ne-eqb}
-use Rattle.relation.proofs.ListLaws.{untrue}
+use borrow.Author.Tests.{eq-eqb, ne-eqb, lt-ltb, ltb-true}
+use Rattle.relation.proofs.ListLaws.{or-cases, or-left, or-right, untrue}
 use Rattle.model.specs.declared.Write.{Write}
-use Rattle.model.specs.Answer.{Outcome, answer, refused}
+use Rattle.model.specs.Answer.{Outcome, answer, refused, coded}
+use Rattle.model.specs.Disk.{block, firstOf, secondOf}
 use Rattle.model.specs.Cyclic.{cyclic}
 use Rattle.model.specs.Test.{File}
+use Rattle.format.specs.Bytes.{blockIn}
 use Rattle.format.specs.File.{readOf}
-use Rattle.cache.specs.Needs.{needsRing}
-use Rattle.cache.specs.State.{stateSize, rulesIn, writesIn, storedIn, acceptedCount}
+use Rattle.reader.proofs.CallerLaws.{holding-limits}
+use Rattle.cyclelaws.proofs.CyclicLaws.{true-cyclic, cyclic-true}
+use Rattle.log.specs.Get.{LogGets, PastDisk, getFrom, getOf, getCode, getAnswer}
+use Rattle.log.proofs.Theorems.{highest, get-answers, refused-gets}
+use Rattle.cache.specs.Needs.{needsRing, ready}
+use Rattle.cache.specs.State.{stateSize, rulesIn, writesIn, storedIn, acceptedCount, opened}
 use Rattle.cache.specs.Sound.{Sound, sound}
-use Rattle.cache.specs.Calls.{Left, left, late, openWith, openOf, handInOf, checked}
+use Rattle.cache.specs.Calls.{Held, Left, left, late, openWith, openOf, handInOf, checked, storing, stepped, stepOf, drained, drainOf}
 use Rattle.soundness.proofs.SoundLaws.{sound-true}
-use Rattle.runs.specs.Run.{Lent, own, other, Wrong, Unsound, lentTo, keptBy}
-use Rattle.runs.specs.Theorem.{Diskless}
+use Rattle.runs.specs.Run.{Call, opening, handIn, step, drain, get, Lent, own, other, stateLent, diskLent, Wrong, Unsound, Own, WrongLength, OpensNone, Listed, lentTo, keptBy, valued, called, isRefused}
+use Rattle.runs.specs.Theorem.{RefusedOpenings, Widths, Diskless, GetCoded}
 
 -- ---- lent buffers
 
@@ -41,6 +50,16 @@ wrong-lent n (other x) mine w e = w e
 pub decide-wrong : (n : ℕ) (l : Lent) → Wrong n l ⊎ (Wrong n l → ⊥)
 decide-wrong n own = inr (λ w. w)
 decide-wrong n (other x) = elim (ℕ-discrete (length x) n) [ yes z ↦ inr (λ w. w z) | no d ↦ inl d ]
+
+pub own-is : (l : Lent) → Own l → l ≡ own
+own-is own o = refl
+own-is (other x) o = absurd o
+
+pub decide-length : (c : Call) → WrongLength c ⊎ (WrongLength c → ⊥)
+decide-length c = ⊎-elim
+    (λ w. inl (inl w))
+    (λ ns. ⊎-elim (λ w. inl (inr w)) (λ nd. inr (λ w. ⊎-elim ns nd w)) (decide-wrong 1024 (diskLent c)))
+    (decide-wrong stateSize (stateLent c))
 
 pub unsound-lent : (l : Lent) (mine : List ℕ) → Unsound l → Sound (lentTo l mine) → ⊥
 unsound-lent own mine u s = u
@@ -80,6 +99,146 @@ open-length file s d n = rw (ne-eqb (length s) stateSize n)
 pub open-read : (file s d : List ℕ) → length s ≡ stateSize → openOf file s d ≡ openWith (readOf file) s d
 unfolding openOf
 open-read file s d e = rw (eq-eqb (length s) stateSize e)
+
+pub get-length : (d : List ℕ) (key : ℕ) → (length d ≡ 1024 → ⊥) → getOf d key ≡ refused 14 0
+unfolding getOf
+get-length d key n = rw (ne-eqb (length d) 1024 n)
+
+-- a get of a disk of 1,024 bytes is refused by 21 or by none
+pub get-right : (d : List ℕ) (key : ℕ) → length d ≡ 1024 → (getOf d key ≡ refused 21 0) ⊎ ((v : Option ℕ) × (getOf d key ≡ answer v))
+unfolding getOf
+get-right d key e =
+    let head = firstOf (blockIn d 0) in
+    let tail = secondOf (blockIn d 0) in
+    rw (eq-eqb (length d) 1024 e) (go (ltb head tail && ltb 256 tail) (getFrom d key head (tail - head)))
+  where
+    go : (x : Bool) (v : Option ℕ) → (cond x (refused 21 0) (answer v) ≡ refused 21 0) ⊎ ((u : Option ℕ) × (cond x (refused 21 0) (answer v) ≡ answer u))
+    go true v = inl refl
+    go false v = inr (v, refl)
+
+-- ..: by none where the log's blocks are on the disk, and then it gives the value there is
+pub get-given : (d : List ℕ) (key : ℕ) (v : Option ℕ) → length d ≡ 1024 → (PastDisk d → ⊥) → LogGets d key v → getOf d key ≡ answer v
+get-given d key v e n g = ⊎-elim
+    (λ (r : getOf d key ≡ refused 21 0). absurd (n (refused-gets d key e .0 r)))
+    (λ (u : (x : Option ℕ) × (getOf d key ≡ answer x)). u .1 ∙ ap answer (one (u .0) (u .1)))
+    (get-right d key e)
+  where
+    one : (x : Option ℕ) → getOf d key ≡ answer x → x ≡ v
+    one x q =
+        let head = firstOf (blockIn d 0) in
+        let tail = secondOf (blockIn d 0) in
+        sym (highest d key head tail x .0 (get-answers d key x q)) ∙ highest d key head tail v .0 g
+
+-- ---- a refused call leaves what it was lent
+
+abbrev Leaves : List ℕ → List ℕ → Left → Type 0
+Leaves s d l = (number place : ℕ) → l .outcome ≡ refused number place → (l .state ≡ s) × (l .disk ≡ d)
+
+module _ (s d : List ℕ) where
+  refusing : (number place : ℕ) → Leaves s d (left (refused number place) s d)
+  refusing number place n p e = (refl, refl)
+
+  answering : (a : ℕ) (s′ d′ : List ℕ) → Leaves s d (left (answer a) s′ d′)
+  answering a s′ d′ n p e = absurd (let z : _≡_ {A = ℕ} 0 1 = cc in omega arith)
+
+  choosing : (b : Bool) (x y : Left) → Leaves s d x → Leaves s d y → Leaves s d (cond b x y)
+  choosing true x y p q = p
+  choosing false x y p q = q
+
+  open-leaves : (r : Outcome File) → Leaves s d (openWith r s d)
+  unfolding openWith
+  open-leaves (refused number place) = refusing number place
+  open-leaves (answer g) = choosing (ltb 0 (length (g .tests))) _ _ (refusing 22 0) (choosing (cyclic (g .rules)) _ _ (refusing 8 0) (answering 0 _ d))
+
+  hand-leaves : (w : Write) → Leaves s d (handInOf w s d)
+  unfolding handInOf
+  hand-leaves w =
+      choosing (not (eqb (length s) stateSize)) _ _ (refusing 14 0)
+      (choosing (not (sound s)) _ _ (refusing 15 0)
+      (choosing (leb 64 (acceptedCount s)) _ _ (refusing 16 0)
+      (choosing (late (rulesIn s) (writesIn s) (storedIn s) w) _ _ (refusing 17 0)
+      (choosing (needsRing (rulesIn s) (writesIn s ++ (w ∷ []))) _ _ (refusing 18 0) (answering _ _ d)))))
+
+  checked-leaves : (call : List ℕ → List ℕ → Left) → Leaves s d (call s d) → Leaves s d (checked call s d)
+  unfolding checked
+  checked-leaves call h =
+      choosing (not (eqb (length s) stateSize)) _ _ (refusing 14 0)
+      (choosing (not (eqb (length d) 1024)) _ _ (refusing 14 0) (choosing (not (sound s)) _ _ (refusing 15 0) h))
+
+  storing-leaves : (k : ℕ) → Leaves s d (storing k s d)
+  unfolding storing
+  storing-leaves zero = answering 0 s d
+  storing-leaves (suc i) = answering (suc i) _ _
+
+  step-leaves : Leaves s d (stepOf s d)
+  unfolding stepOf
+  step-leaves = checked-leaves stepped (unfold stepped in storing-leaves (ready (rulesIn s) (writesIn s) (storedIn s)))
+
+  drain-leaves : Leaves s d (drainOf s d)
+  unfolding drainOf
+  drain-leaves = checked-leaves drained (unfold drained in answering _ _ _)
+
+pub called-leaves : (c : Call) (h : Held) → Leaves (lentTo (stateLent c) (h .state)) (lentTo (diskLent c) (h .disk)) (called c h)
+unfolding called
+called-leaves (opening file s) h =
+    unfold openOf in choosing _ _ (eqb (length (lentTo s (h .state))) stateSize) _ _ (open-leaves _ _ (readOf file)) (refusing _ _ 14 0)
+called-leaves (handIn w s) h = hand-leaves _ _ w
+called-leaves (step s d) h = step-leaves _ _
+called-leaves (drain s d) h = drain-leaves _ _
+called-leaves (get key d) h = λ n p e. (refl, refl)
+
+-- ---- the openings that are refused
+
+pub refused-openings : RefusedOpenings
+unfolding Listed OpensNone openWith isRefused
+refused-openings file mine disk s size = (
+  (λ l. ⊎-elim
+      (λ w. by-length w)
+      (λ n. right n ∙ none (readOf file) (⊎-elim (λ w. absurd (n w)) (λ x. x) l))
+      (decide-length (opening file s))),
+  λ e. ⊎-elim (λ w. inl w) (λ n. inr (some (readOf file) refl (sym (right n) ∙ e))) (decide-length (opening file s)),
+)
+  where
+    by-length : WrongLength (opening file s) → isRefused (openOf file (lentTo s mine) disk .outcome) ≡ true
+    by-length w =
+        ap (λ (l : Left). isRefused (l .outcome)) (open-length file (lentTo s mine) disk (⊎-elim (λ v. wrong-lent stateSize s mine v) (λ v. absurd v) w))
+
+    right : (WrongLength (opening file s) → ⊥) → isRefused (openOf file (lentTo s mine) disk .outcome) ≡ isRefused (openWith (readOf file) (lentTo s mine) disk .outcome)
+    right n = ap (λ (l : Left). isRefused (l .outcome)) (open-read file (lentTo s mine) disk (right-length stateSize s mine size (λ w. n (inl w))))
+
+    cases : (a b : Bool) (s′ : List ℕ) → isRefused (cond a (left (refused 22 0) (lentTo s mine) disk) (cond b (left (refused 8 0) (lentTo s mine) disk) (left (answer 0) s′ disk)) .outcome) ≡ (a || b)
+    cases true b s′ = refl
+    cases false true s′ = refl
+    cases false false s′ = refl
+
+    none : (r : Outcome File) → OpensNone r → isRefused (openWith r (lentTo s mine) disk .outcome) ≡ true
+    none (refused number place) o = refl
+    none (answer g) o =
+        cases (ltb 0 (length (g .tests))) (cyclic (g .rules)) (opened (g .rules))
+        ∙ ⊎-elim (λ h. or-left (ltb 0 (length (g .tests))) (cyclic (g .rules)) (lt-ltb 0 (length (g .tests)) h)) (λ c. or-right (ltb 0 (length (g .tests))) (cyclic (g .rules)) (true-cyclic (g .rules) c)) o
+
+    some : (r : Outcome File) → readOf file ≡ r → isRefused (openWith r (lentTo s mine) disk .outcome) ≡ true → OpensNone r
+    some (refused number place) q e = tt
+    some (answer g) q e = ⊎-elim
+        (λ h. inl (ltb-true 0 (length (g .tests)) h))
+        (λ c. inr (cyclic-true (g .rules) (holding-limits file g q .0 .known) c))
+        (or-cases (ltb 0 (length (g .tests))) (cyclic (g .rules)) (sym (cases (ltb 0 (length (g .tests))) (cyclic (g .rules)) (opened (g .rules))) ∙ e))
+
+-- ---- hand-in's five values
+
+pub widths : Widths
+unfolding block
+widths address name epoch first second a n e f s = record { address = a; name = n; epoch = e; block = omega arith }
+
+-- ---- what a get gives
+
+pub get-coded : GetCoded
+unfolding getAnswer
+get-coded disk key = go (getOf disk key)
+  where
+    go : (o : Outcome (Option ℕ)) → coded (valued o) ≡ getCode o
+    go (answer v) = unfold valued coded getCode in refl
+    go (refused number place) = unfold valued coded getCode in refl
 
 -- ---- openings and hand-ins take no disk
 

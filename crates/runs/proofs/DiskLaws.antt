@@ -2,21 +2,21 @@
 -- write behind it has its address. And the disk of bytes follows the disk of blocks.
 use mathlib.Core.Path.{_≡_, refl, sym, ap, subst, subst₂, _∙_}
 use mathlib.Core.Logic.{_≢_, _⊎_, inl, inr, ⊎-elim}
-use mathlib.Core.Bool.{Bool, true, false, cond, not, _&&_, false≢true}
-use mathlib.Core.List.{List, [], _∷_, _++_, map}
-use Prim.Native.Nat.{ℕ, zero, suc, _+_, _-_, _*_, _/_, _%_, _^_, _≤_, _<_}
+use mathlib.Core.Bool.{Bool, true, false, cond, false≢true}
+use mathlib.Core.List.{List, [], _∷_, _++_}
+use Prim.Native.Nat.{ℕ, zero, suc, _+_, _*_, _/_, _%_, _^_, _≤_, _<_}
 use native.Mathlib.Decide.{ℕ-discrete, decLt}
 use native.Mathlib.Nat.{div-one, lt-of-lt-of-le}
 use lib.Pow.{pow-mono}
 use native.Mathlib.Omega.{arith}
-use lib.Dec.{eqb, ltb}
+use lib.Dec.{eqb}
 use lib.ListN.{length, getD, set, length-set, length-append, List·getD-append, List·getD-map}
-use lib.Seq.{sets, length-sets, set-comm, getD-set-same, getD-set-other, ext-getD}
+use lib.Seq.{sets, set-comm, getD-set-same, getD-set-other, ext-getD}
 use borrow.Author.Tests.{lt-ltb, le-ltb}
-use Rattle.relation.specs.Bits.{bit, maskOf}
+use Rattle.relation.specs.Bits.{bit}
 use Rattle.relation.specs.Lists.{tabulate}
 use Rattle.relation.proofs.BitLaws.{bit-suc, bit-mask, mask-below}
-use Rattle.relation.proofs.ListLaws.{and-left, and-right, and-intro, length-tabulate, getD-tabulate}
+use Rattle.relation.proofs.ListLaws.{length-tabulate, getD-tabulate}
 use Rattle.model.specs.declared.Write.{Write}
 use Rattle.model.specs.declared.Rule.{Rule}
 use Rattle.model.specs.Rules.{DependsOn, labelOf}
@@ -26,11 +26,10 @@ use Rattle.model.specs.Schedule.{noWrite, writeAt, labelAt, store, run, Valid}
 use Rattle.format.specs.Bytes.{byte, half, word, bytes4, blockIn, blocksOf}
 use Rattle.format.specs.Encode.{WriteFits}
 use Rattle.encoding.proofs.PartLaws.{number}
-use Rattle.cache.specs.Needs.{Needs}
 use Rattle.cache.specs.State.{storedOn}
 use Rattle.soundlaws.proofs.GeneralLaws.{sets-out, sets-in}
 use Rattle.soundlaws.proofs.KeepLaws.{length-stored}
-use Rattle.runs.specs.Book.{Entry, entry, Book, accepted, flagAt, flagging, applied, scheduleOf, Begins}
+use Rattle.runs.specs.Book.{entry, Book, accepted, flagAt, flagging, applied, scheduleOf, Begins}
 use Rattle.runs.specs.Theorem.{NoneBeyond}
 use Rattle.runs.proofs.BookLaws.{Fine, length-accepted, flag-below, needs-by-address, needs-by-rule}
 

@@ -1,28 +1,28 @@
 -- The bytes of a state that holds given rules and a given book, and what hand-in and step make of them: again such bytes.
 use mathlib.Core.Path.{_≡_, refl, sym, ap, _∙_}
-use mathlib.Core.Logic.{_≢_, _⊎_, ⊎-elim}
-use mathlib.Core.Bool.{Bool, true, false, cond, not}
-use mathlib.Core.List.{List, [], _∷_, _++_, append-assoc, append-nil, map}
+use mathlib.Core.Logic.{_≢_}
+use mathlib.Core.Bool.{Bool, true, false, cond}
+use mathlib.Core.List.{List, [], _∷_, _++_, append-assoc, append-nil}
 use Prim.Native.Nat.{ℕ, zero, suc, _+_, _-_, _*_, _≤_, _<_}
 use native.Mathlib.Nat.{zero-add}
 use native.Mathlib.Numerals.{add-one}
 use native.Mathlib.Omega.{arith}
 use lib.Dec.{eqb}
 use lib.ListN.{length, getD, take, drop, set, replicate, length-append, length-set, length-replicate, replicate-append-replicate, length-map, List·getD-append, List·getD-map}
-use lib.Seq.{sets, sets-eq, ext-getD, drop-append-add, getD-append-add, drop-length, getD-at, getD-set-same, getD-set-other, map-set-same}
+use lib.Seq.{sets, sets-eq, drop-append-add, getD-append-add, getD-at, getD-set-same, getD-set-other, map-set-same}
 use Rattle.relation.specs.Lists.{tabulate}
-use Rattle.relation.proofs.ListLaws.{length-tabulate, getD-tabulate, tabulate-ext, below-suc}
+use Rattle.relation.proofs.ListLaws.{tabulate-ext}
 use Rattle.model.specs.declared.Write.{Write}
 use Rattle.model.specs.declared.Rule.{Rule}
 use Rattle.model.specs.Cyclic.{noRule}
-use Rattle.model.specs.Schedule.{noWrite, writeAt}
+use Rattle.model.specs.Schedule.{noWrite}
 use Rattle.model.specs.Test.{countBelow}
 use Rattle.model.proofs.TestLaws.{count-ext}
-use Rattle.format.specs.Bytes.{byte, bytes4, writeBytes, ruleBytes}
+use Rattle.format.specs.Bytes.{byte, writeBytes, ruleBytes}
 use Rattle.format.specs.File.{ruleOf, writeOf}
 use Rattle.format.specs.Encode.{WriteFits}
 use Rattle.encoding.proofs.PartLaws.{write-back}
-use Rattle.cache.specs.State.{ruleBase, writeBase, ruleIn, writeIn, rulesIn, writesIn, storedIn, flagIn, ruleCount, acceptedCount, storedCount, rulesBytes, opened, entryBytes, handed, marked, stateSize}
+use Rattle.cache.specs.State.{ruleBase, writeBase, ruleIn, writeIn, rulesIn, writesIn, storedIn, flagIn, ruleCount, acceptedCount, storedCount, rulesBytes, opened, entryBytes, handed, marked}
 use Rattle.soundlaws.proofs.GeneralLaws.{tabulate-getD, count-one-more}
 use Rattle.runs.specs.Book.{Entry, entry, Book, accepted, flagAt, appended, flagging}
 

@@ -1,34 +1,25 @@
 -- Calls on the bytes of a book: what they give is told by the book, and what they leave is the bytes and the disk of the next book.
-use mathlib.Core.Path.{_≡_, refl, sym, ap, subst, _∙_}
-use mathlib.Core.Logic.{_≢_, _⊎_, inl, inr, ⊎-elim}
-use mathlib.Core.Bool.{Bool, true, false, cond, not, _&&_, _||_, false≢true, true≢false}
-use mathlib.Core.List.{List, [], _∷_, _++_}
-use Prim.Native.Nat.{ℕ, zero, suc, _+_, _-_, _≤_, _<_}
-use native.Mathlib.Decide.{ℕ-discrete}
-use native.Mathlib.Nat.{zero-add}
+use mathlib.Core.Path.{_≡_, refl, ap, subst, _∙_}
+use mathlib.Core.Bool.{Bool, not, _&&_, _||_}
+use mathlib.Core.List.{List}
+use Prim.Native.Nat.{ℕ, zero, suc, _+_, _≤_, _<_}
 use native.Mathlib.Omega.{arith}
-use lib.Dec.{eqb, leb}
 use lib.ListN.{length}
-use borrow.Author.Tests.{eq-eqb, leb-true, leb-false}
-use Rattle.relation.proofs.ListLaws.{allBelow-ext, anyBelow-ext, below-suc}
+use borrow.Author.Tests.{eq-eqb}
+use Rattle.relation.proofs.ListLaws.{allBelow-ext, anyBelow-ext}
 use Rattle.model.specs.declared.Write.{Write}
 use Rattle.model.specs.declared.Rule.{Rule}
-use Rattle.model.specs.Answer.{Outcome, answer, refused}
+use Rattle.model.specs.Answer.{answer}
 use Rattle.model.specs.Rules.{labelOf, dependsOn}
-use Rattle.model.specs.Schedule.{writeAt, labelAt}
-use Rattle.model.specs.Test.{countBelow}
-use Rattle.model.proofs.TestLaws.{count-none, none-count}
-use Rattle.format.specs.Encode.{WriteFits}
-use Rattle.cache.specs.Needs.{Needs, NeedsRing, Earliest, needs, needsRing, met, readyFrom, ready}
-use Rattle.cache.specs.State.{stateSize, rulesIn, writesIn, storedIn, acceptedCount, storedCount, storedOn, marked, handed}
-use Rattle.cache.specs.Sound.{Sound, sound}
-use Rattle.cache.specs.Calls.{Held, Left, left, Late, late, handInOf, storing, checked, stepped as stepOn, stepOf, waiting, stepsOf, drained as drainOn, drainOf}
-use Rattle.cache.proofs.NeedsLaws.{late-true, true-late, needsRing-true, true-needsRing}
+use Rattle.model.specs.Schedule.{labelAt}
+use Rattle.cache.specs.Needs.{needs, met, readyFrom, ready}
+use Rattle.cache.specs.State.{stateSize, rulesIn, writesIn, storedIn}
+use Rattle.cache.specs.Calls.{Held, Left, left, late, storing, checked, stepped as stepOn, stepOf, waiting, stepsOf, drained as drainOn, drainOf}
 use Rattle.soundness.proofs.SoundLaws.{true-sound}
 use Rattle.soundlaws.proofs.GeneralLaws.{count-split}
 use Rattle.soundlaws.proofs.ReadyLaws.{ready-earliest}
-use Rattle.runs.specs.Book.{Book, accepted, flagAt, waitingIn, appended, flagging, stepped, steppedBy, applied}
-use Rattle.runs.proofs.LayoutLaws.{stateOf, flagCount, length-state, state-rules, state-writes, state-accepted, state-stored, state-flags, handed-state, marked-state, length-flagging, flag-here, flag-else}
+use Rattle.runs.specs.Book.{Book, accepted, flagAt, waitingIn, flagging, stepEntered, stepsEntered, applied}
+use Rattle.runs.proofs.LayoutLaws.{stateOf, flagCount, length-state, state-rules, state-writes, state-accepted, state-stored, state-flags, marked-state}
 use Rattle.runs.proofs.BookLaws.{Fine, length-accepted, fine-stepped, fine-sound}
 use Rattle.runs.proofs.DiskLaws.{applied-flagging, length-applied}
 
@@ -78,23 +69,23 @@ module _ (rules : List Rule) (disk : List ℕ) (size : length disk ≡ 1024) whe
       rw (marked-state rules b i (fine .rules-most) h (w .waits), state-writes rules b (fine .rules-most) (fine .fits), applied-flagging rules b disk i fine h (w .waits))
 
   pub step-book : (b : Book) → Fine rules b
-      → stepOf (stateOf rules b) (applied b disk) ≡ left (answer (ready rules (accepted b) (flagAt b))) (stateOf rules (stepped rules b)) (applied (stepped rules b) disk)
-  unfolding stepOf stepOn stepped
+      → stepOf (stateOf rules b) (applied b disk) ≡ left (answer (ready rules (accepted b) (flagAt b))) (stateOf rules (stepEntered rules b)) (applied (stepEntered rules b) disk)
+  unfolding stepOf stepOn stepEntered
   step-book b fine = carried stepOn b fine ∙ rw (ready-state b fine) (storing-book b fine (ready rules (accepted b) (flagAt b)) refl)
 
-  pub fine-steps : (n : ℕ) (b : Book) → Fine rules b → Fine rules (steppedBy rules n b)
-  unfolding steppedBy
+  pub fine-steps : (n : ℕ) (b : Book) → Fine rules b → Fine rules (stepsEntered rules n b)
+  unfolding stepsEntered
   fine-steps zero b fine = fine
-  fine-steps (suc n) b fine = fine-steps n (stepped rules b) (fine-stepped rules b fine)
+  fine-steps (suc n) b fine = fine-steps n (stepEntered rules b) (fine-stepped rules b fine)
 
   -- the bytes and the disk of a book
   abbrev heldOf : Book → Held
   heldOf b = record { state = stateOf rules b; disk = applied b disk }
 
-  pub steps-book : (n : ℕ) (b : Book) → Fine rules b → stepsOf n (heldOf b) ≡ heldOf (steppedBy rules n b)
-  unfolding stepsOf steppedBy
+  pub steps-book : (n : ℕ) (b : Book) → Fine rules b → stepsOf n (heldOf b) ≡ heldOf (stepsEntered rules n b)
+  unfolding stepsOf stepsEntered
   steps-book zero b fine = refl
-  steps-book (suc n) b fine = rw (step-book b fine) (steps-book n (stepped rules b) (fine-stepped rules b fine))
+  steps-book (suc n) b fine = rw (step-book b fine) (steps-book n (stepEntered rules b) (fine-stepped rules b fine))
 
 -- ---- how many wait
 
@@ -106,7 +97,7 @@ waiting-book rules b fine =
 
 pub drain-book : (rules : List Rule) (disk : List ℕ) → length disk ≡ 1024 → (b : Book) → Fine rules b
     → drainOf (stateOf rules b) (applied b disk)
-    ≡ left (answer (waitingIn b)) (stateOf rules (steppedBy rules (waitingIn b) b)) (applied (steppedBy rules (waitingIn b) b) disk)
+    ≡ left (answer (waitingIn b)) (stateOf rules (stepsEntered rules (waitingIn b) b)) (applied (stepsEntered rules (waitingIn b) b) disk)
 unfolding drainOf drainOn
 drain-book rules disk size b fine =
     carried rules disk size drainOn b fine

@@ -22,10 +22,11 @@ entry w f = record { write = w; flag = f }
 
 -- what the book is told of a call
 pub data Event : Type 0 where
-  opened : Event
+  openingMade : Event
   handedIn : Write → Event
   stepMade : Event
   drainMade : Event
+  getMade : Event
 
 -- *book*, the history of a run
 abbrev pub Book : Type 0
@@ -51,13 +52,13 @@ flagging zero b = b
 flagging (suc i) b = set b i (entry (getD b i (entry noWrite false) .write) true)
 
 -- a step flags the earliest unflagged write whose needs are all flagged. If there is none, nothing changes
-unfoldable pub stepped : List Rule → Book → Book
-stepped rules b = flagging (ready rules (accepted b) (flagAt b)) b
+unfoldable pub stepEntered : List Rule → Book → Book
+stepEntered rules b = flagging (ready rules (accepted b) (flagAt b)) b
 
 -- n steps
-unfoldable pub steppedBy : List Rule → ℕ → Book → Book
-steppedBy rules zero b = b
-steppedBy rules (suc n) b = steppedBy rules n (stepped rules b)
+unfoldable pub stepsEntered : List Rule → ℕ → Book → Book
+stepsEntered rules zero b = b
+stepsEntered rules (suc n) b = stepsEntered rules n (stepEntered rules b)
 
 -- the stored writes applied to a disk of bytes in the order they came
 unfoldable pub applied : Book → List ℕ → List ℕ
@@ -72,12 +73,13 @@ scheduleOf b = maskOf (flagAt b) (length b)
 unfoldable pub Begins : List Write → List Write → Type 0
 Begins ws trace = (rest : List Write) × (trace ≡ ws ++ rest)
 
--- the book after a call that was not refused. (An opening that is not refused begins another run)
+-- the book after a call that was not refused. A get changes nothing. (An opening that is not refused begins another run)
 unfoldable pub entered : List Rule → Event → Book → Book
-entered rules opened b = b
+entered rules openingMade b = b
 entered rules (handedIn w) b = appended b w
-entered rules stepMade b = stepped rules b
-entered rules drainMade b = steppedBy rules (waitingIn b) b
+entered rules stepMade b = stepEntered rules b
+entered rules drainMade b = stepsEntered rules (waitingIn b) b
+entered rules getMade b = b
 
 -- the book is fed the opened rules, the call and whether it was refused. A refused call changes nothing
 unfoldable pub noted : List Rule → Event → Bool → Book → Book

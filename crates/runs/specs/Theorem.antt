@@ -1,14 +1,14 @@
 -- The claim about whole runs: demand 3.
 use Prim.Native.Nat.{ℕ, suc, _≤_, _<_}
 use mathlib.Core.Path.{_≡_}
-use mathlib.Core.Logic.{_⊎_}
+use mathlib.Core.Logic.{_↔_}
 use mathlib.Core.Bool.{true}
 use mathlib.Core.List.{List, [], _∷_, _++_, List·Memᴰ}
+use mathlib.Core.Option.{Option}
 use lib.ListN.{length}
-use Rattle.relation.specs.Lists.{tabulate}
 use Rattle.model.specs.declared.Write.{Write}
 use Rattle.model.specs.declared.Rule.{Rule}
-use Rattle.model.specs.Answer.{Outcome, answer, refused}
+use Rattle.model.specs.Answer.{Outcome, answer, refused, coded}
 use Rattle.model.specs.Rules.{DependsOn}
 use Rattle.model.specs.Cyclic.{Cyclic}
 use Rattle.model.specs.Schedule.{labelAt, Valid}
@@ -16,12 +16,14 @@ use Rattle.model.specs.Check.{Consistent}
 use Rattle.model.specs.Test.{Test, File, initialDisk, TestHolds}
 use Rattle.format.specs.Bytes.{blocksOf}
 use Rattle.format.specs.File.{readOf}
+use Rattle.format.specs.Encode.{WriteFits}
+use Rattle.log.specs.Get.{LogGets, PastDisk, getOf, valueCode, getAnswer}
 use Rattle.cache.specs.Needs.{Earliest, NeedsRing}
 use Rattle.cache.specs.State.{stateSize}
 use Rattle.cache.specs.Sound.{Sound}
-use Rattle.cache.specs.Calls.{left, Late, openOf, handInOf}
+use Rattle.cache.specs.Calls.{left, Late, openOf, handInOf, given}
 use Rattle.runs.specs.Book.{Book, accepted, flagAt, flagging, waitingIn, applied, scheduleOf, Begins}
-use Rattle.runs.specs.Run.{Call, opening, handIn, step, drain, Lent, own, Wrong, Unsound, Listed, called, next, steps, within, Moment, moments}
+use Rattle.runs.specs.Run.{Call, opening, handIn, step, drain, get, Lent, own, lentTo, WrongLength, UnsoundLent, Listed, valued, called, isRefused, next, steps, Moment, moments}
 
 -- ---- what is claimed of every moment
 
@@ -37,57 +39,47 @@ NoneBeyond rules b trace =
 pub record Safe (rules : List Rule) (disk : List ℕ) (m : Moment) : Type 0 where
   pub sound : Sound (m .held .state)
   pub size : length (m .held .disk) ≡ 1024
-  pub left : m .held .disk ≡ applied (m .book) disk
+  pub equals : m .held .disk ≡ applied (m .book) disk
   pub valid : Valid rules (accepted (m .book)) (scheduleOf (m .book))
   pub consistent : (t : Test) → blocksOf disk ≡ initialDisk t → Begins (accepted (m .book)) (t .main) → TestHolds rules t
       → NoneBeyond rules (m .book) (t .main) → Consistent (t .checks) (blocksOf (m .held .disk))
 
 -- ---- what is claimed of every call
 
--- a buffer of another length is lent
-abbrev pub WrongLength : Call → Type 0
-WrongLength (opening file s) = Wrong stateSize s
-WrongLength (handIn w s) = Wrong stateSize s
-WrongLength (step s d) = Wrong stateSize s ⊎ Wrong 1024 d
-WrongLength (drain s d) = Wrong stateSize s ⊎ Wrong 1024 d
-
--- an unsound state is lent
-abbrev pub UnsoundLent : Call → Type 0
-UnsoundLent (opening file s) = ⊥
-UnsoundLent (handIn w s) = Unsound s
-UnsoundLent (step s d) = Unsound s
-UnsoundLent (drain s d) = Unsound s
-
--- what a call of the list gives, by the book, the buffers it is lent and an opening's file: the refusals of document 01's list, in their
--- order, or the answer
-pub data Gives (rules : List Rule) (b : Book) : Call → Outcome ℕ → Type 0 where
-  wrong-length : {c : Call} → WrongLength c → Gives rules b c (refused 14 0)
-  unsound : {c : Call} → (WrongLength c → ⊥) → UnsoundLent c → Gives rules b c (refused 15 0)
-  full : {w : Write} → 64 ≤ length b → Gives rules b (handIn w own) (refused 16 0)
-  late : {w : Write} → length b < 64 → Late rules (accepted b) (flagAt b) w → Gives rules b (handIn w own) (refused 17 0)
+-- what a call of the list gives, by the opened rules, the disk at opening, the book, the buffers it is lent, a hand-in's write, an opening's file
+-- and a get's key: the refusals of document 01's list, in their order, or the answer
+pub data Gives (rules : List Rule) (disk : List ℕ) (b : Book) : Call → Outcome ℕ → Type 0 where
+  wrong-length : {c : Call} → WrongLength c → Gives rules disk b c (refused 14 0)
+  unsound : {c : Call} → (WrongLength c → ⊥) → UnsoundLent c → Gives rules disk b c (refused 15 0)
+  full : {w : Write} → 64 ≤ length b → Gives rules disk b (handIn w own) (refused 16 0)
+  too-late : {w : Write} → length b < 64 → Late rules (accepted b) (flagAt b) w → Gives rules disk b (handIn w own) (refused 17 0)
   ring : {w : Write} → length b < 64 → (Late rules (accepted b) (flagAt b) w → ⊥) → NeedsRing rules (accepted b ++ (w ∷ []))
-      → Gives rules b (handIn w own) (refused 18 0)
+      → Gives rules disk b (handIn w own) (refused 18 0)
   taken : {w : Write} → length b < 64 → (Late rules (accepted b) (flagAt b) w → ⊥) → (NeedsRing rules (accepted b ++ (w ∷ [])) → ⊥)
-      → Gives rules b (handIn w own) (answer (suc (length b)))
-  stored : {i : ℕ} → Earliest rules (accepted b) (flagAt b) i → Gives rules b (step own own) (answer (suc i))
-  idle : ((i : ℕ) → i < length b → flagAt b i ≡ true) → Gives rules b (step own own) (answer 0)
-  drained : Gives rules b (drain own own) (answer (waitingIn b))
-  unread : {file : List ℕ} {s : Lent} {number place : ℕ} → (Wrong stateSize s → ⊥) → readOf file ≡ refused number place
-      → Gives rules b (opening file s) (refused number place)
-  with-tests : {file : List ℕ} {s : Lent} {f : File} → (Wrong stateSize s → ⊥) → readOf file ≡ answer f → 0 < length (f .tests)
-      → Gives rules b (opening file s) (refused 22 0)
-  with-cycle : {file : List ℕ} {s : Lent} {f : File} → (Wrong stateSize s → ⊥) → readOf file ≡ answer f → length (f .tests) ≡ 0 → Cyclic (f .rules)
-      → Gives rules b (opening file s) (refused 8 0)
+      → Gives rules disk b (handIn w own) (answer (suc (length b)))
+  stored : {i : ℕ} → Earliest rules (accepted b) (flagAt b) i → Gives rules disk b (step own own) (answer (suc i))
+  idle : ((i : ℕ) → i < length b → flagAt b i ≡ true) → Gives rules disk b (step own own) (answer 0)
+  emptied : Gives rules disk b (drain own own) (answer (waitingIn b))
+  unread : {file : List ℕ} {s : Lent} {number place : ℕ} → (WrongLength (opening file s) → ⊥) → readOf file ≡ refused number place
+      → Gives rules disk b (opening file s) (refused number place)
+  with-tests : {file : List ℕ} {s : Lent} {f : File} → (WrongLength (opening file s) → ⊥) → readOf file ≡ answer f → 0 < length (f .tests)
+      → Gives rules disk b (opening file s) (refused 22 0)
+  with-cycle : {file : List ℕ} {s : Lent} {f : File} → (WrongLength (opening file s) → ⊥) → readOf file ≡ answer f → length (f .tests) ≡ 0
+      → Cyclic (f .rules) → Gives rules disk b (opening file s) (refused 8 0)
+  damaged : {key : ℕ} {d : Lent} → (WrongLength (get key d) → ⊥) → PastDisk (lentTo d (applied b disk))
+      → Gives rules disk b (get key d) (refused 21 0)
+  got : {key : ℕ} {d : Lent} (v : Option ℕ) → (WrongLength (get key d) → ⊥) → (PastDisk (lentTo d (applied b disk)) → ⊥)
+      → LogGets (lentTo d (applied b disk)) key v → Gives rules disk b (get key d) (answer (valueCode v))
 
--- a call gives one of these, and no other of them applies; if refused it changes nothing; a step stores the one write whose place it answers, none if it answers 0;
--- a drain leaves what as many steps as writes wait leave, its cuts are those between these steps, and after it nothing waits
-pub record Answers (rules : List Rule) (c : Call) (m : Moment) : Type 0 where
-  pub gives : Gives rules (m .book) c (called c (m .held) .outcome)
-  pub only : (o : Outcome ℕ) → Gives rules (m .book) c o → o ≡ called c (m .held) .outcome
+-- a call gives one of these, and no other of them applies; if refused it changes nothing, and neither does a get; a step stores the one write
+-- whose place it answers, none if it answers 0; a drain leaves what as many steps as writes wait leave, and after it nothing waits
+pub record Answers (rules : List Rule) (disk : List ℕ) (c : Call) (m : Moment) : Type 0 where
+  pub gives : Gives rules disk (m .book) c (called c (m .held) .outcome)
+  pub only : (o : Outcome ℕ) → Gives rules disk (m .book) c o → o ≡ called c (m .held) .outcome
   pub nothing : (number place : ℕ) → called c (m .held) .outcome ≡ refused number place → next rules c m ≡ m
+  pub unchanged : (key : ℕ) (d : Lent) → c ≡ get key d → next rules c m ≡ m
   pub one : (i : ℕ) → c ≡ step own own → called c (m .held) .outcome ≡ answer i → next rules c m .book ≡ flagging i (m .book)
   pub each : c ≡ drain own own → next rules c m ≡ steps rules (waitingIn (m .book)) m
-  pub between : c ≡ drain own own → within rules c m ≡ tabulate (λ n. steps rules n m) (waitingIn (m .book))
   pub all : c ≡ drain own own → (i : ℕ) → i < length (m .book) → flagAt (next rules c m .book) i ≡ true
 
 -- call c is made at moment m of a run: one of its list, or a step of a drain
@@ -110,7 +102,21 @@ Demand3 =
     → readOf file ≡ answer f → openOf file state disk .outcome ≡ answer 0 → length disk ≡ 1024
     → ((c : Call) → List·Memᴰ c calls → Listed c)
     → ((m : Moment) → List·Memᴰ m (moments (f .rules) calls (begun (openOf file state disk .state) disk)) → Safe (f .rules) disk m)
-    × ((c : Call) (m : Moment) → Made (f .rules) calls (begun (openOf file state disk .state) disk) c m → Answers (f .rules) c m)
+    × ((c : Call) (m : Moment) → Made (f .rules) calls (begun (openOf file state disk .state) disk) c m → Answers (f .rules) disk c m)
+
+-- ---- beside the claim
+
+-- the openings that are listed are exactly those that are refused
+abbrev pub RefusedOpenings : Type 0
+RefusedOpenings =
+    (file mine disk : List ℕ) (s : Lent) → length mine ≡ stateSize
+    → Listed (opening file s) ↔ (isRefused (openOf file (lentTo s mine) disk .outcome) ≡ true)
+
+-- the write of hand-in's five values, which in C are numbers of 8, 8, 32, 16 and 16 bits, is one of the right widths
+abbrev pub Widths : Type 0
+Widths =
+    (address name epoch first second : ℕ) → address < 256 → name < 256 → epoch < 4294967296 → first < 65536 → second < 65536
+    → WriteFits (given address name epoch first second)
 
 -- openings and hand-ins take no disk: whatever disk stands beside them, they give the same, leave the same state, and leave that disk.
 -- (The exported routines' contracts cite them beside [])
@@ -119,3 +125,7 @@ Diskless =
     (file state disk : List ℕ) (w : Write)
     → (openOf file state disk ≡ left (openOf file state [] .outcome) (openOf file state [] .state) disk)
     × (handInOf w state disk ≡ left (handInOf w state [] .outcome) (handInOf w state [] .state) disk)
+
+-- what a get gives is, in one number, what the exported routine's contract says
+abbrev pub GetCoded : Type 0
+GetCoded = (disk : List ℕ) (key : ℕ) → coded (valued (getOf disk key)) ≡ getAnswer disk key

@@ -1,17 +1,17 @@
 -- A table of dependency masks decides validity, and the schedule of all flags stores every write.
 use mathlib.Core.Path.{_≡_, refl, sym, ap, ap₂, _∙_}
-use mathlib.Core.Bool.{Bool, true, false, not, and-true, _&&_, _||_}
+use mathlib.Core.Bool.{Bool, not, and-true, _&&_, _||_}
 use mathlib.Core.List.{List, [], _∷_}
 use Prim.Native.Nat.{ℕ, zero, suc, _+_, _-_, _*_, _/_, _%_, _^_, _≤_, _<_}
 use native.Mathlib.Nat.{pow-suc, mod-lt, zero-add, lt-of-lt-of-le}
 use native.Mathlib.Omega.{arith}
-use lib.Dec.{eqb, lit<}
+use lib.Dec.{lit<}
 use lib.ListN.{length, getD, take}
 use lib.Pow.{pow-pos, pow-mono}
 use lib.Seq.{getD-take}
 use Rattle.relation.specs.Bits.{bit, maskOf}
-use Rattle.relation.specs.Lists.{allBelow, tabulate}
-use Rattle.relation.specs.Union.{partOf, union, rowsOn, Unites}
+use Rattle.relation.specs.Lists.{allBelow}
+use Rattle.relation.specs.Union.{partOf, rowsOn, Unites}
 use Rattle.relation.proofs.BitLaws.{bit-mod, bit-shift}
 use Rattle.relation.proofs.ListLaws.{allBelow-ext, allBelow-intro, allBelow-split, length-tabulate, getD-tabulate}
 use Rattle.relation.proofs.MaskLaws.{mask-part}
@@ -19,7 +19,7 @@ use Rattle.relation.proofs.UnionLaws.{part-or, union-part, bit-past}
 use Rattle.model.specs.declared.Rule.{Rule}
 use Rattle.model.specs.declared.Write.{Write}
 use Rattle.model.specs.Rules.{dependsOn, labelOf}
-use Rattle.model.specs.Schedule.{noWrite, labelAt, flagged, store, run, written, valid}
+use Rattle.model.specs.Schedule.{noWrite, labelAt, store, run, written, valid}
 use Rattle.format.specs.Scan.{writeField, writesAt}
 use Rattle.schedules.specs.Rows.{rowOf, rowsFrom, needed, validBy, Validates}
 

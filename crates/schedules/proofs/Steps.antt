@@ -1,11 +1,11 @@
 -- The steps of the code, in its terms.
-use mathlib.Core.Path.{_≡_, refl, sym, ap, _∙_}
+use mathlib.Core.Path.{_≡_, refl, sym, _∙_}
 use mathlib.Core.Bool.{Bool, true, false, cond}
 use mathlib.Core.List.{List}
-use Prim.Native.Nat.{ℕ, zero, suc, _+_, _*_, _/_, _%_, _≤_, _<_}
+use Prim.Native.Nat.{ℕ, _+_, _*_, _/_, _≤_, _<_}
 use native.Mathlib.Numerals.{add-one}
 use native.Mathlib.Omega.{arith}
-use lib.Bits.{bitAnd, bitOr}
+use lib.Bits.{bitAnd, bitOr, and-mask, mask-lt}
 use lib.Dec.{eqb}
 use lib.ListN.{length, getD, take, set, replicate}
 use lib.Seq.{take-suc-set}
@@ -91,9 +91,17 @@ module _ (rules : List Rule) (s : List ℕ) (at n : ℕ) where
 
 -- ---- validity
 
-pub valid-is : (low high : List ℕ) (s : ℕ) → eqb (bitAnd (bitOr (getD low (s % 64) 0) (getD high (s / 64 % 64) 0)) s) (bitOr (getD low (s % 64) 0) (getD high (s / 64 % 64) 0)) ≡ validBy low high s
+-- six flags taken by a mask are an index of 64 entries
+pub six-below : (s : ℕ) → bitAnd s 63 < 64
+six-below s = mask-lt s 6
+
+pub six-fits : (s : ℕ) → bitAnd s 63 * 8 < 18446744073709551616
+six-fits s = let h = six-below s in omega arith
+
+pub valid-is : (low high : List ℕ) (s : ℕ)
+    → eqb (bitAnd (bitOr (getD low (bitAnd s 63) 0) (getD high (bitAnd (s / 64) 63) 0)) s) (bitOr (getD low (bitAnd s 63) 0) (getD high (bitAnd (s / 64) 63) 0)) ≡ validBy low high s
 unfolding validBy needed partOf
-valid-is low high s = refl
+valid-is low high s = rw (and-mask s 6, and-mask (s / 64) 6)
 
 -- ---- disks
 
@@ -101,4 +109,4 @@ pub initial-done : (s : List ℕ) (at n : ℕ) (t r : List ℕ) → n ≤ 64 →
 unfolding emptyDisk
 initial-done s at n t r h l e = initial-run s at n (replicate 256 0) r h (e ∙ loaded-run s at n t 18446744073709551615 (replicate 256 0) l)
 
-pub ruleset steps = (needs, length-mapped, answered-yes, answered-no, row-none, row-more, row-all, row-other, rules-none, rules-more, rules-all, rows-none, rows-more, rows-all, validates, valid-is, initial-done)
+pub ruleset steps = (needs, length-mapped, answered-yes, answered-no, row-none, row-more, row-all, row-other, rules-none, rules-more, rules-all, rows-none, rows-more, rows-all, validates, six-below, six-fits, valid-is, initial-done)

@@ -81,11 +81,12 @@ pub fn prepare(low: &mut [u64], high: &mut [u64], rules: Rules, file: &[u8], at:
     relation::unite(high, &rows, 6);
 }
 
-// Whether a schedule is valid: all that its flagged writes depend on is flagged.
+// Whether a schedule is valid: all that its flagged writes depend on is flagged. Its first six flags
+// and its next six are looked up.
 pub fn is_valid(low: &[u64; 64], high: &[u64; 64], s: u64) -> bool
     ensures { λ r. ⌜ r ≡ validBy (now (low .entry)) (now (high .entry)) s ⌝ }
 {
-    let needed = low[(s % 64) as usize] | high[(s / 64 % 64) as usize];
+    let needed = low[(s & 63) as usize] | high[((s >> 6) & 63) as usize];
     needed & s == needed
 }
 

@@ -23,7 +23,7 @@ use Rattle.cache.specs.State.{ruleIn, writeIn, rulesIn, writesIn, storedIn, rul
 use Rattle.cache.specs.Sound.{Sound, zeros, layout, sound}
 use Rattle.cache.specs.Calls.{drainOf}
 use Rattle.soundlaws.specs.Theorem.{SomeWaits, Step, Drain, HandIn}
-use Rattle.soundlaws.proofs.SoundTheorems.{decides, steps, drains, handsIn}
+use Rattle.soundlaws.proofs.SoundTheorems.{sound-decided, steps, drains, handsIn}
 
 -- the log's rules, and two of its log blocks
 abbrev rules : List Rule
@@ -41,7 +41,7 @@ unfolding state sound layout zeros known cyclic meets equalLeads has leads noRul
 computed = refl
 
 pub sound-state : Sound state
-sound-state = decides state .0 computed
+sound-state = sound-decided state .0 computed
 
 pub waits : SomeWaits state
 unfolding state storedIn

@@ -17,9 +17,9 @@ use Rattle.format.specs.Encode.{WriteFits}
 use Rattle.cache.specs.Needs.{NeedsRing, Earliest, needsRing, ready}
 use Rattle.cache.specs.State.{stateSize, acceptedCount, storedCount, rulesIn, writesIn, writeIn, storedIn, handed, marked, storedOn}
 use Rattle.cache.specs.Sound.{Sound, sound}
-use Rattle.cache.specs.Calls.{Left, left, Held, Late, late, handInOf, storing, checked, stepped, stepOf, waiting, stepsOf, drained, drainOf}
+use Rattle.cache.specs.Calls.{Left, left, Held, holding, Late, late, handInOf, storing, checked, stepped, stepOf, waiting, stepsOf, drained, drainOf}
 use Rattle.cache.proofs.NeedsLaws.{late-true, true-late, needsRing-true, true-needsRing}
-use Rattle.soundlaws.specs.Theorem.{Decides, Keeps, SomeWaits, AllStored, waitingCount, OneStored, Steps, held, Drains, HandsIn}
+use Rattle.soundlaws.specs.Theorem.{SoundDecided, Keeps, SomeWaits, AllStored, waitingCount, OneStored, Steps, Drains, HandsIn}
 use Rattle.contents.proofs.ContentSteps.{writes-length, write-at}
 use Rattle.soundness.proofs.SoundLaws.{sound-true, true-sound, stored-most}
 use Rattle.soundlaws.proofs.GeneralLaws.{count-split, count-some}
@@ -28,8 +28,8 @@ use Rattle.soundlaws.proofs.HandLaws.{rules-handed, writes-handed, stor
 use Rattle.soundlaws.proofs.RefusalLaws.{checked-length}
 use Rattle.soundlaws.proofs.KeepLaws.{rules-marked, writes-marked, acceptedCount-marked, storedCount-marked, stored-here, stored-else, mark-keeps, earliest-accepted, length-stepped, checked-sound, step-sound, steps-sound, sound-stepped}
 
-pub decides : Decides
-decides s = (sound-true s, true-sound s)
+pub sound-decided : SoundDecided
+sound-decided s = (sound-true s, true-sound s)
 
 -- ---- steps
 
@@ -105,7 +105,7 @@ some-waits s f h =
     let w = count-some (λ i. not (storedIn s i)) (acceptedCount s) (omega arith) in
     (w .0, w .1, not-true (storedIn s (w .0)) (w .2))
 
-kept-once : (s d : List ℕ) → Sound s → length d ≡ 1024 → 0 < waiting s → Kept s 1 (held (stepped s d .state) (stepped s d .disk))
+kept-once : (s d : List ℕ) → Sound s → length d ≡ 1024 → 0 < waiting s → Kept s 1 (holding (stepped s d .state) (stepped s d .disk))
 kept-once s d f size h =
     let w = step-one s f d size (some-waits s f h) in
     let i = w .0 in
@@ -123,14 +123,14 @@ kept-once s d f size h =
       stored = rw q (storedCount-marked s i (f .size) b);
     }
 
-kept : (n : ℕ) (s d : List ℕ) → Sound s → length d ≡ 1024 → n ≤ waiting s → Kept s n (stepsOf n (held s d))
-kept zero s d f size h =
+kept-all : (n : ℕ) (s d : List ℕ) → Sound s → length d ≡ 1024 → n ≤ waiting s → Kept s n (stepsOf n (holding s d))
+kept-all zero s d f size h =
     unfold stepsOf in record { sound = f; size = size; rules = refl; writes = refl; accepted = refl; stored = omega arith }
-kept (suc n) s d f size h =
+kept-all (suc n) s d f size h =
     let a = kept-once s d f size (omega arith) in
     let x = a .accepted in
     let y = a .stored in
-    let b = kept n (stepped s d .state) (stepped s d .disk) (a .sound) (a .size) (omega arith) in
+    let b = kept-all n (stepped s d .state) (stepped s d .disk) (a .sound) (a .size) (omega arith) in
     let z = b .stored in
     rw (steps-sound n s d (true-sound s f) size)
     (record {
@@ -145,8 +145,8 @@ kept (suc n) s d f size h =
 pub drains : Drains
 drains s d f size =
     let e = waiting-count s f in
-    let all : Held = stepsOf (waiting s) (held s d) in
-    let k : Kept s (waiting s) all = kept (waiting s) s d f size (omega arith) in
+    let all : Held = stepsOf (waiting s) (holding s d) in
+    let k : Kept s (waiting s) all = kept-all (waiting s) s d f size (omega arith) in
     let q : drainOf s d ≡ left (answer (waiting s)) (all .state) (all .disk) = unfold drainOf drained in checked-sound drained s d (true-sound s f) size in
     record {
       answers = rw (q, e);
@@ -157,17 +157,17 @@ drains s d f size =
       writes = rw q (k .writes);
     }
   where
-    before : (n : ℕ) → n < waiting s → SomeWaits (stepsOf n (held s d) .state)
+    before : (n : ℕ) → n < waiting s → SomeWaits (stepsOf n (holding s d) .state)
     before n h =
-        let k = kept n s d f size (omega arith) in
+        let k = kept-all n s d f size (omega arith) in
         let x = k .accepted in
         let y = k .stored in
-        some-waits (stepsOf n (held s d) .state) (k .sound) (omega arith)
+        some-waits (stepsOf n (holding s d) .state) (k .sound) (omega arith)
 
-    after : AllStored (stepsOf (waiting s) (held s d) .state)
+    after : AllStored (stepsOf (waiting s) (holding s d) .state)
     after i h =
-        let t : List ℕ = stepsOf (waiting s) (held s d) .state in
-        let k = kept (waiting s) s d f size (omega arith) in
+        let t : List ℕ = stepsOf (waiting s) (holding s d) .state in
+        let k = kept-all (waiting s) s d f size (omega arith) in
         let x = k .accepted in
         let y = k .stored in
         let m = stored-most s f in
@@ -188,7 +188,7 @@ handsIn s d w f fits =
     λ n. untrue _ (λ q. n (needsRing-true (rulesIn s) (writesIn s ++ (w ∷ [])) q)) in
     record {
       full = λ h. rw (e, c, le-leb 64 (acceptedCount s) h);
-      late = λ h l. rw (e, c, lt-leb 64 (acceptedCount s) h, true-late (rulesIn s) (writesIn s) (storedIn s) w l);
+      too-late = λ h l. rw (e, c, lt-leb 64 (acceptedCount s) h, true-late (rulesIn s) (writesIn s) (storedIn s) w l);
       ring = λ h l r. rw (e, c, lt-leb 64 (acceptedCount s) h, on-time l, true-needsRing (rulesIn s) (writesIn s ++ (w ∷ [])) r);
       taken = λ h l r. (
         record {
@@ -228,6 +228,6 @@ hand-in-keeps s d w f fits =
 pub keeps : Keeps
 keeps s d f = (
   unfold stepOf in checked-keeps stepped s d f (λ e. sound-true _ (sound-stepped s d (true-sound s f))),
-  unfold drainOf in checked-keeps drained s d f (λ e. unfold drained in kept (waiting s) s d f e (omega arith) .sound),
+  unfold drainOf in checked-keeps drained s d f (λ e. unfold drained in kept-all (waiting s) s d f e (omega arith) .sound),
   λ w fits. hand-in-keeps s d w f fits,
 )

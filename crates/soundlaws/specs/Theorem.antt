@@ -15,11 +15,11 @@ use Rattle.format.specs.Encode.{WriteFits}
 use Rattle.cache.specs.Needs.{NeedsRing, Earliest}
 use Rattle.cache.specs.State.{stateSize, acceptedCount, rulesIn, writesIn, writeIn, storedIn, opened, handed, marked, storedOn}
 use Rattle.cache.specs.Sound.{Sound, sound}
-use Rattle.cache.specs.Calls.{Left, left, Held, Late, openOf, handInOf, stepOf, stepsOf, drainOf}
+use Rattle.cache.specs.Calls.{Left, left, holding, Late, openOf, handInOf, stepOf, stepsOf, drainOf}
 
 -- the computed test decides soundness
-abbrev pub Decides : Type 0
-Decides = (s : List ℕ) → sound s ≡ true ↔ Sound s
+abbrev pub SoundDecided : Type 0
+SoundDecided = (s : List ℕ) → sound s ≡ true ↔ Sound s
 
 -- a sound state stays sound, whatever the disk and whether the call is refused or not
 abbrev pub Keeps : Type 0
@@ -54,7 +54,7 @@ pub record OneAppended (s : List ℕ) (w : Write) (t : List ℕ) : Type 0 where
 -- a hand-in meets the refusals in their order, or appends one waiting write and answers its place from 1
 pub record HandIn (s d : List ℕ) (w : Write) : Type 0 where
   pub full : 64 ≤ acceptedCount s → handInOf w s d ≡ left (refused 16 0) s d
-  pub late : acceptedCount s < 64 → Late (rulesIn s) (writesIn s) (storedIn s) w → handInOf w s d ≡ left (refused 17 0) s d
+  pub too-late : acceptedCount s < 64 → Late (rulesIn s) (writesIn s) (storedIn s) w → handInOf w s d ≡ left (refused 17 0) s d
   pub ring : acceptedCount s < 64 → (Late (rulesIn s) (writesIn s) (storedIn s) w → ⊥) → NeedsRing (rulesIn s) (writesIn s ++ (w ∷ []))
       → handInOf w s d ≡ left (refused 18 0) s d
   pub taken : acceptedCount s < 64 → (Late (rulesIn s) (writesIn s) (storedIn s) w → ⊥) → (NeedsRing (rulesIn s) (writesIn s ++ (w ∷ [])) → ⊥)
@@ -98,14 +98,11 @@ Steps = (s d : List ℕ) → Sound s → length d ≡ 1024 → Step s d
 
 -- ---- drain
 
-abbrev pub held : List ℕ → List ℕ → Held
-held s d = record { state = s; disk = d }
-
 -- a drain answers how many wait and leaves what that many steps leave; before each of these some write waits, after them none
 pub record Drain (s d : List ℕ) : Type 0 where
   pub answers : drainOf s d .outcome ≡ answer (waitingCount s)
-  pub leaves : held (drainOf s d .state) (drainOf s d .disk) ≡ stepsOf (waitingCount s) (held s d)
-  pub before : (n : ℕ) → n < waitingCount s → SomeWaits (stepsOf n (held s d) .state)
+  pub leaves : holding (drainOf s d .state) (drainOf s d .disk) ≡ stepsOf (waitingCount s) (holding s d)
+  pub before : (n : ℕ) → n < waitingCount s → SomeWaits (stepsOf n (holding s d) .state)
   pub after : AllStored (drainOf s d .state)
   pub rules : rulesIn (drainOf s d .state) ≡ rulesIn s
   pub writes : writesIn (drainOf s d .state) ≡ writesIn s

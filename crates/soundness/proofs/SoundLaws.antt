@@ -1,8 +1,8 @@
 -- `sound` computes to true exactly on the sound states: each part of the computed test agrees with its part of the meaning.
-use mathlib.Core.Path.{_≡_, refl, sym, _∙_}
-use mathlib.Core.Bool.{Bool, true, false, cond, not, false≢true, _&&_, _||_}
+use mathlib.Core.Path.{_≡_, sym, _∙_}
+use mathlib.Core.Bool.{Bool, true, not, false≢true, _&&_, _||_}
 use mathlib.Core.List.{List}
-use Prim.Native.Nat.{ℕ, zero, suc, _+_, _-_, _≤_, _<_}
+use Prim.Native.Nat.{ℕ, _+_, _-_, _≤_, _<_}
 use native.Mathlib.Omega.{arith}
 use lib.Dec.{eqb}
 use lib.ListN.{length}
@@ -12,7 +12,6 @@ use Rattle.relation.proofs.ListLaws.{not-so, and-left, and-right, and-intro, al
 use Rattle.relation.proofs.MaskLaws.{implies, implied}
 use Rattle.model.specs.Rules.{known}
 use Rattle.model.specs.Cyclic.{cyclic}
-use Rattle.model.specs.Test.{countBelow}
 use Rattle.model.proofs.TestLaws.{count-most}
 use Rattle.model.proofs.RuleLaws.{known-true, true-known}
 use Rattle.format.specs.Bytes.{byte}

@@ -2,7 +2,7 @@
 use mathlib.Core.Path.{_≡_, sym, ap, _∙_}
 use mathlib.Core.Bool.{Bool, true, false, not, false≢true, _&&_, _||_}
 use mathlib.Core.List.{List}
-use Prim.Native.Nat.{ℕ, _-_, _≤_, _<_}
+use Prim.Native.Nat.{ℕ, _≤_, _<_}
 use lib.Dec.{eqb, leb}
 use lib.ListN.{length, getD, take}
 use lib.Seq.{getD-take}
@@ -63,9 +63,9 @@ module _ (rules : List Rule) (s rows : List ℕ) (e : take (acceptedCount s) row
       unfolding needsHold
       hold-uncovered h = rw (← rows-covered, ← c, ← f, not-true b h)
 
-      pub hold-ring : (shut : List ℕ) (d : Bool) → not b ≡ false → shut ≡ closed n rows → d ≡ loops shut n → not d ≡ needsHold rules s
+      pub hold-ring : (reached : List ℕ) (d : Bool) → not b ≡ false → reached ≡ closed n rows → d ≡ loops reached n → not d ≡ needsHold rules s
       unfolding needsHold needsRing
-      hold-ring shut d h p g =
+      hold-ring reached d h p g =
           rw (← rows-covered, ← c, ← f, not-false b h, writes-length s, g, p, c)
           (ap not (loops-closed rows (cache.needs rules (writesIn s)) (acceptedCount s) (table-agrees _ rows (acceptedCount s) e)))
 

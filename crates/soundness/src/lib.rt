@@ -64,9 +64,9 @@ fn needs_hold(rows: &mut [u64; 64], state: &[u8], rules: Rules) -> bool
     if !all_covered(rows, layout::stored_mask(state), n) {
         return false;
     }
-    let mut shut = *rows;
-    relation::close(&mut shut, n);
-    !relation::has_loop(&shut, n)
+    let mut reached = *rows;
+    relation::close(&mut reached, n);
+    !relation::has_loop(&reached, n)
 }
 
 // Whether a state is sound. Leaves the needs of a sound state's writes in rows.

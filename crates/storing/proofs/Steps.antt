@@ -19,15 +19,15 @@ use Rattle.rules.specs.declared.Rules.{Rules}
 use Rattle.cache.specs.Needs.{readyFrom, ready}
 use Rattle.cache.specs.State.{ruleCount, acceptedCount, storedCount, rulesIn, writesIn, writeIn, storedIn, marked, storedOn}
 use Rattle.cache.specs.Sound.{sound}
-use Rattle.cache.specs.Calls.{Left, Held, left, storing, checked, stepped, stepsOf, drained}
+use Rattle.cache.specs.Calls.{Left, Held, holding, left, storing, checked, stepped, stepOf, stepsOf, drained}
 use Rattle.relation.specs.Union.{partOf}
 use Rattle.soundness.specs.Parts.{Tabled, TabledIf}
 use Rattle.contents.proofs.ContentSteps.{writes-length, write-at}
 use Rattle.soundness.proofs.SoundSteps.{stored-bit, row-met}
 use Rattle.soundness.proofs.SoundLaws.{sound-true, stored-most}
 use Rattle.soundlaws.proofs.ReadyLaws.{ready-earliest}
-use Rattle.soundlaws.proofs.KeepLaws.{sound-size, rules-marked, writes-marked, acceptedCount-marked, stored-marked, sound-stepped, length-stepped, steps-sound}
-use Rattle.storing.specs.Given.{out, codedLeft, faultBy, callFault}
+use Rattle.soundlaws.proofs.KeepLaws.{sound-size, rules-marked, writes-marked, acceptedCount-marked, stored-marked, sound-stepped, length-stepped, step-sound as step-once}
+use Rattle.storing.specs.Given.{callLeaves, codedLeft, faultBy, callFault}
 
 -- ---- is_ready, ready
 
@@ -58,18 +58,18 @@ module _ (p : ℕ → Bool) (n : ℕ) where
       rw z
 
   module _ (i : ℕ) (h : i < n) (q : Sought p n i) where
-    opened : cond (p i) (suc i) (firstFrom p (suc i) (n - (i + 1))) ≡ firstFrom p 0 n
+    unrolled : cond (p i) (suc i) (firstFrom p (suc i) (n - (i + 1))) ≡ firstFrom p 0 n
     unfolding firstFrom
-    opened =
+    unrolled =
         let z : n - i ≡ suc (n - (i + 1)) = omega arith in
         rw z at q
 
     first-here : p i ≡ true → i + 1 ≡ firstFrom p 0 n
-    first-here t = rw (add-one i) (rw t at opened)
+    first-here t = rw (add-one i) (rw t at unrolled)
 
     first-later : p i ≡ false → Sought p n (i + 1)
     first-later t =
-        let e : firstFrom p (suc i) (n - (i + 1)) ≡ firstFrom p 0 n = rw t at opened in
+        let e : firstFrom p (suc i) (n - (i + 1)) ≡ firstFrom p 0 n = rw t at unrolled in
         rw (← add-one i) at e
 
   first-none : (i : ℕ) → n ≤ i → Sought p n i → 0 ≡ firstFrom p 0 n
@@ -129,16 +129,16 @@ pub place-fits : (s : List ℕ) (p : ℕ) → sound s ≡ true → p ≤ accepte
 place-fits s p t m z = let h = few-writes s t in omega arith
 
 module _ (s d : List ℕ) (p : ℕ) (q : p ≡ ready (rulesIn s) (writesIn s) (storedIn s)) where
-  pub step-idle : p ≡ 0 → out 0 s d ≡ codedLeft (stepped s d)
+  pub step-idle : p ≡ 0 → callLeaves 0 s d ≡ codedLeft (stepped s d)
   unfolding codedLeft coded stepped storing
   step-idle z = rw (← q, z)
 
   pub step-stores : (s′ d′ : List ℕ) → p ≤ acceptedCount s → (p ≡ 0 → ⊥) → s′ ≡ marked s (p - 1) → d′ ≡ storedOn d (writeIn s (p - 1))
-      → out p s′ d′ ≡ codedLeft (stepped s d)
+      → callLeaves p s′ d′ ≡ codedLeft (stepped s d)
   unfolding codedLeft coded stepped storing
   step-stores s′ d′ m z f g = rw (← q) (go p m z f g)
     where
-      go : (k : ℕ) → k ≤ acceptedCount s → (k ≡ 0 → ⊥) → s′ ≡ marked s (k - 1) → d′ ≡ storedOn d (writeIn s (k - 1)) → out k s′ d′ ≡ codedLeft (storing k s d)
+      go : (k : ℕ) → k ≤ acceptedCount s → (k ≡ 0 → ⊥) → s′ ≡ marked s (k - 1) → d′ ≡ storedOn d (writeIn s (k - 1)) → callLeaves k s′ d′ ≡ codedLeft (storing k s d)
       go zero a z f g = absurd (z refl)
       go (suc k) a z f g =
           let y : suc k - 1 ≡ k = omega arith in
@@ -178,18 +178,18 @@ module _ (s d : List ℕ) where
     cleared rows mask h m = let c = clean n e z in (c .0, (c .1 .0, (c .1 .1, (h (eq-eqb n 0 z), m))))
 
   module _ (call : List ℕ → List ℕ → Left) (n : ℕ) (e : n ≡ callFault s d) where
-    pub call-refused : (r : ℕ) → (n ≡ 0 → ⊥) → r ≡ refusal n 0 → out r s d ≡ codedLeft (checked call s d)
+    pub call-refused : (r : ℕ) → (n ≡ 0 → ⊥) → r ≡ refusal n 0 → callLeaves r s d ≡ codedLeft (checked call s d)
     unfolding callFault faultBy checked codedLeft coded
     call-refused r z q = go (eqb (length s) 1024) (eqb (length d) 1024) (sound s) e
       where
         go : (a b c : Bool) → n ≡ faultBy a b c
-            → out r s d ≡ codedLeft (cond (not a) (left (refused 14 0) s d) (cond (not b) (left (refused 14 0) s d) (cond (not c) (left (refused 15 0) s d) (call s d))))
+            → callLeaves r s d ≡ codedLeft (cond (not a) (left (refused 14 0) s d) (cond (not b) (left (refused 14 0) s d) (cond (not c) (left (refused 15 0) s d) (call s d))))
         go true true true e = absurd (z e)
         go true true false e = rw (q, e)
         go true false c e = rw (q, e)
         go false b c e = rw (q, e)
 
-    pub call-made : (r : ℕ) (s′ d′ : List ℕ) → n ≡ 0 → out r s′ d′ ≡ codedLeft (call s d) → out r s′ d′ ≡ codedLeft (checked call s d)
+    pub call-made : (r : ℕ) (s′ d′ : List ℕ) → n ≡ 0 → callLeaves r s′ d′ ≡ codedLeft (call s d) → callLeaves r s′ d′ ≡ codedLeft (checked call s d)
     unfolding checked
     call-made r s′ d′ z q =
         let c = clean n e z in
@@ -249,19 +249,28 @@ tabled-stepped s d rows t h = go (ready (rulesIn s) (writesIn s) (storedIn s)) r
         let m = few-writes s t in
         tabled-marked s rows i t (omega arith) h
 
-abbrev pub held : List ℕ → List ℕ → Held
-held s d = record { state = s; disk = d }
-
 pub counts-ordered : (s : List ℕ) (m k : ℕ) → sound s ≡ true → m ≡ acceptedCount s → k ≡ storedCount s → k ≤ m
 counts-ordered s m k t c f = let h = few-stored s t in omega arith
 
+-- one step more, made last
+steps-last : (n : ℕ) (h : Held) → stepsOf (suc n) h ≡ holding (stepOf (stepsOf n h .state) (stepsOf n h .disk) .state) (stepOf (stepsOf n h .state) (stepsOf n h .disk) .disk)
+unfolding stepsOf
+steps-last zero h = refl
+steps-last (suc n) h = steps-last n (holding (stepOf (h .state) (h .disk) .state) (stepOf (h .state) (h .disk) .disk))
+
 module _ (s d : List ℕ) (m k : ℕ) where
-  -- what is left after some of the steps
+  -- after the rounds from k up to n, state and disk are those after as many steps, in the order in which the steps were made
   abbrev pub Drains : List ℕ → List ℕ → ℕ → Type 0
-  Drains s′ d′ n = stepsOf (m - n) (held s′ d′) ≡ stepsOf (m - k) (held s d)
+  Drains s′ d′ n = holding s′ d′ ≡ stepsOf (n - k) (holding s d)
+
+  pub drain-begun : Drains s d k
+  unfolding stepsOf
+  drain-begun =
+      let z : k - k ≡ 0 = omega arith in
+      rw z
 
   -- what a step leaves, as the code says it
-  module _ (s′ d′ s″ d″ : List ℕ) (r : ℕ) (e : out r s″ d″ ≡ codedLeft (stepped s′ d′)) where
+  module _ (s′ d′ s″ d″ : List ℕ) (r : ℕ) (e : callLeaves r s″ d″ ≡ codedLeft (stepped s′ d′)) where
     step-state : s″ ≡ stepped s′ d′ .state
     unfolding codedLeft
     step-state = ap (λ g. g .state) e
@@ -270,10 +279,10 @@ module _ (s d : List ℕ) (m k : ℕ) where
     unfolding codedLeft
     step-disk = ap (λ g. g .disk) e
 
-    pub drain-more : (n : ℕ) → n < m → sound s′ ≡ true → length d′ ≡ 1024 → Drains s′ d′ n → Drains s″ d″ (n + 1)
+    pub drain-more : (n : ℕ) → k ≤ n → sound s′ ≡ true → length d′ ≡ 1024 → Drains s′ d′ n → Drains s″ d″ (n + 1)
     drain-more n h t l q =
-        let z : m - n ≡ suc (m - (n + 1)) = omega arith in
-        rw (step-state, step-disk) (sym (steps-sound (m - (n + 1)) s′ d′ t l) ∙ (rw z at q))
+        let z : n + 1 - k ≡ suc (n - k) = omega arith in
+        rw (z, steps-last (n - k) (holding s d), ← q, step-state, step-disk, step-once s′ d′ t l)
 
     step-answer : r ≡ coded (stepped s′ d′ .outcome)
     unfolding codedLeft
@@ -298,11 +307,11 @@ module _ (s d : List ℕ) (m k : ℕ) where
     pub drain-tabled : (rows : List ℕ) → sound s′ ≡ true → Tabled s′ rows → Tabled s″ rows
     drain-tabled rows t h = rw step-state (tabled-stepped s′ d′ rows t h)
 
-  pub drain-done : (s′ d′ : List ℕ) (n : ℕ) → m ≡ acceptedCount s → k ≡ storedCount s → m ≤ n → Drains s′ d′ n → out (m - k) s′ d′ ≡ codedLeft (drained s d)
-  unfolding drained codedLeft coded stepsOf
-  drain-done s′ d′ n c f h q =
-      let z : m - n ≡ 0 = omega arith in
+  pub drain-done : (s′ d′ : List ℕ) (n : ℕ) → m ≡ acceptedCount s → k ≡ storedCount s → n ≤ m → m ≤ n → Drains s′ d′ n → callLeaves (m - k) s′ d′ ≡ codedLeft (drained s d)
+  unfolding drained codedLeft coded
+  drain-done s′ d′ n c f b h q =
+      let z : n ≡ m = omega arith in
       let r = rw z at q in
       rw (← c, ← f, ← r)
 
-pub ruleset draining = (needs, counts-ordered, drain-more, drain-sound, drain-size, drain-disk, drain-tabled, drain-place, drain-mask, drain-done)
+pub ruleset draining = (needs, counts-ordered, drain-begun, drain-more, drain-sound, drain-size, drain-disk, drain-tabled, drain-place, drain-mask, drain-done)

@@ -21,26 +21,26 @@ pub record Given : Type 0 where
   pub state : List ℕ
   pub disk : List ℕ
 
-abbrev pub out : ℕ → List ℕ → List ℕ → Given
-out r s d = record { answer = r; state = s; disk = d }
+abbrev pub callLeaves : ℕ → List ℕ → List ℕ → Given
+callLeaves r s d = record { answer = r; state = s; disk = d }
 
 unfoldable pub codedLeft : Left → Given
-codedLeft l = out (coded (l .outcome)) (l .state) (l .disk)
+codedLeft l = callLeaves (coded (l .outcome)) (l .state) (l .disk)
 
 -- of a routine that is lent a state only
 pub record Kept : Type 0 where
   pub answer : ℕ
   pub state : List ℕ
 
-abbrev pub kept : ℕ → List ℕ → Kept
-kept r s = record { answer = r; state = s }
+abbrev pub callLeavesState : ℕ → List ℕ → Kept
+callLeavesState r s = record { answer = r; state = s }
 
 unfoldable pub codedKept : Left → Kept
-codedKept l = kept (coded (l .outcome)) (l .state)
+codedKept l = callLeavesState (coded (l .outcome)) (l .state)
 
 -- an opening with rules that were read
 unfoldable pub openedBy : List Rule → List ℕ → Kept
-openedBy rules s = cond (cyclic rules) (kept (refusal 8 0) s) (kept 0 (opened rules))
+openedBy rules s = cond (cyclic rules) (callLeavesState (refusal 8 0) s) (callLeavesState 0 (opened rules))
 
 -- the number of the refusal that a step or a drain meets, by what it finds of state and disk; 0: none
 unfoldable pub faultBy : Bool → Bool → Bool → ℕ

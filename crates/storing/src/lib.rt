@@ -11,7 +11,7 @@ ghost use Rattle.cache.specs.Sound.{sound};
 ghost use Rattle.cache.specs.Calls.{stepped, drained};
 ghost use Rattle.relation.specs.Union.{partOf};
 ghost use Rattle.soundness.specs.Parts.{Tabled, TabledIf};
-ghost use Rattle.storing.specs.Given.{out, codedLeft, callFault};
+ghost use Rattle.storing.specs.Given.{callLeaves, codedLeft, callFault};
 
 // Whether write i is not in the mask of the stored writes, and its row is part of that mask.
 fn is_ready(row: u64, mask: u64, i: usize) -> bool
@@ -53,7 +53,7 @@ fn store_write(state: &mut [u8], disk: &mut [u8], i: usize)
 // A step on a sound state. rows has its needs, mask its stored writes.
 pub fn step_sound(state: &mut [u8], disk: &mut [u8], rows: &[u64; 64], mask: u64) -> u64
     requires { ⌜ (length (now state) ≡ 1024) × ((length (now disk) ≡ 1024) × ((sound (now state) ≡ true) × (Tabled (now state) (now rows) × (mask ≡ maskOf (storedIn (now state)) (acceptedCount (now state)))))) ⌝ }
-    ensures { λ r. ⌜ out r (now (state .exit)) (now (disk .exit)) ≡ codedLeft (stepped (now (state .entry)) (now (disk .entry))) ⌝ }
+    ensures { λ r. ⌜ callLeaves r (now (state .exit)) (now (disk .exit)) ≡ codedLeft (stepped (now (state .entry)) (now (disk .entry))) ⌝ }
 {
     let place = ready(state, rows, mask);
     if place == 0 {
@@ -94,7 +94,7 @@ fn with_place(mask: u64, place: u64) -> u64
 // As many steps of a sound state as there are waiting writes. A step changes no needs.
 pub fn drain_sound(state: &mut [u8], disk: &mut [u8], rows: &[u64; 64], mask: u64) -> u64
     requires { ⌜ (length (now state) ≡ 1024) × ((length (now disk) ≡ 1024) × ((sound (now state) ≡ true) × (Tabled (now state) (now rows) × (mask ≡ maskOf (storedIn (now state)) (acceptedCount (now state)))))) ⌝ }
-    ensures { λ r. ⌜ out r (now (state .exit)) (now (disk .exit)) ≡ codedLeft (drained (now (state .entry)) (now (disk .entry))) ⌝ }
+    ensures { λ r. ⌜ callLeaves r (now (state .exit)) (now (disk .exit)) ≡ codedLeft (drained (now (state .entry)) (now (disk .entry))) ⌝ }
 {
     let accepted = contents::wide(state[1]);
     let stored = contents::wide(state[2]);

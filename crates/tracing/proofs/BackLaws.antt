@@ -3,8 +3,7 @@ use mathlib.Core.Path.{_≡_, refl, sym, ap, _∙_}
 use mathlib.Core.Bool.{Bool, true, false, cond, false≢true}
 use mathlib.Core.List.{List, [], _∷_, _++_, List·Memᴰ, List·Memᴰ·head, List·Memᴰ·tail, List·Memᴰ·not-nil, List·Memᴰ·append-cases, List·Memᴰ·eq-of-singleton}
 use mathlib.Core.Logic.{⊎-elim}
-use Prim.Native.Nat.{ℕ, zero, suc, _+_, _*_, _/_, _%_, _≤_, _<_}
-use native.Mathlib.Nat.{zero-add}
+use Prim.Native.Nat.{ℕ, zero, suc, _+_, _*_, _/_, _≤_, _<_}
 use native.Mathlib.Omega.{arith}
 use lib.ListN.{length, length-append, take, drop}
 use lib.Dec.{eqb}
@@ -12,12 +11,11 @@ use borrow.Author.Tests.{eqb-true}
 use Rattle.relation.specs.Lists.{tabulate}
 use Rattle.relation.proofs.ListLaws.{length-tabulate}
 use Rattle.model.specs.declared.Write.{Write}
-use Rattle.model.specs.declared.Check.{Check}
 use Rattle.model.specs.declared.Check.the-variants.{Range}
 use Rattle.model.specs.Answer.{Outcome, answer, refused}
 use Rattle.model.specs.Disk.{block}
-use Rattle.model.specs.Test.{Test, test, file}
-use Rattle.format.specs.Bytes.{half, word, bytes4, writeBytes}
+use Rattle.model.specs.Test.{file}
+use Rattle.format.specs.Bytes.{half, word, writeBytes}
 use Rattle.format.specs.Encode.{fieldBytes, testBytes, WriteFits, CheckFits, TestFits}
 use Rattle.format.specs.File.{readOf}
 use Rattle.reader.specs.Limits.{TestLimits}

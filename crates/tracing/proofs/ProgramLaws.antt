@@ -2,23 +2,20 @@
 use mathlib.Core.Path.{_≡_, refl, sym, ap, _∙_}
 use mathlib.Core.Bool.{Bool, true, false, cond, not, _&&_, _||_}
 use mathlib.Core.List.{List, [], _∷_, _++_, append-assoc, append-nil}
-use Prim.Native.Nat.{ℕ, zero, suc, _+_, _-_, _*_, _/_, _%_, _≤_, _<_}
-use native.Mathlib.Numerals.{add-one}
+use Prim.Native.Nat.{ℕ, zero, suc, _+_, _*_, _/_, _%_, _≤_, _<_}
 use native.Mathlib.Nat.{zero-add}
 use native.Mathlib.Omega.{arith}
-use lib.ListN.{length, length-append, take, drop}
+use lib.ListN.{length, drop}
 use lib.Dec.{eqb, ltb}
-use lib.Seq.{sets, sets-eq}
+use lib.Seq.{sets-eq}
 use Rattle.relation.specs.Lists.{any, anyBelow, tabulate}
 use borrow.Author.Needs.{needs}
 use borrow.Author.Tests.{eqb-true, eq-eqb, ne-eqb, lt-ltb, le-ltb, ltb-false}
 use Rattle.relation.proofs.ListLaws.{any-append, length-tabulate, and-left, and-right, and-intro, bool-equal}
 use Rattle.model.specs.declared.Write.{Write}
-use Rattle.model.specs.declared.Check.the-variants.{Range}
 use Rattle.model.specs.Disk.{block}
-use Rattle.model.specs.Test.{Test, test}
 use Rattle.format.specs.Bytes.{half, word, writeBytes}
-use Rattle.format.specs.Encode.{fieldBytes, writeFields, checkField, checkFields, testBytes}
+use Rattle.format.specs.Encode.{fieldBytes, writeFields, checkFieldBytes, checkFields, testBytes}
 use Rattle.log.specs.Puts.{Put, Log, log, start, putWrites, after, afterAll, writesOf, putsOf, emptyPut, logTest, traced, traceOf}
 use Rattle.model.specs.Answer.{answer, refused, refusal, coded}
 use Rattle.writing.specs.Writing.{Wrote}
@@ -95,7 +92,7 @@ any-empty s (suc n) = rw (any-append emptyPut (tabulate (putAt s) n) (putAt s n 
 -- the test of two programs, in the order in which its fields are written
 pub test-bytes : (initial main : List ℕ) (n m : ℕ)
     → testFields initial main n m ≡ testBytes (logTest (tabulate (putAt initial) n) (tabulate (putAt main) m))
-unfolding testFields testBytes logTest start checkFields checkField fieldBytes
+unfolding testFields testBytes logTest start checkFields checkFieldBytes fieldBytes
 test-bytes initial main n m =
     rw (after-puts 1 0 (tabulate (putAt initial) n), length-tabulate (putAt initial) n, zero-add n, program-fields 1 1 0 initial n, program-fields 2 (1 + n) n main m) refl
 

@@ -4,7 +4,7 @@ use judging::Judged;
 ghost use mathlib.Core.Path.{_≡_};
 ghost use Rattle.model.specs.Answer.{coded};
 ghost use Rattle.judging.specs.Judge.{caseIn};
-ghost use Rattle.finding.specs.Finder.{out, foundCoded, findOf};
+ghost use Rattle.finding.specs.Finder.{findLeaves, foundCoded, findOf};
 ghost use Rattle.tracing.specs.Traced.{traceOut, traceAnswer};
 ghost use Rattle.workbench.specs.Printed.{printed, printedOf};
 ghost use Rattle.answers.specs.Judged.{JudgeAnswer, VerdictAnswer};
@@ -75,7 +75,7 @@ pub extern "C" fn pelzhondy_judge_lines(file: &[u8], out: &mut [u8]) -> u64
 // `buffer`, and how many. Refused by reading, 10, 12, 11, 13.
 #[no_mangle]
 pub extern "C" fn pelzhondy_find(file: &[u8], buffer: &mut [u8]) -> u64
-    ensures { λ r. ⌜ out r (now (buffer .exit)) ≡ foundCoded (findOf (now (file .entry)) (now (buffer .entry))) ⌝ }
+    ensures { λ r. ⌜ findLeaves r (now (buffer .exit)) ≡ foundCoded (findOf (now (file .entry)) (now (buffer .entry))) ⌝ }
 {
     finding::find(file, buffer)
 }

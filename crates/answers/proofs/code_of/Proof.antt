@@ -1,12 +1,9 @@
 -- `answers::code_of` meets its contract: the three numbers are small, so the sum fits.
 use mathlib.Core.Path.{refl}
 use Rattle.answers.specs.Judged.{judgementCode}
-use Rattle.answers.proofs.JudgedLaws.{judged}
 use borrow.Author.Needs.{needs}
 use Rattle.answers.proofs.code_of.Statement.{statement}
 use Rattle.answers.proofs.code_of.Tie as tie
-use Rattle.answers.proofs.code_of.Reads as reads
-use Rattle.answers.proofs.code_of.Lts as lts
 
 mul-result : tie.Need-mul-result
 mul-result c = search needs

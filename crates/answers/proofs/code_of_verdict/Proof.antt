@@ -4,8 +4,6 @@ use Rattle.answers.proofs.JudgedLaws.{judged, fails-fits}
 use borrow.Author.Needs.{needs}
 use Rattle.answers.proofs.code_of_verdict.Statement.{statement}
 use Rattle.answers.proofs.code_of_verdict.Tie as tie
-use Rattle.answers.proofs.code_of_verdict.Reads as reads
-use Rattle.answers.proofs.code_of_verdict.Lts as lts
 
 enum-told : tie.Need-enum-told
 enum-told c = search needs

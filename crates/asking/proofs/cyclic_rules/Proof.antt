@@ -4,12 +4,6 @@ use Rattle.asking.proofs.FileLaws.{answers, rules-fit, refusal-fits}
 use borrow.Author.Needs.{needs}
 use Rattle.asking.proofs.cyclic_rules.Statement.{statement}
 use Rattle.asking.proofs.cyclic_rules.Tie as tie
-use Rattle.asking.proofs.cyclic_rules.Reads as reads
-use Rattle.asking.proofs.cyclic_rules.Lts as lts
-use Rattle.loading.proofs.file_rules.Reads as file-rules-reads
-use Rattle.model.proofs.refuse.Reads as refuse-reads
-use Rattle.reader.proofs.read.Reads as read-reads
-use Rattle.cycles.proofs.is_cyclic.Reads as is-cyclic-reads
 
 read-requires : tie.Need-read-requires
 read-requires c κs = search needs

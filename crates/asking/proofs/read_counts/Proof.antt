@@ -4,10 +4,6 @@ use Rattle.asking.proofs.FileLaws.{answers, sizes-fit, refusal-fits}
 use borrow.Author.Needs.{needs}
 use Rattle.asking.proofs.read_counts.Statement.{statement}
 use Rattle.asking.proofs.read_counts.Tie as tie
-use Rattle.asking.proofs.read_counts.Reads as reads
-use Rattle.asking.proofs.read_counts.Lts as lts
-use Rattle.model.proofs.refuse.Reads as refuse-reads
-use Rattle.reader.proofs.read.Reads as read-reads
 
 read-requires : tie.Need-read-requires
 read-requires c κs = search needs

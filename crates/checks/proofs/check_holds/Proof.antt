@@ -1,13 +1,7 @@
 -- `checks::check_holds` meets its contract, one law for each form of a check.
 use Rattle.checks.proofs.CheckSteps.{checking}
-use borrow.Author.Needs.{needs}
 use Rattle.checks.proofs.check_holds.Statement.{statement}
 use Rattle.checks.proofs.check_holds.Tie as tie
-use Rattle.checks.proofs.check_holds.Reads as reads
-use Rattle.checks.proofs.check_holds.Lts as lts
-use Rattle.checks.proofs.pair_holds.Reads as pair-holds-reads
-use Rattle.checks.proofs.pointer_holds.Reads as pointer-holds-reads
-use Rattle.checks.proofs.range_at.Reads as range-at-reads
 
 enum-known-c : tie.Need-enum-known-c
 enum-known-c c = search checking

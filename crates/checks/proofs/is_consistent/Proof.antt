@@ -7,9 +7,6 @@ use Rattle.model.specs.Check.{consistent}
 use Rattle.checks.proofs.CheckSteps.{checking}
 use Rattle.checks.proofs.is_consistent.Statement.{statement}
 use Rattle.checks.proofs.is_consistent.Tie as tie
-use Rattle.checks.proofs.is_consistent.Reads as reads
-use Rattle.checks.proofs.is_consistent.Lts as lts
-use Rattle.checks.proofs.check_holds.Reads as check-holds-reads
 
 abbrev Inv-loop : tie.InvT-loop
 Inv-loop disk n checks i₀ i = (i ≤ n) × (consistent (take i checks) disk ≡ true)

@@ -1,11 +1,8 @@
 -- `checks::pair_holds` meets its contract, by the cases of its definition.
 use Rattle.model.specs.Check.{holds}
 use Rattle.relation.proofs.Cases.{cases}
-use borrow.Author.Needs.{needs}
 use Rattle.checks.proofs.pair_holds.Statement.{statement}
 use Rattle.checks.proofs.pair_holds.Tie as tie
-use Rattle.checks.proofs.pair_holds.Reads as reads
-use Rattle.checks.proofs.pair_holds.Lts as lts
 
 mul-if1 : tie.Need-mul-if1
 mul-if1 c = search cases

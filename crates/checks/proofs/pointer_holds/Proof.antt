@@ -1,11 +1,7 @@
 -- `checks::pointer_holds` meets its contract, one law for each of its returns.
 use Rattle.checks.proofs.CheckSteps.{checking}
-use borrow.Author.Needs.{needs}
 use Rattle.checks.proofs.pointer_holds.Statement.{statement}
 use Rattle.checks.proofs.pointer_holds.Tie as tie
-use Rattle.checks.proofs.pointer_holds.Reads as reads
-use Rattle.checks.proofs.pointer_holds.Lts as lts
-use Rattle.checks.proofs.second_of.Reads as second-of-reads
 
 mul-b : tie.Need-mul-b
 mul-b c = search checking

@@ -1,13 +1,7 @@
 -- `checks::range_at` meets its contract, by the contract of `range_holds`.
 use Rattle.checks.proofs.CheckSteps.{checking}
-use borrow.Author.Needs.{needs}
 use Rattle.checks.proofs.range_at.Statement.{statement}
 use Rattle.checks.proofs.range_at.Tie as tie
-use Rattle.checks.proofs.range_at.Reads as reads
-use Rattle.checks.proofs.range_at.Lts as lts
-use Rattle.checks.proofs.first_of.Reads as first-of-reads
-use Rattle.checks.proofs.range_holds.Reads as range-holds-reads
-use Rattle.checks.proofs.second_of.Reads as second-of-reads
 
 mul-b : tie.Need-mul-b
 mul-b c = search checking

@@ -3,8 +3,6 @@ use Prim.Native.Nat.{_-_, _≤_, _<_}
 use Rattle.checks.proofs.CheckSteps.{Full, checking}
 use Rattle.checks.proofs.range_holds.Statement.{statement}
 use Rattle.checks.proofs.range_holds.Tie as tie
-use Rattle.checks.proofs.range_holds.Reads as reads
-use Rattle.checks.proofs.range_holds.Lts as lts
 
 abbrev Inv-loop : tie.InvT-loop
 Inv-loop disk head tail k₀ k = (head < tail) × (tail ≤ 256) × (head ≤ k) × (k ≤ tail) × Full disk head k

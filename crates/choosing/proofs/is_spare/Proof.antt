@@ -1,4 +1,4 @@
--- `choosing::is_spare` meets its contract. By the bit; a set bit can be taken away.
+-- `choosing::is_spare` meets its contract. By the bit; a set bit is taken away by turning it over.
 use Rattle.choosing.proofs.ChoiceSteps.{sparing}
 use Rattle.choosing.proofs.is_spare.Statement.{statement}
 use Rattle.choosing.proofs.is_spare.Tie as tie
@@ -12,9 +12,6 @@ returns c = search sparing
 shl-less : tie.Need-shl-less
 shl-less c = search sparing
 
-sub-less : tie.Need-sub-less
-sub-less c = search sparing
-
 element-copy-out-result : tie.Need-element-copy-out-result
 element-copy-out-result c = search sparing
 
@@ -24,4 +21,4 @@ returns-2 c = search sparing
 pub is-spare-spec : {M : Type 1} → statement M
 is-spare-spec =
     tie.close
-    (tie.spec has-bit-requires returns shl-less sub-less element-copy-out-result returns-2)
+    (tie.spec has-bit-requires returns shl-less element-copy-out-result returns-2)

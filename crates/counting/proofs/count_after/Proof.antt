@@ -1,5 +1,5 @@
 -- `counting::count_after` meets its contract. The invariants: the counts so far, and the disk as it was at first; the checks below k hold of the schedule's disk.
-use Prim.Native.Nat.{_+_, _-_, _*_, _^_, _≤_}
+use Prim.Native.Nat.{_-_, _^_, _≤_}
 use mathlib.Core.Path.{_≡_, _∙_}
 use mathlib.Core.Bool.{true}
 use native.Mathlib.Omega.{arith}
@@ -20,19 +20,19 @@ use Rattle.counting.proofs.count_after.Statement.{statement}
 use Rattle.counting.proofs.count_after.Tie as tie
 
 abbrev Inv-loop : tie.InvT-loop
-Inv-loop x rows low high table near far m mid checks columns counts disk y s k₀ k =
+Inv-loop x low high table near far m mid checks columns counts disk y s k₀ k =
     (k ≤ m) × (disk ≡ run (heldFrom table near far) y mid) × (consistent (take k checks) disk ≡ true)
 
 abbrev μ-loop : tie.MeasureT-loop
-μ-loop x rows low high table near far m mid checks columns counts disk y s k₀ k = m - k
+μ-loop x low high table near far m mid checks columns counts disk y s k₀ k = m - k
 
 abbrev Inv-schedules : tie.InvT-schedules
-Inv-schedules x rows low high table near far m mid checks columns counts₀ disk₀ y₀ counts disk y =
+Inv-schedules x low high table near far m mid checks columns counts₀ disk₀ y₀ counts disk y =
     (y ≤ columns) × (columns ≡ 2 ^ far) × (columns ≤ 64) × (length mid ≡ 256) × (length checks ≡ 16) × (disk ≡ mid) × (m ≤ 16)
-    × Gains (after (validBy low high) x rows) (badAfter (validBy low high) x rows mid (heldFrom table near far) (take m checks)) x rows y counts₀ counts
+    × Gains (after (validBy low high) x (2 ^ near)) (badAfter (validBy low high) x (2 ^ near) mid (heldFrom table near far) (take m checks)) x (2 ^ near) y counts₀ counts
 
 abbrev μ-schedules : tie.MeasureT-schedules
-μ-schedules x rows low high table near far m mid checks columns counts₀ disk₀ y₀ counts disk y = columns - y
+μ-schedules x low high table near far m mid checks columns counts₀ disk₀ y₀ counts disk y = columns - y
 
 shl-columns : tie.Need-shl-columns Inv-loop μ-loop Inv-schedules μ-schedules
 shl-columns c = search grids
@@ -91,7 +91,7 @@ loop-again c =
     let l = c .before .before .before .before .before .loop in
     let i = c .before .before .before .before .before .before .before .before .before .before .before .before .schedules .inv in
     let a = c .before .before .before .before .before .before .before .before .before .before .before .before .before .args in
-    (omega arith, l .inv .1, checks-more (c .before .before .before .before .before .before .apply .last .0) (a .t10) (Range 0) (a .m) (l .k) (c .before .check-holds .result) (omega arith) (i .6) (i .4) (l .inv .2) (c .before .check-holds .ensures) (c .if2 .left))
+    (omega arith, l .inv .1, checks-more (c .before .before .before .before .before .before .apply .last .0) (a .t9) (Range 0) (a .m) (l .k) (c .before .check-holds .result) (omega arith) (i .6) (i .4) (l .inv .2) (c .before .check-holds .ensures) (c .if2 .left))
 
 restore-requires : tie.Need-restore-requires Inv-loop μ-loop Inv-schedules μ-schedules
 restore-requires c κs = search grids
@@ -121,12 +121,12 @@ schedules-again-2 c =
       i .2,
       i .3,
       i .4,
-      c .before .restore .ensures ∙ restored-run (a .table .now) (a .t6) (a .near) (a .far) (o .y) disk (i .3) (l .inv .1),
+      c .before .restore .ensures ∙ restored-run (a .table .now) (a .t5) (a .near) (a .far) (o .y) disk (i .3) (l .inv .1),
       i .6,
       gains-more _ _ _ _ _ _ _ (o .y) (o .counts) (i .7) (c .before .before .before .before .before .before .before .before .before .before .joined .result) (c .before .before .before .before .before .before .before .before .before .is-valid .result) (eqb (l .k) (a .m)) disk _ (c .before .before .before .before .before .before .before .before .before .before .joined .ensures) (c .before .before .before .before .before .before .before .before .before .is-valid .ensures) (c .before .before .before .before .before .before .before .before .if1 .left) (l .inv .1)
           (either (c .before .before .before .before .loop-test .came)
-          (λ w. passed-all disk (a .t10) (a .m) (l .k) (l .inv .0) (omega arith) (l .inv .2))
-          (λ w. passed-some disk (a .t10) (a .m) (l .k) (Range 0) (w .3 .result) (omega arith) (i .6) (i .4) (w .3 .ensures) (w .4 .taken)))
+          (λ w. passed-all disk (a .t9) (a .m) (l .k) (l .inv .0) (omega arith) (l .inv .2))
+          (λ w. passed-some disk (a .t9) (a .m) (l .k) (Range 0) (w .3 .result) (omega arith) (i .6) (i .4) (w .3 .ensures) (w .4 .taken)))
           (c .tally .ensures),
     )
 

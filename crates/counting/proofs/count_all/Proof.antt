@@ -34,7 +34,7 @@ count-after-requires c κs =
     let l = c .before .before .before .loop in
     let i = l .inv in (
       (grid-valid _ _ _ _ _ _ _ (l .x) (l .j) (i .5) _ (i .1) (omega arith) (i .2) (i .4), grid-bad _ _ _ _ _ _ _ (l .x) (l .j) (i .5) _ (i .1) (omega arith) (i .2) (i .4)),
-      ((omega arith, i .2), (omega arith, (i .4, omega arith))),
+      ((omega arith, omega arith), (i .4, omega arith)),
     )
 
 add-x : tie.Need-add-x Inv-loop μ-loop

@@ -1,17 +1,13 @@
--- `counting::joined` meets its contract. Its product is small.
-use borrow.Author.Needs.{needs}
+-- `counting::joined` meets its contract. The shifted flags begin behind those of x, so that `|` adds them.
 use Rattle.counting.proofs.GridLaws.{grids}
 use Rattle.counting.proofs.joined.Statement.{statement}
 use Rattle.counting.proofs.joined.Tie as tie
 
-mul-result : tie.Need-mul-result
-mul-result c = search grids
-
-add-result : tie.Need-add-result
-add-result c = search grids
+shl-result : tie.Need-shl-result
+shl-result c = search grids
 
 returns : tie.Need-returns
-returns c = search needs
+returns c = search grids
 
 pub joined-spec : {M : Type 1} → statement M
-joined-spec = tie.close (tie.spec mul-result add-result returns)
+joined-spec = tie.close (tie.spec shl-result returns)

@@ -2,8 +2,6 @@
 use Rattle.counting.proofs.CountLaws.{counts}
 use Rattle.counting.proofs.tally.Statement.{statement}
 use Rattle.counting.proofs.tally.Tie as tie
-use Rattle.counting.proofs.tally.Reads as reads
-use Rattle.counting.proofs.tally.Lts as lts
 
 add-t5 : tie.Need-add-t5
 add-t5 c = search counts

@@ -3,8 +3,6 @@ use Rattle.disks.specs.Packed.{unpacked}
 use borrow.Author.Needs.{needs}
 use Rattle.disks.proofs.address_of.Statement.{statement}
 use Rattle.disks.proofs.address_of.Tie as tie
-use Rattle.disks.proofs.address_of.Reads as reads
-use Rattle.disks.proofs.address_of.Lts as lts
 
 returns : tie.Need-returns
 unfolding unpacked

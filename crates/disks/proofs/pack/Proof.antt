@@ -2,8 +2,6 @@
 use Rattle.disks.proofs.Steps.{steps}
 use Rattle.disks.proofs.pack.Statement.{statement}
 use Rattle.disks.proofs.pack.Tie as tie
-use Rattle.disks.proofs.pack.Reads as reads
-use Rattle.disks.proofs.pack.Lts as lts
 
 cast-result : tie.Need-cast-result
 cast-result c = search steps

@@ -3,9 +3,6 @@ use Prim.Native.Nat.{_-_, _≤_}
 use Rattle.disks.proofs.RestoreLaws.{restoring, Restoring}
 use Rattle.disks.proofs.restore.Statement.{statement}
 use Rattle.disks.proofs.restore.Tie as tie
-use Rattle.disks.proofs.restore.Reads as reads
-use Rattle.disks.proofs.restore.Lts as lts
-use Rattle.disks.proofs.address_of.Reads as address-of-reads
 
 abbrev Inv-loop : tie.InvT-loop
 Inv-loop disk₀ base table from n i₀ disk i = (i ≤ n) × Restoring table base disk₀ from n i disk

@@ -2,9 +2,6 @@
 use Rattle.disks.proofs.Steps.{steps}
 use Rattle.disks.proofs.store_if.Statement.{statement}
 use Rattle.disks.proofs.store_if.Tie as tie
-use Rattle.disks.proofs.store_if.Reads as reads
-use Rattle.disks.proofs.store_if.Lts as lts
-use Rattle.disks.proofs.address_of.Reads as address-of-reads
 
 cast-disk : tie.Need-cast-disk
 cast-disk c = search steps

@@ -4,9 +4,6 @@ use Rattle.format.specs.File.{bodyFault, bodyLength}
 use Rattle.relation.proofs.Cases.{cases}
 use Rattle.faults.proofs.body_fault.Statement.{statement}
 use Rattle.faults.proofs.body_fault.Tie as tie
-use Rattle.faults.proofs.body_fault.Reads as reads
-use Rattle.faults.proofs.body_fault.Lts as lts
-use Rattle.faults.proofs.rule_fault.Reads as rule-fault-reads
 
 rule-fault-requires : tie.Need-rule-fault-requires
 unfolding bodyLength

@@ -3,14 +3,6 @@ use Rattle.faults.proofs.FaultLaws.{faults}
 use borrow.Author.Needs.{needs}
 use Rattle.faults.proofs.fault.Statement.{statement}
 use Rattle.faults.proofs.fault.Tie as tie
-use Rattle.faults.proofs.fault.Reads as reads
-use Rattle.faults.proofs.fault.Lts as lts
-use Rattle.faults.proofs.body_fault.Reads as body-fault-reads
-use Rattle.format.proofs.body_length.Reads as body-length-reads
-use Rattle.format.proofs.half_at.Reads as half-at-reads
-use Rattle.faults.proofs.is_tag.Reads as is-tag-reads
-use Rattle.faults.proofs.out_of_order.Reads as out-of-order-reads
-use Rattle.faults.proofs.over_limit.Reads as over-limit-reads
 
 sub-left : tie.Need-sub-left
 sub-left c = search needs

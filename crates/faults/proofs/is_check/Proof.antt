@@ -3,8 +3,6 @@ use Rattle.format.specs.File.{isCheck}
 use Rattle.relation.proofs.Cases.{cases}
 use Rattle.faults.proofs.is_check.Statement.{statement}
 use Rattle.faults.proofs.is_check.Tie as tie
-use Rattle.faults.proofs.is_check.Reads as reads
-use Rattle.faults.proofs.is_check.Lts as lts
 
 returns : tie.Need-returns
 unfolding isCheck

@@ -3,8 +3,6 @@ use Rattle.format.specs.File.{isTag}
 use Rattle.relation.proofs.Cases.{cases}
 use Rattle.faults.proofs.is_tag.Statement.{statement}
 use Rattle.faults.proofs.is_tag.Tie as tie
-use Rattle.faults.proofs.is_tag.Reads as reads
-use Rattle.faults.proofs.is_tag.Lts as lts
 
 returns : tie.Need-returns
 unfolding isTag

@@ -3,8 +3,6 @@ use Rattle.format.specs.File.{outOfOrder}
 use Rattle.relation.proofs.Cases.{cases}
 use Rattle.faults.proofs.out_of_order.Statement.{statement}
 use Rattle.faults.proofs.out_of_order.Tie as tie
-use Rattle.faults.proofs.out_of_order.Reads as reads
-use Rattle.faults.proofs.out_of_order.Lts as lts
 
 returns : tie.Need-returns
 unfolding outOfOrder

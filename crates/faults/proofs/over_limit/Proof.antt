@@ -4,9 +4,6 @@ use Rattle.relation.proofs.Cases.{calls}
 use borrow.Author.Needs.{needs}
 use Rattle.faults.proofs.over_limit.Statement.{statement}
 use Rattle.faults.proofs.over_limit.Tie as tie
-use Rattle.faults.proofs.over_limit.Reads as reads
-use Rattle.faults.proofs.over_limit.Lts as lts
-use Rattle.faults.proofs.over_test.Reads as over-test-reads
 
 returns : tie.Need-returns
 unfolding overLimit

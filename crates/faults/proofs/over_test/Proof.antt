@@ -4,9 +4,6 @@ use Rattle.relation.proofs.Cases.{calls}
 use borrow.Author.Needs.{needs}
 use Rattle.faults.proofs.over_test.Statement.{statement}
 use Rattle.faults.proofs.over_test.Tie as tie
-use Rattle.faults.proofs.over_test.Reads as reads
-use Rattle.faults.proofs.over_test.Lts as lts
-use Rattle.faults.proofs.is_check.Reads as is-check-reads
 
 returns : tie.Need-returns
 unfolding overTest

@@ -4,8 +4,6 @@ use Rattle.relation.proofs.Cases.{cases}
 use borrow.Author.Needs.{needs}
 use Rattle.faults.proofs.rule_fault.Statement.{statement}
 use Rattle.faults.proofs.rule_fault.Tie as tie
-use Rattle.faults.proofs.rule_fault.Reads as reads
-use Rattle.faults.proofs.rule_fault.Lts as lts
 
 shared-slice-read-if1 : tie.Need-shared-slice-read-if1
 shared-slice-read-if1 c = search needs

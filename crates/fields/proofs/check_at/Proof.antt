@@ -3,10 +3,6 @@ use Rattle.fields.proofs.FieldLaws.{fields}
 use borrow.Author.Needs.{needs}
 use Rattle.fields.proofs.check_at.Statement.{statement}
 use Rattle.fields.proofs.check_at.Tie as tie
-use Rattle.fields.proofs.check_at.Reads as reads
-use Rattle.fields.proofs.check_at.Lts as lts
-use Rattle.format.proofs.body_length.Reads as body-length-reads
-use Rattle.fields.proofs.read_check.Reads as read-check-reads
 
 shared-slice-read-tag : tie.Need-shared-slice-read-tag
 shared-slice-read-tag c = search needs

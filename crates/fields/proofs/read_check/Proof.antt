@@ -2,9 +2,6 @@
 use Rattle.fields.proofs.FieldLaws.{fields}
 use Rattle.fields.proofs.read_check.Statement.{statement}
 use Rattle.fields.proofs.read_check.Tie as tie
-use Rattle.fields.proofs.read_check.Reads as reads
-use Rattle.fields.proofs.read_check.Lts as lts
-use Rattle.fields.proofs.read_pair.Reads as read-pair-reads
 
 shared-slice-read-t5 : tie.Need-shared-slice-read-t5
 shared-slice-read-t5 c = search fields

@@ -3,9 +3,6 @@ use Rattle.format.specs.File.{checkOf}
 use borrow.Author.Needs.{needs}
 use Rattle.fields.proofs.read_pair.Statement.{statement}
 use Rattle.fields.proofs.read_pair.Tie as tie
-use Rattle.fields.proofs.read_pair.Reads as reads
-use Rattle.fields.proofs.read_pair.Lts as lts
-use Rattle.format.proofs.word_at.Reads as word-at-reads
 
 shared-slice-read-t3 : tie.Need-shared-slice-read-t3
 shared-slice-read-t3 c = search needs

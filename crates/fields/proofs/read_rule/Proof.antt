@@ -4,8 +4,6 @@ use Rattle.format.specs.File.{ruleOf}
 use borrow.Author.Needs.{needs}
 use Rattle.fields.proofs.read_rule.Statement.{statement}
 use Rattle.fields.proofs.read_rule.Tie as tie
-use Rattle.fields.proofs.read_rule.Reads as reads
-use Rattle.fields.proofs.read_rule.Lts as lts
 
 shared-slice-read-t3 : tie.Need-shared-slice-read-t3
 shared-slice-read-t3 c = search needs

@@ -3,9 +3,6 @@ use Rattle.format.specs.File.{writeOf}
 use borrow.Author.Needs.{needs}
 use Rattle.fields.proofs.read_write.Statement.{statement}
 use Rattle.fields.proofs.read_write.Tie as tie
-use Rattle.fields.proofs.read_write.Reads as reads
-use Rattle.fields.proofs.read_write.Lts as lts
-use Rattle.format.proofs.word_at.Reads as word-at-reads
 
 shared-slice-read-t3 : tie.Need-shared-slice-read-t3
 shared-slice-read-t3 c = search needs

@@ -3,8 +3,6 @@ use Rattle.format.specs.File.{bodyLength}
 use Rattle.relation.proofs.Cases.{cases}
 use Rattle.format.proofs.body_length.Statement.{statement}
 use Rattle.format.proofs.body_length.Tie as tie
-use Rattle.format.proofs.body_length.Reads as reads
-use Rattle.format.proofs.body_length.Lts as lts
 
 returns : tie.Need-returns
 unfolding bodyLength

@@ -4,9 +4,6 @@ use Rattle.format.specs.Bytes.{half}
 use borrow.Author.Needs.{needs}
 use Rattle.format.proofs.half_at.Statement.{statement}
 use Rattle.format.proofs.half_at.Tie as tie
-use Rattle.format.proofs.half_at.Reads as reads
-use Rattle.format.proofs.half_at.Lts as lts
-use Rattle.format.proofs.wide.Reads as wide-reads
 
 shared-slice-read-wide : tie.Need-shared-slice-read-wide
 shared-slice-read-wide c = search needs

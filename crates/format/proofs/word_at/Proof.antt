@@ -3,9 +3,6 @@ use Rattle.format.proofs.ByteLaws.{bytes}
 use borrow.Author.Needs.{needs}
 use Rattle.format.proofs.word_at.Statement.{statement}
 use Rattle.format.proofs.word_at.Tie as tie
-use Rattle.format.proofs.word_at.Reads as reads
-use Rattle.format.proofs.word_at.Lts as lts
-use Rattle.format.proofs.half_at.Reads as half-at-reads
 
 half-at-requires : tie.Need-half-at-requires
 half-at-requires c κs = search needs

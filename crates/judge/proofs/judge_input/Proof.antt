@@ -5,10 +5,6 @@ use lib.Seq.{length-take-le}
 use borrow.Author.Needs.{needs}
 use Rattle.judge.proofs.judge_input.Statement.{statement}
 use Rattle.judge.proofs.judge_input.Tie as tie
-use Rattle.judge.proofs.judge_input.Reads as reads
-use Rattle.judge.proofs.judge_input.Lts as lts
-use Rattle.io.proofs.write_all.Reads as write-all-reads
-use Rattle.printing.proofs.judge_lines.Reads as judge-lines-reads
 
 slice-aggregate-write-all : tie.Need-slice-aggregate-write-all
 slice-aggregate-write-all c = search needs
@@ -19,11 +15,8 @@ write-all-requires c κs = search needs
 returns : tie.Need-returns
 returns c = search needs
 
-slice-aggregate-judge-lines : tie.Need-slice-aggregate-judge-lines
-slice-aggregate-judge-lines c = sym (length-take-le _ _ (omega arith))
-
-judge-lines-requires : tie.Need-judge-lines-requires
-judge-lines-requires c κs = search needs
+render-requires : tie.Need-render-requires
+render-requires c κs = search needs
 
 slice-reshare-prefix-write-all : tie.Need-slice-reshare-prefix-write-all
 slice-reshare-prefix-write-all c = search needs
@@ -47,8 +40,7 @@ judge-input-spec =
     slice-aggregate-write-all
     write-all-requires
     returns
-    slice-aggregate-judge-lines
-    judge-lines-requires
+    render-requires
     slice-reshare-prefix-write-all
     slice-aggregate-write-all-2
     write-all-requires-2

@@ -1,34 +1,29 @@
--- `judging::decide` meets its contract: the gate's refusal, or the verdict on the test found.
+-- `judging::decide` meets its contract: the refusal, or the verdict on the test found.
 use native.Mathlib.Omega.{arith}
-use Rattle.judging.proofs.JudgeLaws.{judges, open-rules, open-long, open-inside}
+use Rattle.judging.proofs.JudgeLaws.{judges, found-rules, found-long, found-inside}
 use borrow.Author.Needs.{needs}
 use Rattle.judging.proofs.decide.Statement.{statement}
 use Rattle.judging.proofs.decide.Tie as tie
-use Rattle.judging.proofs.decide.Reads as reads
-use Rattle.judging.proofs.decide.Lts as lts
-use Rattle.judging.proofs.admit.Reads as admit-reads
-use Rattle.judging.proofs.decide_test.Reads as decide-test-reads
-use Rattle.loading.proofs.file_rules.Reads as file-rules-reads
 
-admit-requires : tie.Need-admit-requires
-admit-requires c κs = search needs
+select-requires : tie.Need-select-requires
+select-requires c κs = search needs
 
 enum-known-rules : tie.Need-enum-known-rules
 enum-known-rules c = search needs
 
 file-rules-requires : tie.Need-file-rules-requires
 file-rules-requires c κs =
-    let g = c .before .before .before .admit .ensures in
+    let g = c .before .before .before .select .ensures in
     let e = c .before .rules .given .1 in
-    (open-rules _ _ _ g _ _ e, open-long _ _ _ g _ _ e)
+    (found-rules _ _ _ g _ _ e, found-long _ _ _ g _ _ e)
 
 decide-test-requires : tie.Need-decide-test-requires
 decide-test-requires c κs =
-    let g = c .before .before .before .before .admit .ensures in
+    let g = c .before .before .before .before .select .ensures in
     let e = c .before .before .rules .given .1 in
-    let l = open-rules _ _ _ g _ _ e in
+    let l = found-rules _ _ _ g _ _ e in
     let n = c .file-rules .ensures .1 in
-    (omega arith, open-inside _ _ _ g _ _ e)
+    (omega arith, found-inside _ _ _ g _ _ e)
 
 enum-known-number : tie.Need-enum-known-number
 enum-known-number c = search needs
@@ -43,7 +38,7 @@ pub decide-spec : {M : Type 1} → statement M
 decide-spec =
     tie.close
     (tie.spec
-    admit-requires
+    select-requires
     enum-known-rules
     file-rules-requires
     decide-test-requires

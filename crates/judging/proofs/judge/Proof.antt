@@ -1,34 +1,29 @@
--- `judging::judge` meets its contract: the gate's refusal, or the counts of the test found.
+-- `judging::judge` meets its contract: the refusal, or the counts of the test found.
 use native.Mathlib.Omega.{arith}
-use Rattle.judging.proofs.JudgeLaws.{judges, open-rules, open-long, open-inside}
+use Rattle.judging.proofs.JudgeLaws.{judges, found-rules, found-long, found-inside}
 use borrow.Author.Needs.{needs}
 use Rattle.judging.proofs.judge.Statement.{statement}
 use Rattle.judging.proofs.judge.Tie as tie
-use Rattle.judging.proofs.judge.Reads as reads
-use Rattle.judging.proofs.judge.Lts as lts
-use Rattle.judging.proofs.admit.Reads as admit-reads
-use Rattle.judging.proofs.judge_test.Reads as judge-test-reads
-use Rattle.loading.proofs.file_rules.Reads as file-rules-reads
 
-admit-requires : tie.Need-admit-requires
-admit-requires c κs = search needs
+select-requires : tie.Need-select-requires
+select-requires c κs = search needs
 
 enum-known-rules : tie.Need-enum-known-rules
 enum-known-rules c = search needs
 
 file-rules-requires : tie.Need-file-rules-requires
 file-rules-requires c κs =
-    let g = c .before .before .before .admit .ensures in
+    let g = c .before .before .before .select .ensures in
     let e = c .before .rules .given .1 in
-    (open-rules _ _ _ g _ _ e, open-long _ _ _ g _ _ e)
+    (found-rules _ _ _ g _ _ e, found-long _ _ _ g _ _ e)
 
 judge-test-requires : tie.Need-judge-test-requires
 judge-test-requires c κs =
-    let g = c .before .before .before .before .admit .ensures in
+    let g = c .before .before .before .before .select .ensures in
     let e = c .before .before .rules .given .1 in
-    let l = open-rules _ _ _ g _ _ e in
+    let l = found-rules _ _ _ g _ _ e in
     let n = c .file-rules .ensures .1 in
-    (omega arith, open-inside _ _ _ g _ _ e)
+    (omega arith, found-inside _ _ _ g _ _ e)
 
 enum-known-number : tie.Need-enum-known-number
 enum-known-number c = search needs
@@ -43,7 +38,7 @@ pub judge-spec : {M : Type 1} → statement M
 judge-spec =
     tie.close
     (tie.spec
-    admit-requires
+    select-requires
     enum-known-rules
     file-rules-requires
     judge-test-requires

@@ -6,10 +6,6 @@ use Rattle.format.specs.Scan.{checkPlace, checksAt}
 use Rattle.loading.proofs.Steps.{steps}
 use Rattle.loading.proofs.file_checks.Statement.{statement}
 use Rattle.loading.proofs.file_checks.Tie as tie
-use Rattle.loading.proofs.file_checks.Reads as reads
-use Rattle.loading.proofs.file_checks.Lts as lts
-use Rattle.fields.proofs.check_at.Reads as check-at-reads
-use Rattle.format.proofs.end_of.Reads as end-of-reads
 
 abbrev Inv-loop : tie.InvT-loop
 Inv-loop file from n checks₀ at₀ i₀ checks at i = (i ≤ n) × (length checks ≡ 16) × (at ≡ checkPlace file from i) × (take i checks ≡ checksAt file from i)

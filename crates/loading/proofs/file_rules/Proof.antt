@@ -6,9 +6,6 @@ use Rattle.format.specs.Scan.{rulesAt}
 use Rattle.loading.proofs.Steps.{steps}
 use Rattle.loading.proofs.file_rules.Statement.{statement}
 use Rattle.loading.proofs.file_rules.Tie as tie
-use Rattle.loading.proofs.file_rules.Reads as reads
-use Rattle.loading.proofs.file_rules.Lts as lts
-use Rattle.fields.proofs.rule_at.Reads as rule-at-reads
 
 abbrev Inv-loop : tie.InvT-loop
 Inv-loop file n items₀ i₀ items i = (i ≤ n) × (length items ≡ 32) × (take i items ≡ rulesAt file i)

@@ -3,9 +3,6 @@ use Rattle.log.proofs.Steps.{gets}
 use borrow.Author.Needs.{needs}
 use Rattle.log.proofs.block_at.Statement.{statement}
 use Rattle.log.proofs.block_at.Tie as tie
-use Rattle.log.proofs.block_at.Reads as reads
-use Rattle.log.proofs.block_at.Lts as lts
-use Rattle.format.proofs.word_at.Reads as word-at-reads
 
 mul-word-at : tie.Need-mul-word-at
 mul-word-at c = search needs

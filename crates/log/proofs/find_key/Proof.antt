@@ -5,11 +5,6 @@ use Rattle.log.specs.Get.{getFrom}
 use Rattle.log.proofs.Steps.{gets}
 use Rattle.log.proofs.find_key.Statement.{statement}
 use Rattle.log.proofs.find_key.Tie as tie
-use Rattle.log.proofs.find_key.Reads as reads
-use Rattle.log.proofs.find_key.Lts as lts
-use Rattle.checks.proofs.second_of.Reads as second-of-reads
-use Rattle.log.proofs.block_at.Reads as block-at-reads
-use Rattle.log.proofs.has_key.Reads as has-key-reads
 
 abbrev Inv-loop : tie.InvT-loop
 Inv-loop disk key head tail a₀ a = (head ≤ a) × (a ≤ tail) × (getFrom disk key head (a - head) ≡ getFrom disk key head (tail - head))

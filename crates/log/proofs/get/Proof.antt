@@ -3,13 +3,6 @@ use Rattle.log.proofs.Steps.{gets}
 use borrow.Author.Needs.{needs}
 use Rattle.log.proofs.get.Statement.{statement}
 use Rattle.log.proofs.get.Tie as tie
-use Rattle.log.proofs.get.Reads as reads
-use Rattle.log.proofs.get.Lts as lts
-use Rattle.checks.proofs.first_of.Reads as first-of-reads
-use Rattle.checks.proofs.second_of.Reads as second-of-reads
-use Rattle.log.proofs.block_at.Reads as block-at-reads
-use Rattle.log.proofs.find_key.Reads as find-key-reads
-use Rattle.model.proofs.refuse.Reads as refuse-reads
 
 refuse-requires : tie.Need-refuse-requires
 refuse-requires c κs = search needs

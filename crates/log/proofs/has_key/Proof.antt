@@ -3,10 +3,6 @@ use Rattle.log.proofs.Steps.{gets}
 use borrow.Author.Needs.{needs}
 use Rattle.log.proofs.has_key.Statement.{statement}
 use Rattle.log.proofs.has_key.Tie as tie
-use Rattle.log.proofs.has_key.Reads as reads
-use Rattle.log.proofs.has_key.Lts as lts
-use Rattle.checks.proofs.first_of.Reads as first-of-reads
-use Rattle.log.proofs.block_at.Reads as block-at-reads
 
 block-at-requires : tie.Need-block-at-requires
 block-at-requires c κs = search needs

@@ -6,7 +6,7 @@ use lib.ListN.{length, take}
 use Rattle.disks.specs.Packed.{heldFrom}
 use Rattle.disks.proofs.RestoreLaws.{restored-run}
 use Rattle.schedules.proofs.TotalLaws.{ran}
-use Rattle.marking.specs.Table.{Bounded, spoilt, Adds}
+use Rattle.marking.specs.Table.{Bounded, inconsistentSet, Adds}
 use Rattle.marking.proofs.MarkLaws.{adds-more}
 use Rattle.marking.proofs.TableSteps.{marking}
 use Rattle.marking.proofs.mark.Statement.{statement}
@@ -15,7 +15,7 @@ use Rattle.marking.proofs.mark.Tie as tie
 abbrev Inv-loop : tie.InvT-loop
 Inv-loop table₀ writes n checks m allowed base total disk₀ s₀ table disk s =
     (s ≤ total) × (total ≡ 2 ^ n) × (total ≤ 4096) × (length table ≡ 65536) × (length base ≡ 256) × (disk ≡ base) × Bounded allowed n
-    × Adds (spoilt (take m checks) (heldFrom writes 0 n) base allowed s) table₀ table
+    × Adds (inconsistentSet (take m checks) (heldFrom writes 0 n) base allowed s) table₀ table
 
 abbrev μ-loop : tie.MeasureT-loop
 μ-loop table₀ writes n checks m allowed base total disk₀ s₀ table disk s = total - s

@@ -4,13 +4,6 @@ use Rattle.printing.proofs.TextLaws.{texts, rules-fit, refusal-fits}
 use borrow.Author.Needs.{needs}
 use Rattle.printing.proofs.judge_lines.Statement.{statement}
 use Rattle.printing.proofs.judge_lines.Tie as tie
-use Rattle.printing.proofs.judge_lines.Reads as reads
-use Rattle.printing.proofs.judge_lines.Lts as lts
-use Rattle.loading.proofs.file_rules.Reads as file-rules-reads
-use Rattle.printing.proofs.put_cases.Reads as put-cases-reads
-use Rattle.printing.proofs.put_refused.Reads as put-refused-reads
-use Rattle.reader.proofs.read.Reads as read-reads
-use Rattle.cycles.proofs.is_cyclic.Reads as is-cyclic-reads
 
 read-requires : tie.Need-read-requires
 read-requires c κs = search needs

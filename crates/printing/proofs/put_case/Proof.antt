@@ -3,10 +3,6 @@ use Rattle.printing.proofs.TextLaws.{texts}
 use borrow.Author.Needs.{needs}
 use Rattle.printing.proofs.put_case.Statement.{statement}
 use Rattle.printing.proofs.put_case.Tie as tie
-use Rattle.printing.proofs.put_case.Reads as reads
-use Rattle.printing.proofs.put_case.Lts as lts
-use Rattle.judging.proofs.judge.Reads as judge-reads
-use Rattle.printing.proofs.put_line.Reads as put-line-reads
 
 judge-requires : tie.Need-judge-requires
 judge-requires c κs = search needs

@@ -7,9 +7,6 @@ use Rattle.printing.specs.Lines.{caseLines}
 use Rattle.printing.proofs.TextLaws.{texts}
 use Rattle.printing.proofs.put_cases.Statement.{statement}
 use Rattle.printing.proofs.put_cases.Tie as tie
-use Rattle.printing.proofs.put_cases.Reads as reads
-use Rattle.printing.proofs.put_cases.Lts as lts
-use Rattle.printing.proofs.put_case.Reads as put-case-reads
 
 abbrev Inv-loop : tie.InvT-loop
 Inv-loop out₀ file tests at₀ i₀ out at i = (i ≤ tests) × (at ≤ 24 * i) × (length out ≡ length out₀) × Wrote out₀ 0 (caseLines file i) out at

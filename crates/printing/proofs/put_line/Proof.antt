@@ -1,14 +1,8 @@
 -- `printing::put_line` meets its contract: its parts, written one behind the other, are the line.
 use native.Mathlib.Omega.{arith}
 use Rattle.printing.proofs.LineLaws.{line-steps, line-wrote}
-use borrow.Author.Needs.{needs}
 use Rattle.printing.proofs.put_line.Statement.{statement}
 use Rattle.printing.proofs.put_line.Tie as tie
-use Rattle.printing.proofs.put_line.Reads as reads
-use Rattle.printing.proofs.put_line.Lts as lts
-use Rattle.writing.proofs.put.Reads as put-reads
-use Rattle.printing.proofs.put_number.Reads as put-number-reads
-use Rattle.printing.proofs.put_verdict.Reads as put-verdict-reads
 
 put-number-requires : tie.Need-put-number-requires
 put-number-requires c κs = search line-steps

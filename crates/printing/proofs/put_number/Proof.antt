@@ -1,11 +1,7 @@
 -- `printing::put_number` meets its contract: a number below 100,000 has at most five digits.
 use Rattle.printing.proofs.LineLaws.{line-steps}
-use borrow.Author.Needs.{needs}
 use Rattle.printing.proofs.put_number.Statement.{statement}
 use Rattle.printing.proofs.put_number.Tie as tie
-use Rattle.printing.proofs.put_number.Reads as reads
-use Rattle.printing.proofs.put_number.Lts as lts
-use Rattle.printing.proofs.put_decimal.Reads as put-decimal-reads
 
 put-decimal-requires : tie.Need-put-decimal-requires
 put-decimal-requires c κs = search line-steps

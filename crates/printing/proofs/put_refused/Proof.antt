@@ -1,14 +1,8 @@
 -- `printing::put_refused` meets its contract: its parts, written one behind the other, are the line.
 use native.Mathlib.Omega.{arith}
 use Rattle.printing.proofs.LineLaws.{line-steps, refused-wrote}
-use borrow.Author.Needs.{needs}
 use Rattle.printing.proofs.put_refused.Statement.{statement}
 use Rattle.printing.proofs.put_refused.Tie as tie
-use Rattle.printing.proofs.put_refused.Reads as reads
-use Rattle.printing.proofs.put_refused.Lts as lts
-use Rattle.writing.proofs.put.Reads as put-reads
-use Rattle.printing.proofs.put_number.Reads as put-number-reads
-use Rattle.printing.proofs.put_text.Reads as put-text-reads
 
 slice-aggregate-put-text : tie.Need-slice-aggregate-put-text
 slice-aggregate-put-text c = search line-steps

@@ -6,8 +6,6 @@ use Rattle.writing.specs.Writing.{Wrote}
 use Rattle.printing.proofs.WriteLaws.{writes}
 use Rattle.printing.proofs.put_text.Statement.{statement}
 use Rattle.printing.proofs.put_text.Tie as tie
-use Rattle.printing.proofs.put_text.Reads as reads
-use Rattle.printing.proofs.put_text.Lts as lts
 
 abbrev Inv-loop : tie.InvT-loop
 Inv-loop out₀ at text i₀ out i = (i ≤ length text) × (length out ≡ length out₀) × Wrote out₀ at (take i text) out (at + i)

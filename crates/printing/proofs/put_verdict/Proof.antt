@@ -1,11 +1,7 @@
 -- `printing::put_verdict` meets its contract, one law for each text.
 use Rattle.printing.proofs.LineLaws.{line-steps}
-use borrow.Author.Needs.{needs}
 use Rattle.printing.proofs.put_verdict.Statement.{statement}
 use Rattle.printing.proofs.put_verdict.Tie as tie
-use Rattle.printing.proofs.put_verdict.Reads as reads
-use Rattle.printing.proofs.put_verdict.Lts as lts
-use Rattle.printing.proofs.put_text.Reads as put-text-reads
 
 slice-aggregate-put-text : tie.Need-slice-aggregate-put-text
 slice-aggregate-put-text c = search line-steps

@@ -4,9 +4,6 @@ use Rattle.puts.proofs.PutSteps.{end-wrote}
 use borrow.Author.Needs.{needs}
 use Rattle.puts.proofs.put_end.Statement.{statement}
 use Rattle.puts.proofs.put_end.Tie as tie
-use Rattle.puts.proofs.put_end.Reads as reads
-use Rattle.puts.proofs.put_end.Lts as lts
-use Rattle.writing.proofs.put.Reads as put-reads
 
 put-requires : tie.Need-put-requires
 put-requires c κs = search needs

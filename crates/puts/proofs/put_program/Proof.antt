@@ -7,10 +7,6 @@ use Rattle.puts.specs.Fields.{programFields}
 use Rattle.puts.proofs.PutSteps.{putting}
 use Rattle.puts.proofs.put_program.Statement.{statement}
 use Rattle.puts.proofs.put_program.Tie as tie
-use Rattle.puts.proofs.put_program.Reads as reads
-use Rattle.puts.proofs.put_program.Lts as lts
-use Rattle.format.proofs.word_at.Reads as word-at-reads
-use Rattle.puts.proofs.put_put.Reads as put-put-reads
 
 abbrev Inv-loop : tie.InvT-loop
 Inv-loop out₀ from tag program n tail epoch at₀ i₀ out at i = (i ≤ n) × (length out ≡ length out₀) × (at ≡ from + 26 * i) × Wrote out₀ from (programFields tag tail epoch program i) out at

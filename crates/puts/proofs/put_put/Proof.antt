@@ -4,9 +4,6 @@ use Rattle.puts.proofs.PutSteps.{put-wrote}
 use borrow.Author.Needs.{needs}
 use Rattle.puts.proofs.put_put.Statement.{statement}
 use Rattle.puts.proofs.put_put.Tie as tie
-use Rattle.puts.proofs.put_put.Reads as reads
-use Rattle.puts.proofs.put_put.Lts as lts
-use Rattle.puts.proofs.put_write.Reads as put-write-reads
 
 add-t11 : tie.Need-add-t11
 add-t11 c = search needs

@@ -4,10 +4,6 @@ use Rattle.puts.proofs.PutSteps.{write-wrote}
 use borrow.Author.Needs.{needs}
 use Rattle.puts.proofs.put_write.Statement.{statement}
 use Rattle.puts.proofs.put_write.Tie as tie
-use Rattle.puts.proofs.put_write.Reads as reads
-use Rattle.puts.proofs.put_write.Lts as lts
-use Rattle.writing.proofs.put.Reads as put-reads
-use Rattle.writing.proofs.put_word.Reads as put-word-reads
 
 put-requires : tie.Need-put-requires
 put-requires c κs = search needs

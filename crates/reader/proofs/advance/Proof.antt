@@ -3,11 +3,6 @@ use Rattle.format.specs.Scan.{advanced}
 use borrow.Author.Needs.{needs}
 use Rattle.reader.proofs.advance.Statement.{statement}
 use Rattle.reader.proofs.advance.Tie as tie
-use Rattle.reader.proofs.advance.Reads as reads
-use Rattle.reader.proofs.advance.Lts as lts
-use Rattle.reader.proofs.begin_at.Reads as begin-at-reads
-use Rattle.reader.proofs.count_field.Reads as count-field-reads
-use Rattle.reader.proofs.find_test.Reads as find-test-reads
 
 count-field-requires : tie.Need-count-field-requires
 count-field-requires c κs = search needs

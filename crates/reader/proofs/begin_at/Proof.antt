@@ -1,11 +1,8 @@
 -- `reader::begin_at` meets its contract, by the cases of its definition.
 use Rattle.format.specs.Scan.{testFrom}
 use Rattle.relation.proofs.Cases.{cases}
-use borrow.Author.Needs.{needs}
 use Rattle.reader.proofs.begin_at.Statement.{statement}
 use Rattle.reader.proofs.begin_at.Tie as tie
-use Rattle.reader.proofs.begin_at.Reads as reads
-use Rattle.reader.proofs.begin_at.Lts as lts
 
 returns : tie.Need-returns
 unfolding testFrom

@@ -4,8 +4,6 @@ use Rattle.relation.proofs.Cases.{cases}
 use borrow.Author.Needs.{needs}
 use Rattle.reader.proofs.count_field.Statement.{statement}
 use Rattle.reader.proofs.count_field.Tie as tie
-use Rattle.reader.proofs.count_field.Reads as reads
-use Rattle.reader.proofs.count_field.Lts as lts
 
 add-t4 : tie.Need-add-t4
 add-t4 c = search needs

@@ -1,11 +1,8 @@
 -- `reader::end_scan` meets its contract, by the cases of its definition.
 use Rattle.format.specs.Scan.{ended}
 use Rattle.relation.proofs.Cases.{cases}
-use borrow.Author.Needs.{needs}
 use Rattle.reader.proofs.end_scan.Statement.{statement}
 use Rattle.reader.proofs.end_scan.Tie as tie
-use Rattle.reader.proofs.end_scan.Reads as reads
-use Rattle.reader.proofs.end_scan.Lts as lts
 
 returns : tie.Need-returns
 unfolding ended

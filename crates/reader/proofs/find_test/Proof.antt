@@ -1,11 +1,8 @@
 -- `reader::find_test` meets its contract, by the cases of its definition.
 use Rattle.format.specs.Scan.{found}
 use Rattle.relation.proofs.Cases.{cases}
-use borrow.Author.Needs.{needs}
 use Rattle.reader.proofs.find_test.Statement.{statement}
 use Rattle.reader.proofs.find_test.Tie as tie
-use Rattle.reader.proofs.find_test.Reads as reads
-use Rattle.reader.proofs.find_test.Lts as lts
 
 returns : tie.Need-returns
 unfolding found

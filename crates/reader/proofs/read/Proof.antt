@@ -1,5 +1,4 @@
 -- `reader::read` meets its contract. The invariant, `Going`: from here on the scan goes as the definition does from the front.
-use borrow.Author.Needs.{needs}
 use Prim.Native.Nat.{_-_}
 use lib.ListN.{length}
 use Rattle.format.specs.Scan.{started}
@@ -7,12 +6,6 @@ use Rattle.reader.proofs.ReadLaws.{Going, reads-on}
 use Rattle.reader.proofs.TellsLaws.{tells-of}
 use Rattle.reader.proofs.read.Statement.{statement}
 use Rattle.reader.proofs.read.Tie as tie
-use Rattle.reader.proofs.read.Reads as reads
-use Rattle.reader.proofs.read.Lts as lts
-use Rattle.reader.proofs.advance.Reads as advance-reads
-use Rattle.format.proofs.body_length.Reads as body-length-reads
-use Rattle.reader.proofs.end_scan.Reads as end-scan-reads
-use Rattle.faults.proofs.fault.Reads as fault-reads
 
 abbrev Inv-loop : tie.InvT-loop
 Inv-loop s wanted st₀ at₀ st at = Going s wanted at st

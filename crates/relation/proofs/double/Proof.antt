@@ -6,8 +6,6 @@ use Rattle.relation.specs.Union.{Doubled}
 use Rattle.relation.proofs.UnionLaws.{uniting}
 use Rattle.relation.proofs.double.Statement.{statement}
 use Rattle.relation.proofs.double.Tie as tie
-use Rattle.relation.proofs.double.Reads as reads
-use Rattle.relation.proofs.double.Lts as lts
 
 abbrev Inv-loop : tie.InvT-loop
 Inv-loop table₀ i row size x₀ table x = (x ≤ size) × (size ≡ 2 ^ i) × (size ≤ 32) × (length table ≡ 64) × Doubled i row table₀ table x

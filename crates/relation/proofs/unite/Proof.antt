@@ -6,9 +6,6 @@ use Rattle.relation.specs.Union.{Unites}
 use Rattle.relation.proofs.UnionLaws.{uniting}
 use Rattle.relation.proofs.unite.Statement.{statement}
 use Rattle.relation.proofs.unite.Tie as tie
-use Rattle.relation.proofs.unite.Reads as reads
-use Rattle.relation.proofs.unite.Lts as lts
-use Rattle.relation.proofs.double.Reads as double-reads
 
 abbrev Inv-loop : tie.InvT-loop
 Inv-loop table₀ rows from i₀ table i = (i ≤ 6) × (length table ≡ 64) × Unites rows from i table

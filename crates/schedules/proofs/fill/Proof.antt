@@ -7,10 +7,6 @@ use Rattle.schedules.specs.Rows.{rowsFrom}
 use Rattle.schedules.proofs.Steps.{steps}
 use Rattle.schedules.proofs.fill.Statement.{statement}
 use Rattle.schedules.proofs.fill.Tie as tie
-use Rattle.schedules.proofs.fill.Reads as reads
-use Rattle.schedules.proofs.fill.Lts as lts
-use Rattle.schedules.proofs.row.Reads as row-reads
-use Rattle.fields.proofs.write_at.Reads as write-at-reads
 
 abbrev Inv-loop : tie.InvT-loop
 Inv-loop rows₀ rules file at n i₀ rows i = (i ≤ n) × (length rows ≡ 64) × (take i rows ≡ rowsFrom (rulesOf rules) file at n i)

@@ -2,10 +2,6 @@
 use Rattle.schedules.proofs.Steps.{steps}
 use Rattle.schedules.proofs.initial_disk.Statement.{statement}
 use Rattle.schedules.proofs.initial_disk.Tie as tie
-use Rattle.schedules.proofs.initial_disk.Reads as reads
-use Rattle.schedules.proofs.initial_disk.Lts as lts
-use Rattle.disks.proofs.apply.Reads as apply-reads
-use Rattle.disks.proofs.load.Reads as load-reads
 
 slice-aggregate-load : tie.Need-slice-aggregate-load
 slice-aggregate-load c = search steps

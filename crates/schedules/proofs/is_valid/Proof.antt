@@ -2,8 +2,6 @@
 use Rattle.schedules.proofs.Steps.{steps}
 use Rattle.schedules.proofs.is_valid.Statement.{statement}
 use Rattle.schedules.proofs.is_valid.Tie as tie
-use Rattle.schedules.proofs.is_valid.Reads as reads
-use Rattle.schedules.proofs.is_valid.Lts as lts
 
 mul-needed : tie.Need-mul-needed
 mul-needed c = search steps

@@ -2,10 +2,6 @@
 use Rattle.schedules.proofs.Steps.{steps}
 use Rattle.schedules.proofs.prepare.Statement.{statement}
 use Rattle.schedules.proofs.prepare.Tie as tie
-use Rattle.schedules.proofs.prepare.Reads as reads
-use Rattle.schedules.proofs.prepare.Lts as lts
-use Rattle.schedules.proofs.fill.Reads as fill-reads
-use Rattle.relation.proofs.unite.Reads as unite-reads
 
 slice-aggregate-fill : tie.Need-slice-aggregate-fill
 slice-aggregate-fill c = search steps

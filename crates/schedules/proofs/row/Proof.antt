@@ -7,9 +7,6 @@ use Rattle.schedules.specs.Rows.{rowOf}
 use Rattle.schedules.proofs.Steps.{steps}
 use Rattle.schedules.proofs.row.Statement.{statement}
 use Rattle.schedules.proofs.row.Tie as tie
-use Rattle.schedules.proofs.row.Reads as reads
-use Rattle.schedules.proofs.row.Lts as lts
-use Rattle.schedules.proofs.rule_row.Reads as rule-row-reads
 
 abbrev Inv-loop : tie.InvT-loop
 Inv-loop file at n name epoch rules mask₀ k₀ mask k = (k ≤ rules .count) × (mask ≡ rowOf (take k (rules .items)) (label name epoch) file at n)

@@ -6,10 +6,6 @@ use Rattle.schedules.specs.Rows.{ruleRow}
 use Rattle.schedules.proofs.Steps.{steps}
 use Rattle.schedules.proofs.rule_row.Statement.{statement}
 use Rattle.schedules.proofs.rule_row.Tie as tie
-use Rattle.schedules.proofs.rule_row.Reads as reads
-use Rattle.schedules.proofs.rule_row.Lts as lts
-use Rattle.schedules.proofs.with_match.Reads as with-match-reads
-use Rattle.fields.proofs.write_at.Reads as write-at-reads
 
 abbrev Inv-loop : tie.InvT-loop
 Inv-loop rule file at n name epoch mask₀ j₀ mask j = (j ≤ n) × (mask ≡ ruleRow rule (label name epoch) file at j)

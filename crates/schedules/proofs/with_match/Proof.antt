@@ -2,10 +2,6 @@
 use Rattle.schedules.proofs.Steps.{steps}
 use Rattle.schedules.proofs.with_match.Statement.{statement}
 use Rattle.schedules.proofs.with_match.Tie as tie
-use Rattle.schedules.proofs.with_match.Reads as reads
-use Rattle.schedules.proofs.with_match.Lts as lts
-use Rattle.relation.proofs.with_bit.Reads as with-bit-reads
-use Rattle.rules.proofs.matches.Reads as matches-reads
 
 matches-requires : tie.Need-matches-requires
 matches-requires c κs = search steps

@@ -6,9 +6,6 @@ use Rattle.tracing.specs.Traced.{emptyBelow}
 use Rattle.tracing.proofs.Steps.{traces}
 use Rattle.tracing.proofs.has_empty.Statement.{statement}
 use Rattle.tracing.proofs.has_empty.Tie as tie
-use Rattle.tracing.proofs.has_empty.Reads as reads
-use Rattle.tracing.proofs.has_empty.Lts as lts
-use Rattle.format.proofs.word_at.Reads as word-at-reads
 
 abbrev Inv-loop : tie.InvT-loop
 Inv-loop program n i₀ i = (i ≤ n) × (emptyBelow program i ≡ false)

@@ -1,12 +1,7 @@
 -- `tracing::put_test` meets its contract: the two programs and the end, written one behind the other, are the test.
 use Rattle.tracing.proofs.ProgramLaws.{faults}
-use borrow.Author.Needs.{needs}
 use Rattle.tracing.proofs.put_test.Statement.{statement}
 use Rattle.tracing.proofs.put_test.Tie as tie
-use Rattle.tracing.proofs.put_test.Reads as reads
-use Rattle.tracing.proofs.put_test.Lts as lts
-use Rattle.puts.proofs.put_end.Reads as put-end-reads
-use Rattle.puts.proofs.put_program.Reads as put-program-reads
 
 put-program-requires : tie.Need-put-program-requires
 put-program-requires c κs = search faults

@@ -1,13 +1,7 @@
 -- `tracing::trace` meets its contract: a refusal, or the test written.
 use Rattle.tracing.proofs.ProgramLaws.{faults}
-use borrow.Author.Needs.{needs}
 use Rattle.tracing.proofs.trace.Statement.{statement}
 use Rattle.tracing.proofs.trace.Tie as tie
-use Rattle.tracing.proofs.trace.Reads as reads
-use Rattle.tracing.proofs.trace.Lts as lts
-use Rattle.model.proofs.refuse.Reads as refuse-reads
-use Rattle.tracing.proofs.put_test.Reads as put-test-reads
-use Rattle.tracing.proofs.trace_fault.Reads as trace-fault-reads
 
 trace-fault-requires : tie.Need-trace-fault-requires
 trace-fault-requires c κs = search faults

@@ -5,9 +5,6 @@ use Rattle.tracing.specs.Traced.{traceFault}
 use borrow.Author.Needs.{needs}
 use Rattle.tracing.proofs.trace_fault.Statement.{statement}
 use Rattle.tracing.proofs.trace_fault.Tie as tie
-use Rattle.tracing.proofs.trace_fault.Reads as reads
-use Rattle.tracing.proofs.trace_fault.Lts as lts
-use Rattle.tracing.proofs.has_empty.Reads as has-empty-reads
 
 returns : tie.Need-returns
 unfolding traceFault

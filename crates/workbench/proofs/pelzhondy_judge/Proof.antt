@@ -3,11 +3,6 @@ use Rattle.answers.proofs.JudgedLaws.{judged, counts-few, refused-fits}
 use borrow.Author.Needs.{needs}
 use Rattle.workbench.proofs.pelzhondy_judge.Statement.{statement}
 use Rattle.workbench.proofs.pelzhondy_judge.Tie as tie
-use Rattle.workbench.proofs.pelzhondy_judge.Reads as reads
-use Rattle.workbench.proofs.pelzhondy_judge.Lts as lts
-use Rattle.judging.proofs.judge.Reads as judge-reads
-use Rattle.model.proofs.refuse.Reads as refuse-reads
-use Rattle.answers.proofs.code_of.Reads as code-of-reads
 
 judge-requires : tie.Need-judge-requires
 judge-requires c κs = search needs

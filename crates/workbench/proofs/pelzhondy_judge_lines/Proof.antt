@@ -3,10 +3,6 @@ use Rattle.workbench.proofs.PrintedLaws.{prints}
 use borrow.Author.Needs.{needs}
 use Rattle.workbench.proofs.pelzhondy_judge_lines.Statement.{statement}
 use Rattle.workbench.proofs.pelzhondy_judge_lines.Tie as tie
-use Rattle.workbench.proofs.pelzhondy_judge_lines.Reads as reads
-use Rattle.workbench.proofs.pelzhondy_judge_lines.Lts as lts
-use Rattle.model.proofs.refuse.Reads as refuse-reads
-use Rattle.printing.proofs.judge_lines.Reads as judge-lines-reads
 
 refuse-requires : tie.Need-refuse-requires
 refuse-requires c κs = search needs

@@ -3,11 +3,6 @@ use Rattle.answers.proofs.JudgedLaws.{judged, decided-fits}
 use borrow.Author.Needs.{needs}
 use Rattle.workbench.proofs.pelzhondy_verdict.Statement.{statement}
 use Rattle.workbench.proofs.pelzhondy_verdict.Tie as tie
-use Rattle.workbench.proofs.pelzhondy_verdict.Reads as reads
-use Rattle.workbench.proofs.pelzhondy_verdict.Lts as lts
-use Rattle.judging.proofs.decide.Reads as decide-reads
-use Rattle.model.proofs.refuse.Reads as refuse-reads
-use Rattle.answers.proofs.code_of_verdict.Reads as code-of-verdict-reads
 
 decide-requires : tie.Need-decide-requires
 decide-requires c κs = search needs

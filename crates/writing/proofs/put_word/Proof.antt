@@ -1,11 +1,7 @@
 -- `writing::put_word` meets its contract: its four bytes, written one behind the other, are the number's.
 use Rattle.writing.proofs.WroteLaws.{wrotes}
-use borrow.Author.Needs.{needs}
 use Rattle.writing.proofs.put_word.Statement.{statement}
 use Rattle.writing.proofs.put_word.Tie as tie
-use Rattle.writing.proofs.put_word.Reads as reads
-use Rattle.writing.proofs.put_word.Lts as lts
-use Rattle.writing.proofs.put.Reads as put-reads
 
 cast-put : tie.Need-cast-put
 cast-put c = search wrotes

@@ -1,0 +1,368 @@
+-- No answer reaches bit 63: each is bounded by the limits of files, tests, states and buffers.
+use Prim.Native.Nat.{ℕ, zero, suc, _+_, _*_, _-_, _/_, _%_, _≤_, _<_}
+use mathlib.Core.Path.{_≡_, refl, sym}
+use mathlib.Core.Bool.{Bool, true, false, cond, not, _&&_, _||_, false≢true}
+use mathlib.Core.List.{List, [], _∷_, _++_, List·Memᴰ, List·Memᴰ·head, List·Memᴰ·tail}
+use mathlib.Core.Option.{Option, none, some}
+use native.Mathlib.Decide.{ℕ-discrete}
+use native.Mathlib.Omega.{arith}
+use lib.Dec.{eqb, leb, ltb}
+use lib.ListN.{length, getD, drop, length-append}
+use lib.Pow.{pow-mono}
+use borrow.Author.Tests.{leb-true, leb-false, ltb-false, le-ltb}
+use Rattle.relation.specs.Lists.{any}
+use Rattle.relation.proofs.ListLaws.{and-left, and-right, or-none-left, or-none-right}
+use Rattle.model.specs.declared.Rule.{Rule}
+use Rattle.model.specs.declared.Write.{Write}
+use Rattle.model.specs.Answer.{Outcome, answer, refused}
+use Rattle.model.specs.Cyclic.{cyclic}
+use Rattle.model.specs.Disk.{firstOf, secondOf}
+use Rattle.model.specs.Find.{candidatesOf, chosen, picked}
+use Rattle.model.specs.Schedule.{valid}
+use Rattle.model.specs.Test.{Test, File, schedules, Bad, bad, validCount, badCount}
+use Rattle.model.proofs.TestLaws.{count-most}
+use Rattle.format.specs.Bytes.{blockIn}
+use Rattle.format.specs.File.{readOf}
+use Rattle.format.specs.Held.{noTest, testOf}
+use Rattle.format.specs.Scan.{scanOf}
+use Rattle.format.specs.declared.Scan.{Scan}
+use Rattle.format.specs.declared.Scan.the-variants.{Accepted, Refused}
+use Rattle.reader.specs.Limits.{TestLimits}
+use Rattle.reader.proofs.CallerLaws.{holding-limits, refused-limits}
+use Rattle.reader.proofs.TellsLaws.{tells}
+use Rattle.counting.specs.declared.Verdict.{Verdict}
+use Rattle.counting.specs.declared.Verdict.the-variants.{Holds, Fails}
+use Rattle.judging.specs.Judge.{Case, caseOf, caseIn, Decides}
+use Rattle.answers.specs.Judged.{judgementCode, verdictCode, JudgeAnswer, VerdictAnswer}
+use Rattle.asking.specs.File.{sizes, readAnswer, located, locateAnswer, cyclicIn, cyclicAnswer}
+use Rattle.asking.proofs.FileLaws.{packed}
+use Rattle.printing.specs.Decimal.{decimal}
+use Rattle.printing.specs.Lines.{refusedLine, testLine, lines, textOf, programText, holdsText, failsText}
+use Rattle.printing.proofs.WriteLaws.{decimal-most}
+use Rattle.finding.specs.Finder.{Found, wrote, findAmong, findIn, findOf}
+use Rattle.log.specs.Get.{keyed, getFrom, getOf, valueCode}
+use Rattle.format.specs.Encode.{testBytes}
+use Rattle.log.specs.Puts.{Put, Traced, traced, putsOf, logTest, emptyPut, traceOf}
+use Rattle.workbench.specs.Printed.{printedOf}
+use Rattle.cache.specs.Needs.{needsRing, ready}
+use Rattle.cache.specs.State.{stateSize, acceptedCount, rulesIn, writesIn, storedIn}
+use Rattle.cache.specs.Sound.{sound}
+use Rattle.cache.specs.Calls.{Left, late, storing, checked, stepped, drained, openWith, openOf, handInOf, stepOf, drainOf}
+use Rattle.soundness.proofs.SoundLaws.{sound-true}
+use Rattle.soundlaws.proofs.ReadyLaws.{ready-earliest}
+use Rattle.contents.proofs.ContentSteps.{writes-length}
+use Rattle.exports.specs.Theorem.{bit63, ToldApart, NoneReachesBit63}
+
+-- ---- outcomes by cases
+
+turned-down : (number place : ℕ) → ToldApart (refused number place)
+unfolding ToldApart
+turned-down number place = omega arith
+
+-- of what gives an outcome, one of two by a test
+by-case : {A : Type 0} (f : A → Outcome ℕ) (b : Bool) (x y : A) → (b ≡ true → ToldApart (f x)) → (b ≡ false → ToldApart (f y)) → ToldApart (f (cond b x y))
+by-case f true x y p q = p refl
+by-case f false x y p q = q refl
+
+-- ---- the cache
+
+left-either : (b : Bool) (x y : Left) → (b ≡ true → ToldApart (x .outcome)) → (b ≡ false → ToldApart (y .outcome)) → ToldApart (cond b x y .outcome)
+left-either = by-case (λ (l : Left). l .outcome)
+
+open-apart : (file state : List ℕ) → ToldApart (openOf file state [] .outcome)
+unfolding openOf ToldApart
+open-apart file state =
+    left-either (eqb (length state) stateSize) _ _ (λ e. go (readOf file)) (λ e. turned-down 14 0)
+  where
+    go : (o : Outcome File) → ToldApart (openWith o state [] .outcome)
+    go (refused number place) = unfold openWith in turned-down number place
+    go (answer f) =
+        unfold openWith in
+        left-either (ltb 0 (length (f .tests))) _ _ (λ e. turned-down 22 0)
+        (λ e. left-either (cyclic (f .rules)) _ _ (λ h. turned-down 8 0) (λ h. omega arith))
+
+hand-in-apart : (w : Write) (state : List ℕ) → ToldApart (handInOf w state [] .outcome)
+unfolding handInOf ToldApart
+hand-in-apart w state =
+    left-either (not (eqb (length state) stateSize)) _ _ (λ e. turned-down 14 0)
+    (λ e. left-either (not (sound state)) _ _ (λ e. turned-down 15 0)
+    (λ e. left-either (leb 64 (acceptedCount state)) _ _ (λ e. turned-down 16 0)
+    (λ few. left-either (late (rulesIn state) (writesIn state) (storedIn state) w) _ _ (λ e. turned-down 17 0)
+    (λ e. left-either (needsRing (rulesIn state) (writesIn state ++ (w ∷ []))) _ _ (λ e. turned-down 18 0)
+    (λ e. let l = leb-false 64 (acceptedCount state) few in omega arith)))))
+
+checked-apart : (call : List ℕ → List ℕ → Left) (state disk : List ℕ) → (sound state ≡ true → ToldApart (call state disk .outcome)) → ToldApart (checked call state disk .outcome)
+unfolding checked
+checked-apart call state disk h =
+    left-either (not (eqb (length state) stateSize)) _ _ (λ e. turned-down 14 0)
+    (λ e. left-either (not (eqb (length disk) 1024)) _ _ (λ e. turned-down 14 0)
+    (λ e. left-either (not (sound state)) _ _ (λ e. turned-down 15 0) (λ t. h (yes-of (sound state) t))))
+  where
+    yes-of : (b : Bool) → not b ≡ false → b ≡ true
+    yes-of true e = refl
+    yes-of false e = absurd (false≢true (sym e))
+
+step-apart : (state disk : List ℕ) → ToldApart (stepOf state disk .outcome)
+unfolding stepOf
+step-apart state disk = checked-apart stepped state disk (λ t. unfold stepped in go t (ready (rulesIn state) (writesIn state) (storedIn state)) refl)
+  where
+    go : sound state ≡ true → (k : ℕ) → ready (rulesIn state) (writesIn state) (storedIn state) ≡ k → ToldApart (storing k state disk .outcome)
+    go t zero e = unfold storing ToldApart in omega arith
+    go t (suc i) e =
+        let a = ready-earliest (rulesIn state) (writesIn state) (storedIn state) i e .accepted in
+        let l = writes-length state in
+        let m = sound-true state t .writes-most in
+        unfold storing ToldApart in omega arith
+
+drain-apart : (state disk : List ℕ) → ToldApart (drainOf state disk .outcome)
+unfolding drainOf drained ToldApart
+drain-apart state disk = checked-apart drained state disk (λ t. let m = sound-true state t .writes-most in omega arith)
+
+-- ---- get
+
+value-below : (disk : List ℕ) (key head n : ℕ) → valueCode (getFrom disk key head n) < bit63
+unfolding getFrom valueCode
+value-below disk key head zero = omega arith
+value-below disk key head (suc n) = go (keyed disk key (head + n)) (value-below disk key head n)
+  where
+    go : (b : Bool) → valueCode (getFrom disk key head n) < bit63 → valueCode (cond b (some (secondOf (blockIn disk (head + n)))) (getFrom disk key head n)) < bit63
+    go true h = unfold secondOf in omega arith
+    go false h = h
+
+get-of : (g v : Option ℕ) → valueCode g < bit63 → (a b : Bool) → cond a (refused 14 0) (cond b (refused 21 0) (answer g)) ≡ answer v → valueCode v < bit63
+get-of g v h true b q = let z : _≡_ {A = ℕ} 0 1 = cc in absurd (omega arith)
+get-of g v h false true q = let z : _≡_ {A = ℕ} 0 1 = cc in absurd (omega arith)
+get-of g v h false false q = let z : g ≡ v = cc in rw z at h
+
+get-below : (disk : List ℕ) (key : ℕ) (v : Option ℕ) → getOf disk key ≡ answer v → valueCode v < bit63
+unfolding getOf
+get-below disk key v e =
+    let head : ℕ = firstOf (blockIn disk 0) in
+    let tail : ℕ = secondOf (blockIn disk 0) in
+    get-of (getFrom disk key head (tail - head)) v (value-below disk key head (tail - head)) (not (eqb (length disk) 1024)) (ltb head tail && ltb 256 tail) e
+
+-- ---- read, locate, cyclic
+
+read-apart : (file : List ℕ) → ToldApart (readAnswer file)
+unfolding readAnswer
+read-apart file = go (readOf file) refl
+  where
+    go : (o : Outcome File) → readOf file ≡ o → ToldApart (sizes o)
+    go (refused number place) e = unfold sizes in turned-down number place
+    go (answer f) e =
+        let l = holding-limits file f e .0 in
+        let a = l .rules in let b = l .tests in
+        unfold sizes ToldApart in omega arith
+
+locate-apart : (file : List ℕ) (k : ℕ) → ToldApart (locateAnswer file k)
+unfolding locateAnswer
+locate-apart file k = go (scanOf file (k - 1)) refl
+  where
+    go : (x : Scan) → scanOf file (k - 1) ≡ x → ToldApart (located k x)
+    go (Refused number place) e = unfold located in turned-down number place
+    go (Accepted rules tests extent) e =
+        unfold located in
+        by-case (λ (o : Outcome ℕ). o) (leb 1 k && leb k tests) _ _
+        (λ h. let l = leb-true 1 k (and-left (leb 1 k) (leb k tests) h) in
+        let m = leb-true k tests (and-right (leb 1 k) (leb k tests) h) in
+        let p = packed file (k - 1) (scanOf file (k - 1)) (tells file (k - 1)) rules tests extent e (omega arith) in
+        let a = p .at in let b = p .initial in let c = p .main in let d = p .checks in
+        unfold ToldApart in omega arith)
+        (λ h. turned-down 9 0)
+
+one-apart : (b : Bool) → ToldApart (answer (cond b 1 0))
+unfolding ToldApart
+one-apart true = omega arith
+one-apart false = omega arith
+
+cyclic-apart : (file : List ℕ) → ToldApart (cyclicAnswer file)
+unfolding cyclicAnswer
+cyclic-apart file = go (readOf file)
+  where
+    go : (o : Outcome File) → ToldApart (cyclicIn o)
+    go (refused number place) = unfold cyclicIn in turned-down number place
+    go (answer f) = unfold cyclicIn in one-apart (cyclic (f .rules))
+
+-- ---- judge and verdict: a test has at most 4,096 schedules
+
+test-limits : (ts : List Test) → ((t : Test) → List·Memᴰ t ts → TestLimits t) → (i : ℕ) → TestLimits (getD ts i noTest)
+test-limits [] h i = unfold noTest in record { initial = omega arith; main = omega arith; checks = omega arith }
+test-limits (t ∷ ts) h zero = h t (List·Memᴰ·head refl)
+test-limits (t ∷ ts) h (suc i) = test-limits ts (λ u m. h u (List·Memᴰ·tail m)) i
+
+few-of : (f : File) (k : ℕ) (c : Case) → ((t : Test) → List·Memᴰ t (f .tests) → TestLimits t) → (a b : Bool)
+    → cond a (refused 8 0) (cond b (answer (record { rules = f .rules; test = testOf f (k - 1) })) (refused 9 0)) ≡ answer c → schedules (c .test) ≤ 4096
+few-of f k c h true b q = let z : _≡_ {A = ℕ} 0 1 = cc in absurd (omega arith)
+few-of f k c h false false q = let z : _≡_ {A = ℕ} 0 1 = cc in absurd (omega arith)
+few-of f k c h false true q =
+    let z : record { rules = f .rules; test = testOf f (k - 1) } ≡ c = cc in
+    rw (← z) (pow-mono {i = length (testOf f (k - 1) .main)} {j = 12} (test-limits (f .tests) h (k - 1) .main))
+
+few : (file : List ℕ) (k : ℕ) (c : Case) → caseIn file k ≡ answer c → schedules (c .test) ≤ 4096
+unfolding caseIn
+few file k c = go (readOf file) refl
+  where
+    go : (o : Outcome File) → readOf file ≡ o → caseOf o k ≡ answer c → schedules (c .test) ≤ 4096
+    go (refused number place) h q = unfold caseOf in let z : _≡_ {A = ℕ} 0 1 = cc in absurd (omega arith)
+    go (answer f) h q = few-of f k c (holding-limits file f h .0 .each) (cyclic (f .rules)) (leb 1 k && leb k (length (f .tests))) (unfold caseOf in q)
+
+judge-below : (file : List ℕ) (k : ℕ) (c : Case) (r : ℕ) → caseIn file k ≡ answer c → JudgeAnswer (answer c) r → r < bit63
+unfolding JudgeAnswer judgementCode validCount badCount Bad
+judge-below file k c r e (j, p, q) =
+    let m = few file k c e in
+    let a = p .valid in let x = count-most (valid (c .rules) (c .test .main)) (schedules (c .test)) in
+    let b = p .bad in let y = count-most (bad (c .rules) (c .test)) (schedules (c .test)) in
+    let s = shown (ℕ-discrete (j .bad) 0) in
+    omega arith
+  where
+    shown : Dec (j .bad ≡ 0) → j .shown ≤ 4096
+    shown (yes z) = let n = p .none z in omega arith
+    shown (no n) = let l = p .shown n .0 in let m = few file k c e in omega arith
+
+verdict-below : (file : List ℕ) (k : ℕ) (c : Case) (r : ℕ) → caseIn file k ≡ answer c → VerdictAnswer (answer c) r → r < bit63
+unfolding VerdictAnswer verdictCode Decides Bad
+verdict-below file k c r e (v, p, q) = rw q (go v p)
+  where
+    go : (v : Verdict) → Decides c v → verdictCode v < bit63
+    go Holds p = omega arith
+    go (Fails s) p = let l = p .0 in let m = few file k c e in omega arith
+
+-- ---- lines: at most 16 of 24 bytes, or one of 20
+
+line-most : (k valid bad : ℕ) → k < 100000 → valid < 100000 → bad < 100000 → length (testLine k valid bad) ≤ 24
+unfolding testLine
+line-most k valid bad h i j =
+    let a = decimal-most 4 k h in
+    let b = decimal-most 4 valid i in
+    let c = decimal-most 4 bad j in
+    rw (length-append (decimal k) _, length-append (decimal valid) _, length-append (decimal bad) _, length-append (cond (eqb bad 0) holdsText failsText) _)
+    (go (eqb bad 0) a b c)
+  where
+    go : (x : Bool) → length (decimal k) ≤ 5 → length (decimal valid) ≤ 5 → length (decimal bad) ≤ 5
+        → length (decimal k) + suc (length (decimal valid) + suc (length (decimal bad) + suc (length (cond x holdsText failsText) + 1))) ≤ 24
+    go true a b c = omega arith
+    go false a b c = omega arith
+
+lines-most : (f : ℕ → List ℕ) (n : ℕ) → ((i : ℕ) → i < n → length (f i) ≤ 24) → length (lines f n) ≤ 24 * n
+unfolding lines
+lines-most f zero h = omega arith
+lines-most f (suc n) h =
+    let a = lines-most f n (λ i l. h i (omega arith)) in
+    let b = h n (omega arith) in
+    rw (length-append (lines f n) (f n)) (omega arith)
+
+refused-most : (number place : ℕ) → number < 100000 → place < 100000 → length (refusedLine number place) ≤ 20
+unfolding refusedLine
+refused-most number place h i =
+    let a = decimal-most 4 number h in
+    let b = decimal-most 4 place i in
+    rw (length-append (decimal number) _, length-append (decimal place) _) (omega arith)
+
+text-most : (file : List ℕ) → length (programText file) ≤ 400
+unfolding programText validCount badCount
+text-most file = go (readOf file) refl
+  where
+    tests : (f : File) → readOf file ≡ answer f → (b : Bool)
+        → length (cond b (refusedLine 8 0) (lines (λ i. testLine (suc i) (validCount (f .rules) (testOf f i)) (badCount (f .rules) (testOf f i))) (length (f .tests)))) ≤ 400
+    tests f h true = let l = refused-most 8 0 (omega arith) (omega arith) in omega arith
+    tests f h false =
+        let limits = holding-limits file f h .0 in
+        let n = limits .tests in
+        let l = lines-most
+        (λ i. testLine (suc i) (validCount (f .rules) (testOf f i)) (badCount (f .rules) (testOf f i)))
+        (length (f .tests))
+        (λ i k.
+        let m = pow-mono {i = length (testOf f i .main)} {j = 12} (test-limits (f .tests) (limits .each) i .main) in
+        let a = count-most (valid (f .rules) (testOf f i .main)) (schedules (testOf f i)) in
+        let b = count-most (bad (f .rules) (testOf f i)) (schedules (testOf f i)) in
+        line-most (suc i) (validCount (f .rules) (testOf f i)) (badCount (f .rules) (testOf f i)) (omega arith) (omega arith) (omega arith))
+        in
+        omega arith
+
+    go : (o : Outcome File) → readOf file ≡ o → length (textOf o) ≤ 400
+    go (refused number place) h =
+        let l = refused-limits file number place h in
+        let a = l .1 in let b = l .2 in
+        let m = refused-most number place (omega arith) (omega arith) in
+        unfold textOf in omega arith
+    go (answer f) h = unfold textOf in tests f h (cyclic (f .rules))
+
+lines-below : (file buffer : List ℕ) → 400 ≤ length buffer → printedOf file buffer .answer < bit63
+unfolding printedOf
+lines-below file buffer h = let l = text-most file in rw (le-ltb (length buffer) 400 h) (omega arith)
+
+-- ---- find: at most 16 rules
+
+picked-most : (rules : List Rule) (m : ℕ) → length (picked rules m) ≤ length rules
+unfolding picked
+picked-most [] m = omega arith
+picked-most (r ∷ rs) m = go (eqb (m % 2) 1) (picked-most rs (m / 2))
+  where
+    go : (b : Bool) → length (picked rs (m / 2)) ≤ length rs → length (cond b (r ∷ picked rs (m / 2)) (picked rs (m / 2))) ≤ suc (length rs)
+    go true h = omega arith
+    go false h = omega arith
+
+found-either : (b : Bool) (x y : Found) → (b ≡ true → ToldApart (x .outcome)) → (b ≡ false → ToldApart (y .outcome)) → ToldApart (cond b x y .outcome)
+found-either = by-case (λ (l : Found). l .outcome)
+
+find-apart : (file buffer : List ℕ) → ToldApart (findOf file buffer .outcome)
+unfolding findOf
+find-apart file buffer = go (readOf file)
+  where
+    wrote-apart : (candidates : List Rule) (o : Option ℕ) → length candidates ≤ 16 → ToldApart (wrote candidates o buffer .outcome)
+    wrote-apart candidates none h = unfold wrote in turned-down 13 0
+    wrote-apart candidates (some m) h = let l = picked-most candidates m in unfold wrote ToldApart in omega arith
+
+    go : (o : Outcome File) → ToldApart (findIn o buffer .outcome)
+    go (refused number place) = unfold findIn in turned-down number place
+    go (answer f) =
+        unfold findIn findAmong in
+        found-either (ltb 0 (length (f .rules))) _ _ (λ e. turned-down 10 0)
+        (λ e. found-either (ltb (length buffer) 96) _ _ (λ e. turned-down 12 0)
+        (λ e. found-either (ltb 16 (length (candidatesOf (f .tests)))) _ _ (λ e. turned-down 11 0)
+        (λ l. wrote-apart (candidatesOf (f .tests)) (chosen (f .tests) (candidatesOf (f .tests))) (ltb-false 16 (length (candidatesOf (f .tests))) l))))
+
+-- ---- trace: at most 38 puts
+
+traced-either : (b : Bool) (x y : Traced) → (b ≡ true → ToldApart (x .outcome)) → (b ≡ false → ToldApart (y .outcome)) → ToldApart (cond b x y .outcome)
+traced-either = by-case (λ (l : Traced). l .outcome)
+
+trace-apart : (initial main buffer : List ℕ) → ToldApart (traceOf initial main buffer .outcome)
+unfolding traceOf ToldApart
+trace-apart initial main buffer =
+    let i : List Put = putsOf initial in
+    let m : List Put = putsOf main in
+    let size : ℕ = 26 * (length i + length m) + 7 in
+    let done : Traced = traced (answer size) (testBytes (logTest i m) ++ drop size buffer) in
+    let short : Traced = cond (ltb (length buffer) size) (traced (refused 12 0) buffer) done in
+    let empty : Traced = cond (any emptyPut i || any emptyPut m) (traced (refused 20 0) buffer) short in
+    traced-either (not (eqb (length initial % 4) 0) || not (eqb (length main % 4) 0)) _ (cond (ltb 32 (length i) || ltb 6 (length m)) (traced (refused 6 0) buffer) empty)
+    (λ e. turned-down 19 0)
+    (λ e. traced-either (ltb 32 (length i) || ltb 6 (length m)) _ empty (λ e. turned-down 6 0)
+    (λ few. traced-either (any emptyPut i || any emptyPut m) _ short (λ e. turned-down 20 0)
+    (λ e. traced-either (ltb (length buffer) size) _ done (λ e. turned-down 12 0)
+    (λ e.
+    let a = ltb-false 32 (length i) (or-none-left (ltb 32 (length i)) (ltb 6 (length m)) few) in
+    let b = ltb-false 6 (length m) (or-none-right (ltb 32 (length i)) (ltb 6 (length m)) few) in
+    omega arith))))
+
+-- ---- all of them
+
+pub none-reaches-bit63 : NoneReachesBit63
+none-reaches-bit63 =
+    record {
+      refusals = λ number place. unfold ToldApart in turned-down number place;
+      opening = open-apart;
+      hand-in = hand-in-apart;
+      step = step-apart;
+      drain = drain-apart;
+      get = get-below;
+      read = read-apart;
+      locate = locate-apart;
+      cyclic = cyclic-apart;
+      judge = judge-below;
+      verdict = verdict-below;
+      lines = lines-below;
+      find = find-apart;
+      trace = trace-apart;
+    }

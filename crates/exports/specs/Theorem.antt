@@ -1,0 +1,42 @@
+-- What holds of the answers of all thirteen exported routines: bit 63 tells a refusal from an answer.
+use Prim.Native.Nat.{ℕ, _≤_, _<_}
+use mathlib.Core.Path.{_≡_}
+use mathlib.Core.List.{List, []}
+use mathlib.Core.Option.{Option}
+use lib.ListN.{length}
+use Rattle.model.specs.declared.Write.{Write}
+use Rattle.model.specs.Answer.{Outcome, answer, refused, refusal}
+use Rattle.cache.specs.Calls.{openOf, handInOf, stepOf, drainOf}
+use Rattle.log.specs.Get.{getOf, valueCode}
+use Rattle.log.specs.Puts.{traceOf}
+use Rattle.judging.specs.Judge.{Case, caseIn}
+use Rattle.answers.specs.Judged.{JudgeAnswer, VerdictAnswer}
+use Rattle.asking.specs.File.{readAnswer, locateAnswer, cyclicAnswer}
+use Rattle.finding.specs.Finder.{findOf}
+use Rattle.workbench.specs.Printed.{printedOf}
+
+-- 2 to the power 63
+abbrev pub bit63 : ℕ
+bit63 = 9223372036854775808
+
+-- the number of an answer is below bit 63, that of a refusal is not
+unfoldable pub ToldApart : Outcome ℕ → Type 0
+ToldApart (answer n) = n < bit63
+ToldApart (refused number place) = bit63 ≤ refusal number place
+
+-- of each exported routine: no answer reaches bit 63, and every refusal does
+pub record NoneReachesBit63 : Type 0 where
+  pub refusals : (number place : ℕ) → bit63 ≤ refusal number place
+  pub opening : (file state : List ℕ) → ToldApart (openOf file state [] .outcome)
+  pub hand-in : (w : Write) (state : List ℕ) → ToldApart (handInOf w state [] .outcome)
+  pub step : (state disk : List ℕ) → ToldApart (stepOf state disk .outcome)
+  pub drain : (state disk : List ℕ) → ToldApart (drainOf state disk .outcome)
+  pub get : (disk : List ℕ) (key : ℕ) (v : Option ℕ) → getOf disk key ≡ answer v → valueCode v < bit63
+  pub read : (file : List ℕ) → ToldApart (readAnswer file)
+  pub locate : (file : List ℕ) (k : ℕ) → ToldApart (locateAnswer file k)
+  pub cyclic : (file : List ℕ) → ToldApart (cyclicAnswer file)
+  pub judge : (file : List ℕ) (k : ℕ) (c : Case) (r : ℕ) → caseIn file k ≡ answer c → JudgeAnswer (answer c) r → r < bit63
+  pub verdict : (file : List ℕ) (k : ℕ) (c : Case) (r : ℕ) → caseIn file k ≡ answer c → VerdictAnswer (answer c) r → r < bit63
+  pub lines : (file buffer : List ℕ) → 400 ≤ length buffer → printedOf file buffer .answer < bit63
+  pub find : (file buffer : List ℕ) → ToldApart (findOf file buffer .outcome)
+  pub trace : (initial main buffer : List ℕ) → ToldApart (traceOf initial main buffer .outcome)

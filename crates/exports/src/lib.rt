@@ -1,0 +1,1 @@
+// Theorems only: about what the exported routines answer, all of them at once.
