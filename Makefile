@@ -1,6 +1,7 @@
 # test: the whole gate. run: the judging program on the samples. soak: many more random cases.
-# bench: the proved routines against Rust. samples: writes samples/*.bin anew.
-.PHONY: test run soak bench samples clean
+# bench: the proved routines against Rust. samples: writes samples/*.bin anew. pins: writes anew what
+# tests/documents keeps of contracts, theorems and definitions, after each change has been looked at.
+.PHONY: test run soak bench samples pins clean
 
 test:
 	@tools/test.sh
@@ -22,6 +23,9 @@ bench:
 
 samples:
 	@tools/test.sh samples
+
+pins:
+	@tools/test.sh pins
 
 clean:
 	rm -rf target

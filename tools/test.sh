@@ -4,6 +4,7 @@
 #   tools/test.sh soak    only the differential tests, with many more cases and another seed
 #   tools/test.sh bench   the benchmark
 #   tools/test.sh samples writes the sample files anew
+#   tools/test.sh pins    writes anew what tests/documents keeps of contracts, theorems and definitions
 # Each part runs whatever became of the ones before it. The very last line is 'N passed, M failed',
 # and the status is 0 only if M is 0.
 set -uo pipefail
@@ -141,9 +142,21 @@ check_explain() {
     diff examples/workbench/expected.txt target/explain.txt
 }
 
+# Every routine of the tester's library, called from C, prints what it is expected to.
+check_tour() {
+    c_compiler examples/workbench/tour.c target/staticlib/libworkbench.a -o target/tour &&
+        target/tour >target/tour.txt && diff examples/workbench/expected-tour.txt target/tour.txt
+}
+
+# The stores of step and drain, watched one by one. Signals and pages are not in C99.
+check_stores() {
+    c_compiler -std=gnu99 -O1 tests/stores/stores.c target/staticlib/libreceiver.a -o target/stores &&
+        target/stores
+}
+
 c_tests() {
     local check
-    for check in check_headers check_host check_explain; do
+    for check in check_headers check_host check_explain check_tour check_stores; do
         part "C: $check" "$check"
         add $((status == 0)) $((status != 0))
     done
@@ -189,8 +202,12 @@ samples)
     rust run -p reference --bin samples -- samples
     exit
     ;;
+pins)
+    rust run -p documents --bin pins
+    exit
+    ;;
 *)
-    echo "usage: tools/test.sh [soak | bench | samples]" >&2
+    echo "usage: tools/test.sh [soak | bench | samples | pins]" >&2
     exit 2
     ;;
 esac

@@ -4,7 +4,7 @@ use reference::cache::{self, DISK, STATE};
 use reference::checks::Check;
 use reference::crashes;
 use reference::file::{File, Test, MOST_CHECKS, MOST_MAIN, MOST_TESTS};
-use reference::generate::{self, Palette};
+use reference::generate::{self, Values};
 use reference::judge::judge_test;
 use reference::log;
 use reference::random::Random;
@@ -39,12 +39,12 @@ pub fn log_file(rules: &[Rule]) -> Vec<u8> {
 pub fn dense_file() -> Vec<u8> {
     let dense = |seed| {
         let mut random = Random::new(seed);
-        let palette = Palette::small(&mut random);
-        let rules = crashes::acyclic_rules(&mut random, &palette, 16);
-        let mut test = generate::test_of(&mut random, &palette, 16, MOST_MAIN, 0);
+        let values = Values::small(&mut random);
+        let rules = crashes::acyclic_rules(&mut random, &values, 16);
+        let mut test = generate::test_of(&mut random, &values, 16, MOST_MAIN, 0);
         let start = test.initial_disk();
         for _ in 0..200 {
-            let check = generate::check(&mut random, &palette);
+            let check = generate::check(&mut random, &values);
             if test.checks.len() < MOST_CHECKS && check.holds(&start) {
                 test.checks.push(check);
             }

@@ -136,24 +136,20 @@ fn step(proved: OnState) -> Vec<Row> {
     on_states("step", inputs, proved, fast::cache::step)
 }
 
+/// One drain against one drain: both look at the state once, and store by steps.
 fn drain(proved: OnState) -> Vec<Row> {
     let full = |load: &Load| inputs::state_of(load, 64, 0);
     let inputs = [
-        ("64 writes, the log's rules", full(&inputs::log_load())),
-        ("64 writes, 32 rules", full(&inputs::dense_load())),
+        (
+            "64 writes wait, the log's rules; a drain of each",
+            full(&inputs::log_load()),
+        ),
+        (
+            "64 writes wait, 32 rules; a drain of each",
+            full(&inputs::dense_load()),
+        ),
     ];
-    let mut rows = on_states("drain", inputs.clone(), proved, fast::cache::drain);
-    rows.extend(on_states(
-        "drain, Rust by 64 calls of step",
-        inputs,
-        proved,
-        |state, disk| {
-            (0..64)
-                .filter(|_| fast::cache::step(state, disk) != 0)
-                .count() as u64
-        },
-    ));
-    rows
+    on_states("drain", inputs, proved, fast::cache::drain)
 }
 
 fn hand_in(proved: HandIn) -> Vec<Row> {

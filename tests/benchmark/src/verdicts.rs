@@ -3,7 +3,7 @@
 
 use reference::crashes;
 use reference::file::{self, File};
-use reference::generate::{self, Palette};
+use reference::generate::{self, Values};
 use reference::judge::{judge_test, readable};
 use reference::random::Random;
 use reference::samples::log_rules;
@@ -91,13 +91,13 @@ fn random_file(seed: u64) -> File {
 /// A file whose tests are about the last addresses, so that ranges and pointers end at the disk's
 /// end, or just beyond it.
 fn file_at_the_end(random: &mut Random) -> File {
-    let palette = Palette {
+    let values = Values {
         addresses: vec![254, 255],
         halves: vec![255, 256, 257],
-        ..Palette::small(random)
+        ..Values::small(random)
     };
-    let rules = crashes::acyclic_rules(random, &palette, 4);
+    let rules = crashes::acyclic_rules(random, &values, 4);
     let main = crashes::main_count(random);
-    let tests = vec![crashes::test(random, &palette, main)];
+    let tests = vec![crashes::test(random, &values, main)];
     File { rules, tests }
 }

@@ -3,7 +3,7 @@
 use reference::cyclic::{cyclic, labels_form_ring};
 use reference::damage;
 use reference::file::{bytes_of, read, Field, MOST_RULES};
-use reference::generate::{self, Palette};
+use reference::generate::{self, Values};
 use reference::random::Random;
 use reference::writes::{Rule, PREDICATES};
 
@@ -60,14 +60,14 @@ fn random_rules(run: &mut Run) -> Outcome {
         let names = random.between(1, 8);
         let predicates = random.between(1, 3);
         let count = random.below(2 * names + 1);
-        let mut palette = Palette::wide(random);
-        palette.names.truncate(names);
+        let mut values = Values::wide(random);
+        values.names.truncate(names);
         let from = random.below(3);
         (0..count)
             .map(|_| Rule {
-                name: random.pick(&palette.names),
+                name: random.pick(&values.names),
                 predicate: PREDICATES[(from + random.below(predicates)) % 3],
-                second: random.pick(&palette.names),
+                second: random.pick(&values.names),
             })
             .collect()
     }

@@ -4,7 +4,7 @@ use reference::checks::Check;
 use reference::crashes;
 use reference::damage::{self, LIMITS};
 use reference::file::{File, Test, MOST_CHECKS, MOST_INITIAL, MOST_MAIN, MOST_RULES, MOST_TESTS};
-use reference::generate::{self, Palette};
+use reference::generate::{self, Values};
 use reference::judge::{is_bad, judge_test, numbered, readable, Judgement};
 use reference::random::Random;
 use reference::refusal::Refusal;
@@ -303,9 +303,9 @@ fn bad_from_the_start(run: &mut Run) -> Outcome {
     let mut only = 0;
     for _ in 0..run.times(1_000) {
         let mut random = run.next_case();
-        let palette = Palette::small(&mut random);
+        let values = Values::small(&mut random);
         let main = crashes::main_count(&mut random);
-        let mut test = crashes::test(&mut random, &palette, main);
+        let mut test = crashes::test(&mut random, &values, main);
         // What the address at the first main write holds at the start is objected to.
         let at = test.main.first().map_or(0, |write| write.address);
         test.checks.insert(
@@ -322,7 +322,7 @@ fn bad_from_the_start(run: &mut Run) -> Outcome {
         );
         test.checks.truncate(MOST_CHECKS);
         let file = File {
-            rules: crashes::acyclic_rules(&mut random, &palette, 6),
+            rules: crashes::acyclic_rules(&mut random, &values, 6),
             tests: vec![test],
         };
         only += u64::from(judge_test(&file.rules, &file.tests[0]).bad == 1);
@@ -393,10 +393,10 @@ fn most_main_writes(run: &mut Run) -> Outcome {
     let mut kinds = Kinds::default();
     for _ in 0..run.times(800) {
         let mut random = run.next_case();
-        let palette = Palette::small(&mut random);
+        let values = Values::small(&mut random);
         let file = File {
-            rules: crashes::acyclic_rules(&mut random, &palette, 12),
-            tests: vec![crashes::test(&mut random, &palette, MOST_MAIN)],
+            rules: crashes::acyclic_rules(&mut random, &values, 12),
+            tests: vec![crashes::test(&mut random, &values, MOST_MAIN)],
         };
         kinds.count(&file);
         same_on_each(&mut random, &file.to_bytes(), &[1])?;
@@ -409,11 +409,11 @@ fn most_rules(run: &mut Run) -> Outcome {
     let mut decided = 0;
     for _ in 0..run.times(1_000) {
         let mut random = run.next_case();
-        let palette = Palette::small(&mut random);
+        let values = Values::small(&mut random);
         let main = random.between(2, 6);
-        let test = crashes::test(&mut random, &palette, main);
-        let rules = crashes::acyclic_rules(&mut random, &palette, 4);
-        let rules = crashes::padded(&mut random, &palette, &rules);
+        let test = crashes::test(&mut random, &values, main);
+        let rules = crashes::acyclic_rules(&mut random, &values, 4);
+        let rules = crashes::padded(&mut random, &values, &rules);
         let without = judge_test(&rules[..MOST_RULES - 1], &test);
         decided += u64::from(judge_test(&rules, &test) != without);
         let file = File {
@@ -434,17 +434,17 @@ fn most_rules(run: &mut Run) -> Outcome {
 fn full_files(run: &mut Run) -> Outcome {
     for _ in 0..run.times(10) {
         let mut random = run.next_case();
-        let palette = Palette::small(&mut random);
-        let rules = crashes::acyclic_rules(&mut random, &palette, 8);
+        let values = Values::small(&mut random);
+        let rules = crashes::acyclic_rules(&mut random, &values, 8);
         let mut file = File {
-            rules: crashes::padded(&mut random, &palette, &rules),
+            rules: crashes::padded(&mut random, &values, &rules),
             tests: vec![],
         };
         while file.tests.len() < MOST_TESTS {
-            let mut test = generate::test_of(&mut random, &palette, MOST_INITIAL, MOST_MAIN, 0);
+            let mut test = generate::test_of(&mut random, &values, MOST_INITIAL, MOST_MAIN, 0);
             let start = test.initial_disk();
             while test.checks.len() < MOST_CHECKS {
-                let check = generate::check(&mut random, &palette);
+                let check = generate::check(&mut random, &values);
                 if check.holds(&start) {
                     test.checks.push(check);
                 }

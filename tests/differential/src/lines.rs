@@ -78,9 +78,9 @@ fn most_tests(run: &mut Run) -> Outcome {
         let mut file = crashes::file(random);
         file.rules.truncate(random.below(3));
         file.tests.clear();
-        let palette = generate::Palette::small(random);
+        let values = generate::Values::small(random);
         while file.tests.len() < MOST_TESTS {
-            file.tests.push(crashes::test(random, &palette, 12));
+            file.tests.push(crashes::test(random, &values, 12));
         }
         file.to_bytes()
     })

@@ -12,6 +12,7 @@ mod lent;
 mod lines;
 mod locate;
 mod paths;
+mod precedence;
 mod program;
 mod reading;
 mod receiver;
@@ -41,6 +42,8 @@ fn parts() -> Vec<Part> {
         part("trace", TRACE.is_some(), tracing::suites()),
     ];
     parts.extend(receiver::parts());
+    let all = parts.iter().all(|part| part.is_there);
+    parts.push(part("precedence of refusals", all, precedence::suites()));
     parts
 }
 

@@ -158,8 +158,8 @@ fn refused_files(run: &mut Run) -> Outcome {
 /// A file as long as one can be, without cyclic rules.
 fn longest_file(random: &mut Random) -> File {
     let mut file = generate::full_file(random, true);
-    let palette = generate::Palette::small(random);
-    file.rules = crashes::padded(random, &palette, &[]);
+    let values = generate::Values::small(random);
+    file.rules = crashes::padded(random, &values, &[]);
     file
 }
 

@@ -1,8 +1,13 @@
-// What the documents name, and what the crates have: references, definitions, edits, routines.
+// What the documents name, and what the crates have: references, definitions, edits, routines. And
+// what is pinned of the crates: contracts, theorems and their definitions.
 
 use std::collections::{BTreeMap, BTreeSet};
 use std::fs;
 use std::path::{Path, PathBuf};
+
+pub mod antt;
+pub mod code;
+pub mod pins;
 
 #[cfg(test)]
 mod tests;
@@ -92,37 +97,24 @@ pub fn target(path: &str) -> PathBuf {
     }
 }
 
+fn is_antt(path: &Path) -> bool {
+    path.extension().map_or(false, |extension| extension == "antt")
+}
+
 /// What a file defines: each name with its first line, counted from 1.
 pub fn definitions(path: &Path) -> BTreeMap<String, usize> {
     let mut found = BTreeMap::new();
-    let antt = path.extension().map_or(false, |extension| extension == "antt");
+    // A member of a record or data type counts as its own only.
+    let mut in_type = false;
     for (i, line) in text(path).lines().enumerate() {
-        let name = if antt { antt_name(line) } else { code_name(line) };
-        if let Some(name) = name {
+        let name = if is_antt(path) { antt::declared_name(line) } else { code_name(line) };
+        let indented = line.starts_with(' ') || line.is_empty();
+        in_type = if indented { in_type } else { antt::begins_type(line) };
+        if let Some(name) = name.filter(|_| !(indented && in_type)) {
             found.entry(name).or_insert(i + 1);
         }
     }
     found
-}
-
-/// The name that a line of a specification or a proof declares: `pub NAME : ..`, `record NAME ..`.
-fn antt_name(line: &str) -> Option<String> {
-    let mut rest = line.trim_start();
-    let mut record = false;
-    loop {
-        let (word, after) = rest.split_once(' ')?;
-        match word {
-            "pub" | "unfoldable" | "abbrev" | "ruleset" => rest = after,
-            "record" | "data" => {
-                record = true;
-                rest = after;
-            }
-            _ => {
-                let declares = after.starts_with(": ") || after.starts_with("= ");
-                return (record || declares).then(|| word.to_string());
-            }
-        }
-    }
 }
 
 /// The name of the function, type or constant that a line of code begins.
@@ -143,17 +135,24 @@ fn code_name(line: &str) -> Option<String> {
     None
 }
 
-/// Whether a file has a name: a definition, or a field of one, as `Record.field`.
+/// Whether a file has a name: a definition, or a member of one, as `Record.field`. A member is
+/// looked for in the declaration of its own record, data type, struct or enum only.
 pub fn has(path: &Path, name: &str) -> bool {
-    let defined = definitions(path);
     match name.split_once('.') {
-        Some((outer, field)) => defined.contains_key(outer) && has_word(&text(path), field),
-        None => defined.contains_key(name),
+        Some((outer, member)) => has_member(&text(path), is_antt(path), outer, member),
+        None => definitions(path).contains_key(name),
     }
 }
 
-fn has_word(text: &str, word: &str) -> bool {
-    text.split(|c: char| c.is_whitespace() || "(){};,:.".contains(c)).any(|part| part == word)
+pub fn has_member(source: &str, antt: bool, outer: &str, member: &str) -> bool {
+    if antt {
+        let declared = antt::declarations(source);
+        let mut members = declared.iter().filter(|d| d.name == outer).flat_map(|d| d.members());
+        members.any(|name| name == member)
+    } else {
+        let inside = code::type_text(source, outer).unwrap_or_default();
+        inside.split(|c| "{(".contains(c)).skip(1).any(|part| code::uses(part, member) > 0)
+    }
 }
 
 /// The public functions of a crate, exported ones included.

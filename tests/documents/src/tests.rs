@@ -1,12 +1,22 @@
 use super::*;
+use crate::antt::declarations as antt_declarations;
+use crate::code::{calls, functions, uses, without_comments};
+use crate::pins::{exported, Sources, CONTRACTS, DEFINITIONS, THEOREMS};
 
-const DOCUMENTS: [&str; 5] = [
+const DOCUMENTS: [&str; 6] = [
     "README.md",
     "docs/PROMISES.md",
     "docs/WHOLE-RUNS.md",
     "docs/DECISIONS.md",
     "docs/PROVING.md",
+    "docs/LANDINGS.md",
 ];
+
+/// The documents that are there, each with its text.
+fn documents() -> impl Iterator<Item = (&'static str, String)> {
+    let there = |document: &&str| root().join(document).exists();
+    DOCUMENTS.into_iter().filter(there).map(|document| (document, text(&root().join(document))))
+}
 
 fn none(faults: Vec<String>) {
     assert!(faults.is_empty(), "{}", faults.join("\n"));
@@ -27,8 +37,8 @@ fn edits_fit() {
 #[test]
 fn references_lead_somewhere() {
     let mut faults = Vec::new();
-    for document in DOCUMENTS {
-        for reference in references(&text(&root().join(document))) {
+    for (document, whole) in documents() {
+        for reference in references(&whole) {
             let path = target(&reference.path);
             let folder = reference.path.ends_with("/must-fail");
             if !path.exists() && !path.with_extension("antt").exists() {
@@ -66,23 +76,84 @@ fn every_edit_is_named() {
     none(edits().difference(&named).map(|(name, edit)| format!("{}/{}", name, edit)).collect());
 }
 
-/// Each public routine has a row of its own that names two edits or more.
+/// A member is looked for in its own record, and not in the rest of the file.
 #[test]
-fn public_routines_have_two_edits() {
+fn members_belong_to_their_own() {
+    let specs = "pub record One : Type 0 where\n  pub first : ℕ → ℕ\n      → second : ℕ\n\n\
+                 pub data Two : Type 0 where\n  third : Two\n\nfourth : ℕ\nfourth = 4\n";
+    for (outer, member, there) in [
+        ("One", "first", true),
+        ("One", "second", false),
+        ("One", "third", false),
+        ("Two", "third", true),
+        ("Two", "first", false),
+        ("fourth", "first", false),
+        ("Five", "first", false),
+    ] {
+        assert_eq!(has_member(specs, true, outer, member), there, "{}.{}", outer, member);
+    }
+    let code = "struct One {\n    first: u8, // third\n}\n\nenum Two {\n    Third { fourth: u8 },\n}\n";
+    for (outer, member, there) in [
+        ("One", "first", true),
+        ("One", "third", false),
+        ("One", "Third", false),
+        ("Two", "Third", true),
+        ("Two", "first", false),
+    ] {
+        assert_eq!(has_member(code, false, outer, member), there, "{}.{}", outer, member);
+    }
+}
+
+/// The rows of docs/PROMISES.md whose first cell begins so.
+fn rows<'a>(promises: &'a str, start: &'a str) -> impl Iterator<Item = &'a str> {
+    promises.lines().filter(move |line| line.starts_with(start))
+}
+
+/// The edits that a row names, as (crate, name).
+fn edits_of(row: &str) -> Vec<(String, String)> {
+    let mut found = Vec::new();
+    for reference in references(row) {
+        if let Some(name) = reference.path.strip_suffix("/must-fail") {
+            found.extend(reference.names.iter().map(|edit| (name.to_string(), edit.clone())));
+        }
+    }
+    found
+}
+
+/// Each exported routine has a row that names two or more edits of its own crate: what its own
+/// contract refuses, whatever the crates below promise. Each theorem file has rows with an edit.
+#[test]
+fn exported_routines_have_two_edits() {
+    let promises = text(&root().join("docs/PROMISES.md"));
+    let sources = Sources::load();
+    let mut faults = Vec::new();
+    for (path, function) in exported(&sources) {
+        let own = path.split('/').next().unwrap_or("");
+        let start = format!("| `{}: {}` |", path, function.name);
+        let named: BTreeSet<(String, String)> = rows(&promises, &start).flat_map(edits_of).collect();
+        let count = named.iter().filter(|(name, _)| name == own).count();
+        if count < 2 {
+            faults.push(format!("{}: {} edits of {}", function.name, count, own));
+        }
+    }
+    for path in sources.theorem_files() {
+        let start = format!("| `{}: ", path);
+        if rows(&promises, &start).flat_map(edits_of).count() == 0 {
+            faults.push(format!("{}: no edit", path));
+        }
+    }
+    none(faults);
+}
+
+#[test]
+fn public_routines_have_a_row() {
     let promises = text(&root().join("docs/PROMISES.md"));
     let mut faults = Vec::new();
     for name in crates() {
         for function in public_functions(&name) {
             let start = format!("| `{}/src/lib.rt: {}` |", name, function);
-            let edits: usize = promises
-                .lines()
-                .filter(|line| line.starts_with(&start))
-                .flat_map(references)
-                .filter(|reference| reference.path.ends_with("/must-fail"))
-                .map(|reference| reference.names.len())
-                .sum();
-            if edits < 2 {
-                faults.push(format!("{}::{}: {} edits", name, function, edits));
+            if rows(&promises, &start).next().is_none() {
+                faults.push(format!("{}::{}", name, function));
             }
         }
     }
@@ -100,4 +171,217 @@ fn every_theorem_is_listed() {
         }
     }
     none(faults);
+}
+
+/// With one of them changed the gate fails until the pins are renewed.
+#[test]
+fn exported_contracts_are_pinned() {
+    let sources = Sources::load();
+    let mut faults = CONTRACTS.differences(&sources);
+    for (_, function) in exported(&sources) {
+        if !function.clauses_of("requires").is_empty() {
+            faults.push(format!("{} has a requires: it must refuse instead", function.name));
+        }
+        if function.clauses_of("ensures").is_empty() {
+            faults.push(format!("{} has no ensures", function.name));
+        }
+    }
+    none(faults);
+}
+
+#[test]
+fn theorems_are_pinned() {
+    none(THEOREMS.differences(&Sources::load()));
+}
+
+/// A contract or a theorem is as strong as what it rests on.
+#[test]
+fn their_definitions_are_pinned() {
+    none(DEFINITIONS.differences(&Sources::load()));
+}
+
+/// A contract that says nothing, of each routine in turn.
+#[test]
+fn a_weaker_contract_is_noticed() {
+    const WEAK: &str = "λ r. ⌜ r ≡ r ⌝";
+    let sources = Sources::load();
+    let all = exported(&sources);
+    assert_eq!(all.len(), 13);
+    for (path, function) in all {
+        let ensures = function.clauses_of("ensures")[0].to_string();
+        let before = sources.get(&path);
+        let at = before.find(&format!("fn {}(", function.name)).expect("the routine");
+        let changed = before[at..].replacen(&ensures, WEAK, 1);
+        let name = format!("{} {}", path.split('/').next().unwrap_or(""), function.name);
+        let weak = sources.with(&path, format!("{}{}", &before[..at], changed));
+        let found = CONTRACTS.differences(&weak);
+        let expected = format!("{} changed: ", name);
+        assert!(found.len() == 1 && found[0].starts_with(&expected), "{}: {:?}", name, found);
+    }
+}
+
+/// The sources with one more word in each of these declarations.
+fn with_more(sources: &Sources, names: &[&String]) -> Sources {
+    let mut changed = sources.clone();
+    for name in names {
+        let (path, declared) = name.split_once(' ').expect("a file and a name");
+        let declarations = antt_declarations(sources.get(path));
+        let declaration = declarations.iter().find(|d| d.name == declared).expect(name);
+        let mut lines: Vec<String> = changed.get(path).lines().map(String::from).collect();
+        lines[declaration.line - 1].push_str(" ⊤");
+        changed = changed.with(path, lines.join("\n"));
+    }
+    changed
+}
+
+/// Each theorem with one more word in it, all definitions below with one more, and a name taken
+/// from another module.
+#[test]
+fn another_statement_is_noticed() {
+    let sources = Sources::load();
+    for name in THEOREMS.pinned().keys() {
+        let found = THEOREMS.differences(&with_more(&sources, &[name]));
+        let expected = format!("{} changed: ", name);
+        assert!(found.len() == 1 && found[0].starts_with(&expected), "{}: {:?}", name, found);
+    }
+    let pinned = DEFINITIONS.pinned();
+    let names: Vec<&String> = pinned.keys().filter(|name| name.contains(".antt ")).collect();
+    let found = DEFINITIONS.differences(&with_more(&sources, &names));
+    let expected = names.iter().map(|name| format!("{} changed: ", name));
+    assert_eq!(found.len(), names.len());
+    assert!(expected.zip(&found).all(|(start, line)| line.starts_with(&start)), "{:?}", found);
+    let path = "runs/specs/Theorem.antt";
+    let other = sources.get(path).replace("Schedule.{labelAt, Valid}", "Elsewhere.{labelAt, Valid}");
+    let found = THEOREMS.differences(&sources.with(path, other));
+    assert!(found.iter().any(|line| line.starts_with(&format!("{} Safe changed", path))), "{:?}", found);
+}
+
+/// Each theorem has a term of that type among the proofs. A theorem is a declaration of type
+/// `Type 0` in a theorem file, or a record of facts there; in the bench sheet these are two records.
+#[test]
+fn every_theorem_is_proved() {
+    // The types that proofs have, each with the module that its name comes from.
+    let mut proved = BTreeSet::new();
+    for name in crates() {
+        for proof in entries(&root().join("crates").join(name).join("proofs")) {
+            if is_antt(&proof) {
+                let source = text(&proof);
+                let imports = antt::imports(&source);
+                for declaration in antt_declarations(&source) {
+                    let of = declaration.declared_type();
+                    let module = imports.get(&of).map(|module| module.replace("·specs.", "."));
+                    proved.insert((module.unwrap_or_default(), of));
+                }
+            }
+        }
+    }
+    let sources = Sources::load();
+    let mut faults = Vec::new();
+    for path in sources.theorem_files() {
+        let module = format!("Rattle.{}", path.trim_end_matches(".antt").replace('/', "."));
+        for declaration in antt_declarations(sources.get(path)) {
+            let is_theorem = match declaration.declared_type().as_str() {
+                "Type 0" => true,
+                "Type 0 where" => declaration.text.starts_with("pub record "),
+                _ => false,
+            };
+            let listed = !path.ends_with("/Sheet.antt")
+                || ["Sheet", "Unstarred"].contains(&declaration.name.as_str());
+            if is_theorem && listed && !proved.contains(&(module.clone(), declaration.name.clone())) {
+                faults.push(format!("{}: no proof has the type {}", path, declaration.name));
+            }
+        }
+    }
+    none(faults);
+}
+
+/// Who is lent a disk to write to, and to whom it passes it on. Nobody else writes to it.
+const DISK_PASSED_ON: [(&str, &str, &[&str]); 6] = [
+    ("receiver", "pelzhondy_step", &["fault", "step_sound"]),
+    ("receiver", "pelzhondy_drain", &["fault", "drain_sound"]),
+    ("stores", "store_block", &["put_word"]),
+    ("storing", "store_write", &["store_block"]),
+    ("storing", "step_sound", &["store_write"]),
+    ("storing", "drain_sound", &["step_sound"]),
+];
+
+/// Who calls what leads to a store.
+const CALLERS: [(&str, &[(&str, &str)]); 4] = [
+    ("store_block", &[("storing", "store_write")]),
+    ("store_write", &[("storing", "step_sound")]),
+    ("step_sound", &[("receiver", "pelzhondy_step"), ("storing", "drain_sound")]),
+    ("drain_sound", &[("receiver", "pelzhondy_drain")]),
+];
+
+/// What is against it that only a step stores to a disk, and a drain only by steps: a function that
+/// has a disk to write to and is not known to, or does more than pass it on, or another caller.
+fn stores_elsewhere(sources: &Sources) -> Vec<String> {
+    let mut faults = Vec::new();
+    let mut lent = BTreeSet::new();
+    let mut callers = BTreeSet::new();
+    for path in sources.code() {
+        let name = path.split('/').next().unwrap_or("");
+        let source = sources.get(path);
+        let mut calls_made = 0;
+        for function in functions(source) {
+            let of = format!("{}::{}", name, function.name);
+            let made = calls(&function.body);
+            for (callee, _) in CALLERS {
+                let count = made.iter().filter(|(called, _)| called == callee).count();
+                calls_made += count;
+                callers.extend((0..count).map(|i| format!("{} calls {} ({})", of, callee, i + 1)));
+            }
+            let is_disk = |(name, kind): &(String, String)| name == "disk" && kind == "&mut [u8]";
+            if function.parameters.iter().any(is_disk) {
+                let given = made.iter().filter(|(_, with)| with.iter().any(|a| a == "disk"));
+                let given: Vec<&str> = given.map(|(callee, _)| callee.as_str()).collect();
+                // A use that is no argument of its own could be a store.
+                if uses(&function.body, "disk") != given.len() {
+                    faults.push(format!("{} does more with its disk than pass it on", of));
+                }
+                lent.insert(format!("{} passes its disk to {:?}", of, given));
+            }
+        }
+        // A call outside of what is taken for a function would not be seen.
+        let whole = without_comments(source);
+        let named: usize = CALLERS.iter().map(|(callee, _)| uses(&whole, callee)).sum();
+        let declared = CALLERS.iter().map(|(callee, _)| uses(&whole, &format!("fn {}", callee)));
+        if named != calls_made + declared.sum::<usize>() {
+            faults.push(format!("{} names one of them other than in a call", path));
+        }
+    }
+    let known = DISK_PASSED_ON
+        .iter()
+        .map(|(name, function, to)| format!("{}::{} passes its disk to {:?}", name, function, to));
+    faults.extend(lent.symmetric_difference(&known.collect()).cloned());
+    let known = CALLERS.iter().flat_map(|(callee, by)| {
+        by.iter().map(move |(name, function)| format!("{}::{} calls {} (1)", name, function, callee))
+    });
+    faults.extend(callers.symmetric_difference(&known.collect()).cloned());
+    faults
+}
+
+#[test]
+fn only_steps_store() {
+    none(stores_elsewhere(&Sources::load()));
+}
+
+/// Each of these would store other than by a step.
+#[test]
+fn another_store_is_noticed() {
+    let sources = Sources::load();
+    for (path, old, new) in [
+        ("storing/src/lib.rt", "= step_sound(", "= store_write("),
+        ("storing/src/lib.rt", "    store_write(", "    // store_write("),
+        ("storing/src/lib.rt", "    store_write(", "    store_write(state, disk, 0);\n    store_write("),
+        ("storing/src/lib.rt", "    store_write(", "    disk[0] = 0;\n    store_write("),
+        ("storing/src/lib.rt", "    store_write(", "    let d = disk;\n    store_write("),
+        ("storing/src/lib.rt", "disk: &[u8]", "disk: &mut [u8]"),
+        ("receiver/src/lib.rt", "    appending::append(", "    stores::store_block(state, w);\n    appending::append("),
+        ("appending/src/lib.rt", "pub fn append(", "pub fn append(disk: &mut [u8], "),
+    ] {
+        let changed = sources.get(path).replacen(old, new, 1);
+        assert_ne!(changed, sources.get(path), "{} has no {}", path, old);
+        assert_ne!(stores_elsewhere(&sources.with(path, changed)), [""; 0], "{} for {}", new, old);
+    }
 }

@@ -93,18 +93,54 @@ impl State {
             *at |= 1 << i;
             with_name[write.name as usize] |= 1 << i;
         }
+        let epochs = self.epochs();
         for i in 0..self.count {
-            self.needs[i] |= self.dependencies(i, &with_name);
+            let named = self.named(i, &with_name);
+            let (equal, less) = epochs[i];
+            self.needs[i] |= named[0] & equal | named[1] & less | named[2] & !(equal | less);
         }
+    }
+
+    /// For each write the masks of those with an equal epoch and with a lower one, by their order.
+    fn epochs(&self) -> [(u64, u64); MOST_WRITES] {
+        let mut order = [0; MOST_WRITES];
+        for (i, write) in self.writes[..self.count].iter().enumerate() {
+            order[i] = (write.epoch as u64) << 6 | i as u64;
+        }
+        let order = &mut order[..self.count];
+        order.sort_unstable();
+        let mut masks = [(0, 0); MOST_WRITES];
+        let (mut from, mut less) = (0, 0);
+        while from < order.len() {
+            let (mut to, mut equal) = (from, 0);
+            while to < order.len() && order[to] >> 6 == order[from] >> 6 {
+                equal |= 1 << (order[to] & 63);
+                to += 1;
+            }
+            for place in &order[from..to] {
+                masks[(place & 63) as usize] = (equal, less);
+            }
+            less |= equal;
+            from = to;
+        }
+        masks
+    }
+
+    /// The writes that rules name for a write, by predicate, given the masks of the names.
+    fn named(&self, i: usize, with_name: &[u64; 256]) -> [u64; 3] {
+        let mut named = [0; 3];
+        for rule in self.rules() {
+            if rule.name == self.writes[i].name {
+                named[rule.predicate as usize] |= with_name[rule.second as usize];
+            }
+        }
+        named
     }
 
     /// The writes that a write depends on, given the masks of the names.
     fn dependencies(&self, i: usize, with_name: &[u64; 256]) -> u64 {
         let write = &self.writes[i];
-        let mut named = [0; 3];
-        for rule in self.rules().iter().filter(|rule| rule.name == write.name) {
-            named[rule.predicate as usize] |= with_name[rule.second as usize];
-        }
+        let named = self.named(i, with_name);
         if named == [0; 3] {
             return 0;
         }
@@ -159,23 +195,52 @@ impl State {
         false
     }
 
+    fn is_ready(&self, i: usize) -> bool {
+        self.needs[i] & !self.stored == 0
+    }
+
+    /// Stores a write and marks it.
+    fn store(&mut self, i: usize, bytes: &mut [u8], disk: &mut [u8]) {
+        let write = &self.writes[i];
+        let at = 4 * write.address as usize;
+        disk[at..at + 4].copy_from_slice(&write.block.to_be_bytes());
+        bytes[WRITES_AT + WRITE_SIZE * i + FLAG] = 1;
+        bytes[2] += 1;
+        self.stored |= 1 << i;
+    }
+
     /// Stores the earliest write that is ready, and answers its place from 1, or 0.
     fn step(&mut self, bytes: &mut [u8], disk: &mut [u8]) -> u64 {
         let mut left = first(self.count) & !self.stored;
         while left != 0 {
             let i = left.trailing_zeros() as usize;
-            if self.needs[i] & !self.stored == 0 {
-                let write = &self.writes[i];
-                let at = 4 * write.address as usize;
-                disk[at..at + 4].copy_from_slice(&write.block.to_be_bytes());
-                bytes[WRITES_AT + WRITE_SIZE * i + FLAG] = 1;
-                bytes[2] += 1;
-                self.stored |= 1 << i;
+            if self.is_ready(i) {
+                self.store(i, bytes, disk);
                 return i as u64 + 1;
             }
             left &= left - 1;
         }
         0
+    }
+
+    /// Stores all that wait, in the order of steps, and answers how many. A write that was not
+    /// ready is looked at again only after another one is stored.
+    #[inline(always)]
+    fn drain(&mut self, mut store: impl FnMut(&mut State, usize)) -> u64 {
+        let waiting = first(self.count) & !self.stored;
+        let (mut left, mut unready) = (waiting, 0);
+        while left != 0 {
+            let i = left.trailing_zeros() as usize;
+            left &= left - 1;
+            if self.is_ready(i) {
+                store(self, i);
+                left |= unready;
+                unready = 0;
+            } else {
+                unready |= 1 << i;
+            }
+        }
+        waiting.count_ones() as u64
     }
 }
 
@@ -257,13 +322,18 @@ pub fn drain(bytes: &mut [u8], disk: &mut [u8]) -> u64 {
         return refused(14, 0);
     }
     match State::of(bytes) {
-        Some(mut state) => {
-            let mut count = 0;
-            while state.step(bytes, disk) != 0 {
-                count += 1;
-            }
-            count
-        }
+        Some(mut state) => state.drain(|state, i| state.store(i, bytes, disk)),
         None => refused(15, 0),
     }
+}
+
+/// The places in the order in which a drain of a sound state stores them.
+#[cfg(test)]
+pub fn order_of_drain(bytes: &[u8]) -> Option<Vec<u64>> {
+    let mut order = Vec::new();
+    State::of(bytes)?.drain(|state, i| {
+        state.stored |= 1 << i;
+        order.push(i as u64 + 1);
+    });
+    Some(order)
 }

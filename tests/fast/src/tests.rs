@@ -2,10 +2,11 @@
 
 use reference::crashes;
 use reference::damage;
-use reference::generate::{self, Palette};
+use reference::generate::{self, Values};
 use reference::judge::{is_bad, judge_test, numbered, readable};
 use reference::random::Random;
 use reference::refusal::Refusal;
+use reference::states;
 use reference::writes::Write;
 
 use crate::refused;
@@ -72,8 +73,8 @@ fn finding() {
             test.main.truncate(5);
         }
         if random.one_in(2) {
-            let palette = Palette::small(&mut random);
-            file.tests = vec![crashes::guarded_test(&mut random, &palette, 5, 8)];
+            let values = Values::small(&mut random);
+            file.tests = vec![crashes::guarded_test(&mut random, &values, 5, 8)];
         }
         if !random.one_in(20) {
             file.rules.clear();
@@ -102,7 +103,7 @@ fn hand_in(state: &mut [u8], write: &Write) -> u64 {
 fn caching() {
     for seed in 0..1500 {
         let mut random = Random::new(seed);
-        let palette = Palette::small(&mut random);
+        let values = Values::small(&mut random);
         let mut file = crashes::file(&mut random);
         if !random.one_in(8) {
             file.tests.clear();
@@ -128,7 +129,7 @@ fn caching() {
                     cache::step(&mut two, &mut disk_two),
                 ),
                 _ => {
-                    let write = generate::write(&mut random, &palette);
+                    let write = generate::write(&mut random, &values);
                     let expected = reference::cache::hand_in(&mut one, &write);
                     (
                         expected.map(|()| one[1] as usize),
@@ -146,4 +147,21 @@ fn caching() {
             assert_eq!(log::get(&disk_two, key), answer(value), "seed {seed}");
         }
     }
+}
+
+/// A drain stores one write after another as steps do, which the bytes left do not show.
+#[test]
+fn drains_in_the_order_of_steps() {
+    let mut not_of_arrival = 0;
+    for seed in 0..1000 {
+        let mut state = states::sound(&mut Random::new(seed));
+        let order = cache::order_of_drain(&state).expect("a sound state");
+        let mut disk = [0; 1024];
+        for &place in &order {
+            assert_eq!(cache::step(&mut state, &mut disk), place, "seed {seed}");
+        }
+        assert_eq!(cache::step(&mut state, &mut disk), 0, "seed {seed}");
+        not_of_arrival += usize::from(order.windows(2).any(|two| two[1] < two[0]));
+    }
+    assert!(not_of_arrival > 100, "{not_of_arrival}");
 }

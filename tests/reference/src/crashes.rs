@@ -4,7 +4,7 @@
 use crate::checks::Check;
 use crate::cyclic::cyclic;
 use crate::file::{File, Test, MOST_CHECKS, MOST_MAIN, MOST_RULES};
-use crate::generate::{self, Palette};
+use crate::generate::{self, Values};
 use crate::log;
 use crate::random::Random;
 use crate::samples::log_rules;
@@ -12,10 +12,10 @@ use crate::schedule::dependencies;
 use crate::writes::{Block, Predicate, Rule, Write, PREDICATES};
 
 /// Up to `most` rules that are not cyclic.
-pub fn acyclic_rules(random: &mut Random, palette: &Palette, most: usize) -> Vec<Rule> {
+pub fn acyclic_rules(random: &mut Random, values: &Values, most: usize) -> Vec<Rule> {
     let mut rules = Vec::new();
     for _ in 0..random.between(0, most) {
-        rules.push(generate::rule(random, palette));
+        rules.push(generate::rule(random, values));
         if cyclic(&rules) {
             rules.pop();
         }
@@ -23,10 +23,10 @@ pub fn acyclic_rules(random: &mut Random, palette: &Palette, most: usize) -> Vec
     rules
 }
 
-/// As many rules as a file can have: these, and others that name nothing of the palette, in any
+/// As many rules as a file can have: these, and others that have none of the names, in any
 /// order, so that one which matters is often the last.
-pub fn padded(random: &mut Random, palette: &Palette, rules: &[Rule]) -> Vec<Rule> {
-    let unused: Vec<u8> = (0..=255).filter(|n| !palette.names.contains(n)).collect();
+pub fn padded(random: &mut Random, values: &Values, rules: &[Rule]) -> Vec<Rule> {
+    let unused: Vec<u8> = (0..=255).filter(|n| !values.names.contains(n)).collect();
     let mut all = rules.to_vec();
     while all.len() < MOST_RULES {
         let i = random.below(unused.len() - 1);
@@ -37,7 +37,7 @@ pub fn padded(random: &mut Random, palette: &Palette, rules: &[Rule]) -> Vec<Rul
         });
     }
     random.shuffle(&mut all);
-    let matters = |rule: &Rule| palette.names.contains(&rule.name);
+    let matters = |rule: &Rule| values.names.contains(&rule.name);
     if random.one_in(2) {
         if let Some(i) = all.iter().position(matters) {
             all.swap(i, MOST_RULES - 1);
@@ -47,10 +47,10 @@ pub fn padded(random: &mut Random, palette: &Palette, rules: &[Rule]) -> Vec<Rul
 }
 
 /// A check about where writes of the test go and what they leave there.
-fn check_of(random: &mut Random, palette: &Palette, test: &Test) -> Check {
+fn check_of(random: &mut Random, values: &Values, test: &Test) -> Check {
     let writes: Vec<&Write> = test.initial.iter().chain(&test.main).collect();
     if writes.is_empty() || random.one_in(5) {
-        return generate::check(random, palette);
+        return generate::check(random, values);
     }
     let (one, two) = (random.pick(&writes), random.pick(&writes));
     match random.below(4) {
@@ -67,11 +67,11 @@ fn check_of(random: &mut Random, palette: &Palette, test: &Test) -> Check {
 
 /// Checks for a test that has its writes: of those that are drawn, the ones that hold at the start
 /// or, in few of the tests, any.
-fn add_checks(random: &mut Random, palette: &Palette, test: &mut Test, drawn: usize) {
+fn add_checks(random: &mut Random, values: &Values, test: &mut Test, drawn: usize) {
     let start = test.initial_disk();
     let any = random.one_in(8);
     for _ in 0..drawn {
-        let check = check_of(random, palette, test);
+        let check = check_of(random, values, test);
         if test.checks.len() < MOST_CHECKS && (any || check.holds(&start)) {
             test.checks.push(check);
         }
@@ -79,14 +79,14 @@ fn add_checks(random: &mut Random, palette: &Palette, test: &mut Test, drawn: us
 }
 
 /// A test with this number of main writes.
-pub fn test(random: &mut Random, palette: &Palette, main: usize) -> Test {
+pub fn test(random: &mut Random, values: &Values, main: usize) -> Test {
     let initial = random.below(8);
-    let mut test = generate::test_of(random, palette, initial, main, 0);
+    let mut test = generate::test_of(random, values, initial, main, 0);
     let drawn = match random.below(8) {
         0 => random.between(8, 40),
         _ => random.between(1, 5),
     };
-    add_checks(random, palette, &mut test, drawn);
+    add_checks(random, values, &mut test, drawn);
     test
 }
 
@@ -101,13 +101,13 @@ pub fn main_count(random: &mut Random) -> usize {
 
 /// Rules that are not cyclic and a few tests.
 pub fn file(random: &mut Random) -> File {
-    let palette = Palette::small(random);
+    let values = Values::small(random);
     let most = if random.one_in(8) { 32 } else { 6 };
-    let rules = acyclic_rules(random, &palette, most);
+    let rules = acyclic_rules(random, &values, most);
     let mut tests = Vec::new();
     for _ in 0..random.between(1, 3) {
         let main = main_count(random);
-        tests.push(test(random, &palette, main));
+        tests.push(test(random, &values, main));
     }
     File { rules, tests }
 }
@@ -122,11 +122,11 @@ pub fn log_file(random: &mut Random) -> File {
         rules.remove(random.below(2));
     }
     if random.one_in(2) {
-        let palette = Palette {
+        let values = Values {
             names: vec![log::LOG, log::SUPERBLOCK],
-            ..Palette::small(random)
+            ..Values::small(random)
         };
-        rules.push(generate::rule(random, &palette));
+        rules.push(generate::rule(random, &values));
         if cyclic(&rules) {
             rules.pop();
         }
@@ -188,7 +188,7 @@ pub fn chain(random: &mut Random) -> (File, u64) {
 
 /// A test that asks for what some acyclic rules guarantee, by a pair check for each two writes that
 /// one of them matches: rules that are enough can be found, and often all of these are needed.
-pub fn guarded_test(random: &mut Random, palette: &Palette, main: usize, most: usize) -> Test {
+pub fn guarded_test(random: &mut Random, values: &Values, main: usize, most: usize) -> Test {
     let mut addresses: Vec<u8> = (0..=255).collect();
     random.shuffle(&mut addresses);
     let main: Vec<Write> = (0..main)
@@ -198,7 +198,7 @@ pub fn guarded_test(random: &mut Random, palette: &Palette, main: usize, most: u
                 first: 1,
                 second: i as u16,
             },
-            ..generate::write(random, palette)
+            ..generate::write(random, values)
         })
         .collect();
     let mut rules = Vec::new();

@@ -7,7 +7,7 @@
 use crate::file::{body_length, bytes_of, Field, File, Test};
 use crate::file::{END, INITIAL, LONGEST, MAIN, PAIR, POINTER, RANGE, RULE};
 use crate::file::{MOST_CHECKS, MOST_INITIAL, MOST_MAIN, MOST_RULES, MOST_TESTS};
-use crate::generate::{self, Palette};
+use crate::generate::{self, Values};
 use crate::random::Random;
 use crate::refusal::{self, Refusal};
 
@@ -206,27 +206,27 @@ pub fn wrong_length(random: &mut Random) -> Damaged {
 /// 4, out of order: a rule once a test has begun, an 01 after its test's 02 or check, an 02 after
 /// its test's check. In some of the files the field is over its limit too.
 pub fn out_of_order(random: &mut Random) -> Damaged {
-    let palette = Palette::random(random);
+    let values = Values::random(random);
     let tag = random.pick(&[RULE, INITIAL, MAIN]);
     let at_limit = random.one_in(4);
     let mut file = generate::small_file(random);
-    let mut test = generate::test(random, &palette);
+    let mut test = generate::test(random, &values);
     match tag {
-        RULE if at_limit => file.rules = generate::rules_of(random, &palette, MOST_RULES),
+        RULE if at_limit => file.rules = generate::rules_of(random, &values, MOST_RULES),
         INITIAL if at_limit => {
-            test.initial = generate::test_of(random, &palette, MOST_INITIAL, 0, 0).initial
+            test.initial = generate::test_of(random, &values, MOST_INITIAL, 0, 0).initial
         }
-        MAIN if at_limit => test.main = generate::test_of(random, &palette, 0, MOST_MAIN, 0).main,
+        MAIN if at_limit => test.main = generate::test_of(random, &values, 0, MOST_MAIN, 0).main,
         _ => {}
     }
     if tag != RULE {
         let least_main = usize::from(tag == INITIAL && random.one_in(2));
         let least_checks = 1 - least_main;
         while test.main.len() < least_main {
-            test.main.push(generate::write(random, &palette));
+            test.main.push(generate::write(random, &values));
         }
         while test.checks.len() < least_checks {
-            test.checks.push(generate::check(random, &palette));
+            test.checks.push(generate::check(random, &values));
         }
     }
     // From where to where in the test, by index among its fields, `tag` is out of order.
@@ -288,30 +288,30 @@ pub const LIMITS: [Limit; 5] = [
 /// The fields of a file up to where this limit is reached exactly: after the last rule, after the
 /// last test's end, or within a test.
 fn fields_up_to(random: &mut Random, limit: Limit) -> Vec<Field> {
-    let palette = Palette::random(random);
+    let values = Values::random(random);
     let mut file = generate::small_file(random);
     let mut test = Test::default();
     match limit {
         Limit::Rules => {
-            file.rules = generate::rules_of(random, &palette, MOST_RULES);
+            file.rules = generate::rules_of(random, &values, MOST_RULES);
             file.tests.clear();
         }
         Limit::Tests => {
             while file.tests.len() < MOST_TESTS {
                 let (initial, main, checks) = (random.below(2), random.below(2), random.below(2));
                 file.tests
-                    .push(generate::test_of(random, &palette, initial, main, checks));
+                    .push(generate::test_of(random, &values, initial, main, checks));
             }
         }
-        Limit::Initial => test = generate::test_of(random, &palette, MOST_INITIAL, 0, 0),
+        Limit::Initial => test = generate::test_of(random, &values, MOST_INITIAL, 0, 0),
         Limit::Main => {
             let initial = generate::count(random, MOST_INITIAL);
-            test = generate::test_of(random, &palette, initial, MOST_MAIN, 0);
+            test = generate::test_of(random, &values, initial, MOST_MAIN, 0);
         }
         Limit::Checks => {
             let initial = generate::count(random, MOST_INITIAL);
             let main = generate::count(random, MOST_MAIN);
-            test = generate::test_of(random, &palette, initial, main, MOST_CHECKS);
+            test = generate::test_of(random, &values, initial, main, MOST_CHECKS);
         }
     }
     let mut fields = file.fields();

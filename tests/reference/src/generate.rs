@@ -10,7 +10,7 @@ use crate::writes::{Block, Predicate, Rule, Write, PREDICATES};
 
 /// The values that a file draws from.
 #[derive(Clone, Debug)]
-pub struct Palette {
+pub struct Values {
     pub names: Vec<u8>,
     pub addresses: Vec<u8>,
     pub epochs: Vec<u32>,
@@ -18,17 +18,17 @@ pub struct Palette {
     pub halves: Vec<u16>,
 }
 
-impl Palette {
-    pub fn random(random: &mut Random) -> Palette {
+impl Values {
+    pub fn random(random: &mut Random) -> Values {
         if random.one_in(4) {
-            Palette::wide(random)
+            Values::wide(random)
         } else {
-            Palette::small(random)
+            Values::small(random)
         }
     }
 
     /// A few values of each kind, among them those at the ends of their ranges.
-    pub fn small(random: &mut Random) -> Palette {
+    pub fn small(random: &mut Random) -> Values {
         const NAMES: [u8; 7] = [0, 1, 2, 3, 127, 128, 255];
         const ADDRESSES: [u8; 9] = [0, 1, 2, 3, 4, 5, 128, 254, 255];
         const EPOCHS: [u32; 5] = [0, 1, 0x7FFF_FFFE, 0x0000_FFFF, 0xFFFF_FFFC];
@@ -42,7 +42,7 @@ impl Palette {
         let epochs = (0..few).map(|i| from + i).collect();
         let few = random.between(2, 6);
         let halves = some(random, &HALVES, few);
-        Palette {
+        Values {
             names,
             addresses,
             epochs,
@@ -51,9 +51,9 @@ impl Palette {
     }
 
     /// Many values from the whole ranges.
-    pub fn wide(random: &mut Random) -> Palette {
+    pub fn wide(random: &mut Random) -> Values {
         const MANY: usize = 40;
-        Palette {
+        Values {
             names: random.bytes(MANY),
             addresses: random.bytes(MANY),
             epochs: (0..MANY).map(|_| random.number() as u32).collect(),
@@ -77,40 +77,40 @@ pub fn count(random: &mut Random, most: usize) -> usize {
     }
 }
 
-pub fn block(random: &mut Random, palette: &Palette) -> Block {
+pub fn block(random: &mut Random, values: &Values) -> Block {
     Block {
-        first: random.pick(&palette.halves),
-        second: random.pick(&palette.halves),
+        first: random.pick(&values.halves),
+        second: random.pick(&values.halves),
     }
 }
 
-pub fn write(random: &mut Random, palette: &Palette) -> Write {
+pub fn write(random: &mut Random, values: &Values) -> Write {
     Write {
-        address: random.pick(&palette.addresses),
-        name: random.pick(&palette.names),
-        epoch: random.pick(&palette.epochs),
-        block: block(random, palette),
+        address: random.pick(&values.addresses),
+        name: random.pick(&values.names),
+        epoch: random.pick(&values.epochs),
+        block: block(random, values),
     }
 }
 
-pub fn rule(random: &mut Random, palette: &Palette) -> Rule {
+pub fn rule(random: &mut Random, values: &Values) -> Rule {
     Rule {
-        name: random.pick(&palette.names),
+        name: random.pick(&values.names),
         predicate: random.pick(&PREDICATES),
-        second: random.pick(&palette.names),
+        second: random.pick(&values.names),
     }
 }
 
-pub fn check(random: &mut Random, palette: &Palette) -> Check {
-    let at = random.pick(&palette.addresses);
+pub fn check(random: &mut Random, values: &Values) -> Check {
+    let at = random.pick(&values.addresses);
     match random.below(3) {
         0 => Check::Range { at },
         1 => Check::Pointer { at },
         _ => Check::Pair {
             a: at,
-            v: block(random, palette),
-            b: random.pick(&palette.addresses),
-            w: block(random, palette),
+            v: block(random, values),
+            b: random.pick(&values.addresses),
+            w: block(random, values),
         },
     }
 }
@@ -118,26 +118,26 @@ pub fn check(random: &mut Random, palette: &Palette) -> Check {
 /// A test with these numbers of initial writes, main writes and checks.
 pub fn test_of(
     random: &mut Random,
-    palette: &Palette,
+    values: &Values,
     initial: usize,
     main: usize,
     checks: usize,
 ) -> Test {
     Test {
-        initial: (0..initial).map(|_| write(random, palette)).collect(),
-        main: (0..main).map(|_| write(random, palette)).collect(),
-        checks: (0..checks).map(|_| check(random, palette)).collect(),
+        initial: (0..initial).map(|_| write(random, values)).collect(),
+        main: (0..main).map(|_| write(random, values)).collect(),
+        checks: (0..checks).map(|_| check(random, values)).collect(),
     }
 }
 
-pub fn test(random: &mut Random, palette: &Palette) -> Test {
+pub fn test(random: &mut Random, values: &Values) -> Test {
     if random.one_in(6) {
         return log_test(random);
     }
     let initial = count(random, MOST_INITIAL);
     let main = count(random, MOST_MAIN);
     let checks = count(random, MOST_CHECKS);
-    test_of(random, palette, initial, main, checks)
+    test_of(random, values, initial, main, checks)
 }
 
 /// A program of puts.
@@ -157,49 +157,49 @@ pub fn log_test(random: &mut Random) -> Test {
     log::test_of(&initial, &main)
 }
 
-pub fn rules_of(random: &mut Random, palette: &Palette, rules: usize) -> Vec<Rule> {
-    (0..rules).map(|_| rule(random, palette)).collect()
+pub fn rules_of(random: &mut Random, values: &Values, rules: usize) -> Vec<Rule> {
+    (0..rules).map(|_| rule(random, values)).collect()
 }
 
 /// Any file that reading accepts.
 pub fn file(random: &mut Random) -> File {
-    let palette = Palette::random(random);
+    let values = Values::random(random);
     let rules = count(random, MOST_RULES);
     let tests = count(random, MOST_TESTS);
     File {
-        rules: rules_of(random, &palette, rules),
-        tests: (0..tests).map(|_| test(random, &palette)).collect(),
+        rules: rules_of(random, &values, rules),
+        tests: (0..tests).map(|_| test(random, &values)).collect(),
     }
 }
 
 /// A small file: at most a few fields of each kind.
 pub fn small_file(random: &mut Random) -> File {
-    let palette = Palette::random(random);
+    let values = Values::random(random);
     let rules = random.below(4);
     let tests = random.below(4);
     let mut file = File {
-        rules: rules_of(random, &palette, rules),
+        rules: rules_of(random, &values, rules),
         tests: Vec::new(),
     };
     for _ in 0..tests {
         let (initial, main, checks) = (random.below(4), random.below(4), random.below(4));
         file.tests
-            .push(test_of(random, &palette, initial, main, checks));
+            .push(test_of(random, &values, initial, main, checks));
     }
     file
 }
 
 /// A file with every count at its limit; with pair checks only it is as long as a file can be.
 pub fn full_file(random: &mut Random, pairs_only: bool) -> File {
-    let palette = Palette::random(random);
+    let values = Values::random(random);
     let mut file = File {
-        rules: rules_of(random, &palette, MOST_RULES),
+        rules: rules_of(random, &values, MOST_RULES),
         tests: Vec::new(),
     };
     for _ in 0..MOST_TESTS {
-        let mut test = test_of(random, &palette, MOST_INITIAL, MOST_MAIN, 0);
+        let mut test = test_of(random, &values, MOST_INITIAL, MOST_MAIN, 0);
         while test.checks.len() < MOST_CHECKS {
-            let check = check(random, &palette);
+            let check = check(random, &values);
             if !pairs_only || matches!(check, Check::Pair { .. }) {
                 test.checks.push(check);
             }

@@ -1,10 +1,12 @@
-// States of the cache: sound ones, as runs of calls leave them, and ones that break one clause.
+// States of the cache: sound ones, as runs of calls leave them and others, and ones that break one
+// clause.
 
 use crate::cache::{self, Clause, DISK, STATE};
 use crate::cache::{MOST_WRITES, RULES_AT, RULE_SIZE, WRITES_AT, WRITES_END, WRITE_SIZE};
 use crate::crashes;
 use crate::file::{write_body, File, MOST_RULES};
-use crate::generate::{self, Palette};
+use crate::generate::{self, Values};
+use crate::needs::needs;
 use crate::random::Random;
 use crate::refusal;
 use crate::writes::{Rule, Write};
@@ -26,7 +28,7 @@ const FLAG: usize = 10;
 /// What a run draws its rules and writes from.
 #[derive(Clone, Debug)]
 pub struct Source {
-    pub palette: Palette,
+    pub values: Values,
     pub rules: Vec<Rule>,
 }
 
@@ -34,23 +36,23 @@ impl Source {
     /// Rules that are not cyclic, and writes that they often match; in most of the cases so many
     /// addresses and epochs that a run can fill the state.
     pub fn new(random: &mut Random) -> Source {
-        let mut palette = Palette::small(random);
+        let mut values = Values::small(random);
         if !random.one_in(4) {
-            let wide = Palette::wide(random);
-            palette.addresses.extend(wide.addresses);
-            let from = random.pick(&palette.epochs).min(u32::MAX - 40);
-            palette.epochs = (from..from + random.between(1, 40) as u32).collect();
+            let wide = Values::wide(random);
+            values.addresses.extend(wide.addresses);
+            let from = random.pick(&values.epochs).min(u32::MAX - 40);
+            values.epochs = (from..from + random.between(1, 40) as u32).collect();
         }
         let few = random.pick(&[0, 2, 6, 12]);
-        let mut rules = crashes::acyclic_rules(random, &palette, few);
+        let mut rules = crashes::acyclic_rules(random, &values, few);
         if random.one_in(8) {
-            rules = crashes::padded(random, &palette, &rules);
+            rules = crashes::padded(random, &values, &rules);
         }
-        Source { palette, rules }
+        Source { values, rules }
     }
 
     pub fn write(&self, random: &mut Random) -> Write {
-        generate::write(random, &self.palette)
+        generate::write(random, &self.values)
     }
 
     /// The file that a cache is opened with.
@@ -94,9 +96,31 @@ impl Source {
     }
 }
 
-/// Any sound state.
+/// A sound state: one that a run leaves or, in half of the cases, one with some of the waiting
+/// writes stored in any order that their needs allow. A run stores the earliest of them first, so
+/// that many of these are left by no run.
 pub fn sound(random: &mut Random) -> Vec<u8> {
-    Source::new(random).reached(random)
+    let source = Source::new(random);
+    let mut state = source.reached(random);
+    if random.one_in(2) {
+        store_any(random, &source.rules, &mut state);
+    }
+    state
+}
+
+/// Flags some waiting writes whose needs are all stored, one after another.
+fn store_any(random: &mut Random, rules: &[Rule], state: &mut [u8]) {
+    let needs = needs(rules, &cache::accepted(state));
+    for _ in 0..random.below(needs.len() + 1) {
+        let stored = cache::stored(state);
+        let is_ready = |&i: &usize| !stored[i] && needs[i].iter().all(|&j| stored[j]);
+        let ready: Vec<usize> = (0..needs.len()).filter(is_ready).collect();
+        if ready.is_empty() {
+            return;
+        }
+        state[WRITES_AT + random.pick(&ready) * WRITE_SIZE + FLAG] = 1;
+        state[STORED] += 1;
+    }
 }
 
 /// Appends a write, whether or not it would be accepted.
@@ -173,13 +197,13 @@ fn try_broken(random: &mut Random, clause: Clause) -> Option<Vec<u8>> {
         Clause::Limits => {
             let (at, most) = random.pick(&[(0, MOST_RULES), (COUNT, MOST_WRITES)]);
             state = if at == COUNT {
-                let palette = Palette::wide(random);
+                let values = Values::wide(random);
                 let rules = vec![];
-                Source { palette, rules }.after(random, MOST_WRITES, 0)
+                Source { values, rules }.after(random, MOST_WRITES, 0)
             } else {
-                let palette = Palette::small(random);
-                let rules = crashes::padded(random, &palette, &[]);
-                Source { palette, rules }.reached(random)
+                let values = Values::small(random);
+                let rules = crashes::padded(random, &values, &[]);
+                Source { values, rules }.reached(random)
             };
             let over = random.between(most + 1, 255);
             state[at] = random.pick(&[most + 1, over]) as u8;

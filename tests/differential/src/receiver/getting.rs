@@ -1,7 +1,7 @@
 // Get: on logs, on any disks, and with superblocks at the limits.
 
 use reference::cache::DISK;
-use reference::generate::{self, Palette};
+use reference::generate::{self, Values};
 use reference::log;
 use reference::random::Random;
 use reference::schedule::disk_of;
@@ -62,9 +62,9 @@ fn any_disks(run: &mut Run) -> Outcome {
     let mut found = 0;
     for _ in 0..run.times(2_000) {
         let mut random = run.next_case();
-        let palette = Palette::small(&mut random);
-        let keys: Vec<u16> = palette.halves.iter().copied().chain([7]).collect();
-        let mut blocks = EMPTY_DISK.map(|_| generate::block(&mut random, &palette));
+        let values = Values::small(&mut random);
+        let keys: Vec<u16> = values.halves.iter().copied().chain([7]).collect();
+        let mut blocks = EMPTY_DISK.map(|_| generate::block(&mut random, &values));
         if random.one_in(2) {
             blocks[0] = superblock(&mut random);
         }

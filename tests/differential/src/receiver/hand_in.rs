@@ -123,7 +123,7 @@ fn late_and_ring(run: &mut Run) -> Outcome {
             address,
             name,
             epoch,
-            block: generate::block(&mut random, &source.palette),
+            block: generate::block(&mut random, &source.values),
         };
         let (stored, waiting) = (write(1, high, epoch), write(2, low, epoch - 1));
         let both = write(2, low, epoch);

@@ -5,7 +5,7 @@ use reference::crashes;
 use reference::cyclic::cyclic;
 use reference::damage::{self, Limit};
 use reference::file::File;
-use reference::generate::{self, Palette};
+use reference::generate::{self, Values};
 use reference::random::Random;
 use reference::refusal;
 use reference::states;
@@ -67,11 +67,11 @@ fn file_of(rules: Vec<reference::writes::Rule>) -> Vec<u8> {
 
 fn rules(run: &mut Run) -> Outcome {
     each(run, 2_000, |random| {
-        let palette = Palette::random(random);
+        let values = Values::random(random);
         let rules = match random.below(4) {
             0 => vec![],
-            1 => crashes::padded(random, &palette, &[]),
-            _ => crashes::acyclic_rules(random, &palette, 12),
+            1 => crashes::padded(random, &values, &[]),
+            _ => crashes::acyclic_rules(random, &values, 12),
         };
         file_of(rules)
     })

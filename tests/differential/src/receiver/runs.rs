@@ -7,7 +7,7 @@ use reference::checks::consistent;
 use reference::crashes;
 use reference::damage;
 use reference::file::Test;
-use reference::generate::{self, Palette};
+use reference::generate::{self, Values};
 use reference::judge::judge_test;
 use reference::random::Random;
 use reference::samples;
@@ -229,8 +229,8 @@ fn other_state(random: &mut Random) -> Lent {
 }
 
 fn any_write(random: &mut Random) -> Write {
-    let palette = Palette::small(random);
-    generate::write(random, &palette)
+    let values = Values::small(random);
+    generate::write(random, &values)
 }
 
 /// K9 and K11: both are accepted, and place 2 is stored first.
@@ -308,10 +308,10 @@ fn full_states(run: &mut Run) -> Outcome {
     for i in 0..run.times(12) {
         let mut random = run.next_case();
         let mut source = Source::new(&mut random);
-        source.palette = Palette::wide(&mut random);
+        source.values = Values::wide(&mut random);
         source.rules = match i % 3 {
             0 => vec![],
-            1 => crashes::acyclic_rules(&mut random, &source.palette, 32),
+            1 => crashes::acyclic_rules(&mut random, &source.values, 32),
             _ => samples::log_rules().to_vec(),
         };
         let mut replay = Replay::open(&mut random, &source, &EMPTY_DISK)?;

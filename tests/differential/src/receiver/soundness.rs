@@ -1,7 +1,7 @@
 // States that are not sound: each clause broken alone, and bytes changed anywhere.
 
 use reference::cache::{self, Clause, STATE};
-use reference::generate::{self, Palette};
+use reference::generate::{self, Values};
 use reference::random::Random;
 use reference::refusal::NOT_SOUND;
 use reference::states::{self, Source};
@@ -38,8 +38,8 @@ pub fn suites() -> Vec<Suite> {
 
 /// All three calls on a state. Gives hand-in's refusal, or 0.
 fn same_calls(random: &mut Random, state: &[u8]) -> Result<u32, Failure> {
-    let palette = Palette::small(random);
-    let write = generate::write(random, &palette);
+    let values = Values::small(random);
+    let write = generate::write(random, &values);
     let refused = same_hand_in_on(random, state, &write)?;
     for storing in [STEP, DRAIN] {
         let (mut state, mut disk) = lend(random, state);

@@ -1,7 +1,7 @@
 // Cyclic rule sets: closed walks against rings of labels, and against strong components.
 
 use crate::cyclic::{cyclic, labels_form_ring};
-use crate::generate::{self, Palette};
+use crate::generate::{self, Values};
 use crate::random::Random;
 use crate::ring::has_ring;
 use crate::writes::{Predicate, Rule, PREDICATES};
@@ -80,9 +80,9 @@ fn all_triples_over_three_names() {
 fn random_sets() {
     for seed in 0..3000 {
         let mut random = Random::new(seed);
-        let palette = Palette::small(&mut random);
+        let values = Values::small(&mut random);
         let count = random.below(9);
-        let rules = generate::rules_of(&mut random, &palette, count);
+        let rules = generate::rules_of(&mut random, &values, count);
         assert_eq!(cyclic(&rules), by_components(&rules), "seed {seed}");
         assert_eq!(cyclic(&rules), labels_form_ring(&rules, 12), "seed {seed}");
     }

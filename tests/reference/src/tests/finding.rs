@@ -3,8 +3,8 @@
 use crate::checks::consistent;
 use crate::cyclic::cyclic;
 use crate::file::{read, File, Test};
-use crate::find::{candidates, find};
-use crate::generate::{self, Palette};
+use crate::find::{candidates, find, members, sets_that_do};
+use crate::generate::{self, Values};
 use crate::judge::{is_bad, judge_test, Judgement};
 use crate::random::Random;
 use crate::refusal::plain;
@@ -59,7 +59,7 @@ fn judging_by_pairs() {
 
 /// A file without rules over two names, whose tests have up to three main writes.
 fn file_to_find(random: &mut Random) -> File {
-    let palette = Palette {
+    let values = Values {
         names: vec![1, 2],
         addresses: vec![0, 1, 2],
         epochs: vec![0, 1],
@@ -71,7 +71,7 @@ fn file_to_find(random: &mut Random) -> File {
             return generate::log_test(random);
         }
         let (initial, main, checks) = (random.below(3), random.between(1, 3), random.between(1, 2));
-        generate::test_of(random, &palette, initial, main, checks)
+        generate::test_of(random, &values, initial, main, checks)
     };
     File {
         rules: vec![],
@@ -83,7 +83,8 @@ fn all_hold(file: &File, rules: &[Rule]) -> bool {
     file.tests.iter().all(|t| judge_test(rules, t).bad == 0)
 }
 
-/// The found set against all sets of rules over the two names, candidates or not.
+/// The found set against all sets of rules over the two names, candidates or not; and among the
+/// sets of as many candidates that do, it has the largest number.
 #[test]
 fn no_other_set_is_smaller() {
     let mut all = Vec::new();
@@ -105,7 +106,7 @@ fn no_other_set_is_smaller() {
         })
         .filter(|rules: &Vec<Rule>| !cyclic(rules))
         .collect();
-    let mut refused = 0;
+    let (mut refused, mut ties) = (0, 0);
     for seed in 0..60 {
         let file = file_to_find(&mut Random::new(seed));
         let mut buffer = [0; 96];
@@ -119,6 +120,22 @@ fn no_other_set_is_smaller() {
                 let found = read(&buffer[..6 * count]).unwrap().rules;
                 assert_eq!(Some(count), fewest, "seed {seed}");
                 assert!(all_hold(&file, &found) && !cyclic(&found), "seed {seed}");
+                let candidates = candidates(&file);
+                let equals: Vec<u32> = (0..1u32 << candidates.len())
+                    .filter(|set| set.count_ones() as usize == count)
+                    .filter(|&set| {
+                        let rules = members(&candidates, set);
+                        all_hold(&file, &rules) && !cyclic(&rules)
+                    })
+                    .collect();
+                let largest = equals.last().map(|&set| members(&candidates, set));
+                assert_eq!(Some(found), largest, "seed {seed}");
+                assert_eq!(
+                    sets_that_do(&file, &candidates, count),
+                    equals,
+                    "seed {seed}"
+                );
+                ties += usize::from(equals.len() > 1);
             }
             Err(refusal) => {
                 assert_eq!((refusal, fewest), (plain(13), None), "seed {seed}");
@@ -126,13 +143,13 @@ fn no_other_set_is_smaller() {
             }
         }
     }
-    assert!(refused > 0 && refused < 60);
+    assert!(refused > 0 && refused < 60 && ties > 0, "{refused} {ties}");
 }
 
 #[test]
 fn refusals_of_finding() {
     let mut random = Random::new(5);
-    let wide = Palette::wide(&mut random);
+    let wide = Values::wide(&mut random);
     let mut file = File {
         rules: vec![],
         tests: vec![generate::test_of(&mut random, &wide, 0, 12, 0)],

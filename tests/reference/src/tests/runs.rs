@@ -5,7 +5,7 @@ use crate::cache::{self, drain, hand_in, open, sound, step, DISK, STATE};
 use crate::checks::consistent;
 use crate::crashes::acyclic_rules;
 use crate::file::File;
-use crate::generate::{self, Palette};
+use crate::generate::{self, Values};
 use crate::judge::judge_test;
 use crate::random::Random;
 use crate::schedule::{dependencies, disk_of, valid};
@@ -76,15 +76,15 @@ fn random_runs() {
     let (mut accepted, mut refused) = (0, 0);
     for seed in 0..400 {
         let mut random = Random::new(seed);
-        let palette = Palette::small(&mut random);
-        let rules = acyclic_rules(&mut random, &palette, 4);
+        let values = Values::small(&mut random);
+        let rules = acyclic_rules(&mut random, &values, 4);
         let mut run = Run::new(&rules, &disk_from_bytes(&random.bytes(DISK)));
         for _ in 0..random.below(60) {
             let call = match random.below(8) {
                 0 => Call::Open,
                 1 | 2 => Call::Step,
                 3 if random.one_in(4) => Call::Drain,
-                _ => Call::HandIn(generate::write(&mut random, &palette)),
+                _ => Call::HandIn(generate::write(&mut random, &values)),
             };
             let was_refused = run.call(&call);
             if let Call::HandIn(_) = call {
@@ -102,10 +102,10 @@ fn random_runs() {
 #[test]
 fn the_sixty_fifth_write() {
     let mut random = Random::new(3);
-    let palette = Palette::wide(&mut random);
+    let values = Values::wide(&mut random);
     let mut run = Run::new(&[], &crate::writes::EMPTY_DISK);
     for i in 0..70 {
-        let refused = run.call(&Call::HandIn(generate::write(&mut random, &palette)));
+        let refused = run.call(&Call::HandIn(generate::write(&mut random, &values)));
         assert_eq!(refused, i >= 64);
     }
     run.call(&Call::Step);
@@ -119,9 +119,9 @@ fn tests_that_hold_stay_consistent() {
     let mut held = 0;
     for seed in 0..2000 {
         let mut random = Random::new(seed);
-        let palette = Palette::small(&mut random);
-        let rules = acyclic_rules(&mut random, &palette, 4);
-        let test = generate::test(&mut random, &palette);
+        let values = Values::small(&mut random);
+        let rules = acyclic_rules(&mut random, &values, 4);
+        let test = generate::test(&mut random, &values);
         if test.main.len() < 2 || judge_test(&rules, &test).bad > 0 {
             continue;
         }
