@@ -14,7 +14,8 @@
  * length is 0, and so many bytes may be read there; where the pointer is not to const, they may be
  * written too. Two buffers that are lent to one call must not overlap, unless both are only read.
  * Any alignment will do. A routine keeps no pointer and has no memory of its own between calls,
- * uses no heap, and may be called by several threads on different buffers.
+ * uses no heap, and may be called by several threads, or by an interrupt while another call is under
+ * way, on different buffers: there is no locking.
  */
 #ifndef PELZHONDY_ANSWER_H
 #define PELZHONDY_ANSWER_H

@@ -2,28 +2,69 @@
  * The receiver's interface: a write-back cache that stores blocks in an order which keeps the rules,
  * and the reading log's get. Link target/staticlib/libreceiver.a. It needs nothing but memcpy,
  * memmove and memset. A call used at most 4 KiB of stack in every case that the gate measures
- * (tests/differential/src/receiver/firmware.rs); the bound is measured and not proved.
+ * (tests/differential/src/receiver/firmware.rs); the bound is measured and not proved. See
+ * pelzhondy_answer.h for answers, refusals and buffers.
  *
- * A cache lives in 1,024 bytes that the caller lends, its state: byte 0 is the count of rules, 1 of
- * accepted writes, 2 of stored ones; rules stand from byte 4 on, three bytes each; write i, from 1,
- * stands at 100 + 12 * (i - 1): address 1, name 1, epoch 4, block 4, whether it is stored 1, and a
- * zero. Nobody else writes to them. A state that is not sound is refused (15) and left as it is;
- * damage that leaves the state sound cannot be seen. A state is sound if it has that layout within
- * the limits, known predicates, acyclic rules, a stored count that equals its flags, stored writes
- * that need only stored ones, and no ring of needs.
- * A disk is 1,024 bytes: block a, of two numbers of 16 bits, is the four bytes from 4 * a on,
- * big-endian. Step, and drain by its steps, are the only calls that store to it, one block a step.
- * That such a block is stored whole or not at all is up to the caller.
+ * THE STATE. A cache lives in 1,024 bytes of RAM that the caller lends, its state: byte 0 is the
+ * count of rules, 1 of accepted writes, 2 of stored ones; rules stand from byte 4 on, three bytes
+ * each; writes from byte 100 on, twelve bytes each: address 1, name 1, epoch 4, block 4, whether it
+ * is stored 1, and a zero. No caller need count: pelzhondy_address_at and pelzhondy_offset_at do so.
+ * Nobody else writes to the state. One that is not sound is refused (15) and left as it is; damage that
+ * leaves the state sound cannot be seen. A state is sound if it has that layout within the limits,
+ * known predicates, acyclic rules, a stored count that equals its flags, stored writes that need only
+ * stored ones, and no ring of needs.
  *
- * The disk is the caller's memory. To bring it to flash, call step, and copy the one block that it
- * stored before the next call: the answer is the write's place, and byte 100 + 12 * (place - 1) of
- * the state its address. A drain stores several blocks before it comes back. The state need not
- * outlive the supply: after a reset open a cache anew, on the disk that the flash holds. What is
- * said here of cuts holds from an opening on.
+ * LOOK AT WHAT OPEN ANSWERS. A refused opening leaves the state as it was, and 1,024 zero bytes that
+ * were never opened are a sound state without rules. Hand-ins and steps on it are carried out, and
+ * keep no rule.
  *
- * Wherever the supply is cut between two stores, the disk that is left is that of the stored writes,
- * applied in the order in which they were handed in, and with a write all that it depends on is
- * there. See pelzhondy_answer.h for answers, refusals and buffers.
+ * THE DISK. A disk is 1,024 bytes of RAM: block a, of two numbers of 16 bits, is the four bytes from
+ * 4 * a on, big-endian. Step, and drain by its steps, are the only calls that store to it, one block
+ * a step. It must not be flash that is mapped into memory: a block is stored by ordinary stores of
+ * bytes or words, one or several.
+ *
+ * TO BRING IT TO FLASH, call step; if it answers a place, program the one block that it stored, the
+ * four bytes at pelzhondy_offset_at(state, place) of the disk, before the next step.
+ * examples/receiver/host.c does so. That the block is then on the flash whole or not at all is up to
+ * the caller. A drain is not for flash that is fed block by block: it stores several blocks to the
+ * disk before it comes back, and does not say in which order.
+ *
+ * WHEN THE SUPPLY IS CUT between two stores, wherever that is, the disk that is left is the disk at
+ * the opening with the stored writes applied in the order in which they were handed in; and with a
+ * stored write, all that it depends on among the writes handed in so far is stored. (Handed in means:
+ * since the opening, and not refused.) Nothing is said of a write that is not handed in yet.
+ *
+ * THE ORDER OF CALLS. Hand in every write that another one depends on BEFORE any step or drain that
+ * could store the other. No step waits for a write that it has not been given: a superblock that is
+ * handed in and stepped before its log block is stored without it, and a disk cut there is not safe.
+ * The log block then comes too late: its hand-in is refused (17). Among writes that no step separates
+ * the order of hand-ins is free as far as the rules go, but for writes to one address: these are stored
+ * in the order in which they came, and a write by which the rules would ask, directly or by way of
+ * others, for another order of them is refused (18), whichever it is. A verdict of the judge speaks of
+ * hand-ins in the order of the test's main writes. For the log: hand in the puts in the order of their
+ * epochs, each log block before its superblock, and both before the next step.
+ *
+ * AFTER A REFUSAL nothing has changed.
+ *   15: the state was damaged, or never opened. Do not go on with it: its waiting writes are lost, and
+ *       the disk beside it may be damaged too. Do as after a reset.
+ *   16: places are not used again before the next opening. Step until the answer is 0, bring each
+ *       block to flash, then open anew. An opening forgets waiting writes: they are never stored. It
+ *       forgets stored ones too, and no longer refuses (17) a write that one of these depends on. So
+ *       open anew only when all is stored and no write still to come is one that a stored write
+ *       depends on: for the log, after any whole put.
+ *   17, 18: under these rules the write can't be taken in this order of calls, and will be refused
+ *       until the next opening. It is the order, or the rules, that has to be mended.
+ *
+ * AFTER A RESET never use the state again, even if the RAM has kept it: read the disk back from the
+ * flash, and open a cache anew on it. The waiting writes are lost. What is said here of cuts holds
+ * from that opening on.
+ *
+ * VALUES. C converts silently: an address or a name of 256 becomes 0, an epoch is cut to 32 bits, a
+ * number of a block to 16. Check before the call; the compiler's -Wconversion shows where.
+ *
+ * INTERRUPTS. A routine has no memory of its own but the stack, so an interrupt may call in while
+ * another call is under way, on other buffers, and with up to 4 KiB of stack more. There is no
+ * locking: a state or a disk that the interrupted call was lent must be left alone.
  */
 #ifndef PELZHONDY_RECEIVER_H
 #define PELZHONDY_RECEIVER_H
@@ -41,8 +82,28 @@ extern "C" {
 /* How many writes a state has places for, from one opening to the next. */
 #define PELZHONDY_MOST_WRITES 64
 
+/* The length of a block; where a state has its writes, and the length of one, its address first. */
+#define PELZHONDY_BLOCK_BYTES 4
+#define PELZHONDY_WRITES_AT 100
+#define PELZHONDY_WRITE_BYTES 12
+
 /* What get answers where the log has no such key. Values are below it. */
 #define PELZHONDY_NO_VALUE UINT64_C(65536)
+
+/*
+ * The address of the write at a place, from 1 to 64, that hand_in or step has answered since the
+ * opening; not of step's 0.
+ */
+static inline uint8_t pelzhondy_address_at(const uint8_t *state, uint64_t place)
+{
+    return state[PELZHONDY_WRITES_AT + PELZHONDY_WRITE_BYTES * ((size_t)place - 1)];
+}
+
+/* Where the block of that write stands on the disk: the offset of its first byte. */
+static inline size_t pelzhondy_offset_at(const uint8_t *state, uint64_t place)
+{
+    return PELZHONDY_BLOCK_BYTES * (size_t)pelzhondy_address_at(state, place);
+}
 
 /*
  * Opens a cache: `state`, whatever it held, then holds the rules of the file, in their order, and no
@@ -57,7 +118,8 @@ uint64_t pelzhondy_open(uint8_t *state, size_t state_length,
 
 /*
  * Hands in a write: the block (first, second) for `address`, with the label `name` and `epoch`. The
- * write waits until a step stores it.
+ * write waits until a step stores it. A step that comes before the hand-in of what this write depends
+ * on may store it without: see THE ORDER OF CALLS above.
  *
  * Answers the write's place, from 1 to 64: by it step's answers tell which write was stored. Refused,
  * in this order: 14; 15; 16 if 64 writes have been accepted since the opening; 17 if a write that
@@ -79,7 +141,7 @@ uint64_t pelzhondy_step(uint8_t *state, size_t state_length,
                         uint8_t *disk, size_t disk_length);
 
 /*
- * Steps until no write waits.
+ * Steps until no write waits. Not for flash that is fed block by block: see above.
  *
  * Answers how many writes it stored, from 0 to 64. Refused as step is.
  */

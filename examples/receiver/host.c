@@ -1,7 +1,8 @@
 /*
- * A receiver's host in small: it logs one ignition through the cache, cuts the supply after each
- * store, and reads the log back as the fitter would find it. From the repository's root, after
- * 'rt staticlib receiver':
+ * A receiver's host in small. It logs one ignition through the cache and brings each block that is
+ * stored to flash; the supply is cut after every one of these in turn, and each time the host starts
+ * again from what the flash holds and reads the log back as the fitter would find it. From the
+ * repository's root, after 'rt staticlib receiver':
  *
  *     cc -std=c99 -Iinclude examples/receiver/host.c target/staticlib/libreceiver.a -o target/host
  *     target/host
@@ -12,7 +13,7 @@
 
 #include "pelzhondy_receiver.h"
 
-enum { LOG = 1, SUPERBLOCK = 2, WHEELS = 4 };
+enum { LOG = 1, SUPERBLOCK = 2, WHEELS = 4, WRITES = 2 * WHEELS };
 
 /* The log's rules: a superblock waits for the log block of its epoch, and for earlier superblocks. */
 static const uint8_t rules[] = {3, 0, 3, SUPERBLOCK, 0, LOG, 3, 0, 3, SUPERBLOCK, 1, SUPERBLOCK};
@@ -20,8 +21,12 @@ static const uint8_t rules[] = {3, 0, 3, SUPERBLOCK, 0, LOG, 3, 0, 3, SUPERBLOCK
 /* The pressure of each wheel, in kPa. */
 static const uint16_t pressure[WHEELS] = {830, 825, 640, 905};
 
+/* RAM: a reset forgets both. */
 static uint8_t state[PELZHONDY_STATE_BYTES];
 static uint8_t disk[PELZHONDY_DISK_BYTES];
+
+/* Stands for the flash: it keeps what it holds, and takes a block whole or not at all. */
+static uint8_t flash[PELZHONDY_DISK_BYTES];
 
 /* An answer, or the end of the program with the refusal. */
 static uint64_t accepted(const char *call, uint64_t answer)
@@ -34,26 +39,76 @@ static uint64_t accepted(const char *call, uint64_t answer)
     return answer;
 }
 
+/* ---- the firmware */
+
+/* After every reset: the disk is what the flash holds, and a cache is opened anew on it. */
+static void start(void)
+{
+    memcpy(disk, flash, sizeof disk);
+    accepted("open", pelzhondy_open(state, sizeof state, rules, sizeof rules));
+}
+
 static uint64_t hand_in(uint8_t address, uint8_t name, uint32_t epoch, uint16_t first, uint16_t second)
 {
     return pelzhondy_hand_in(state, sizeof state, address, name, epoch, first, second);
 }
 
-static void set_block(uint8_t address, uint16_t first, uint16_t second)
+/*
+ * Hands in an ignition: for each wheel a log block at the log's tail, and then the superblock with the
+ * next tail: in the order in which the judge's test of the log has them. (With no step between the two
+ * the cache would keep the rules in the other order too; a verdict on that order is that of a test
+ * whose main writes stand in it.)
+ */
+static void hand_in_ignition(void)
 {
-    uint8_t *block = disk + 4 * address;
-    block[0] = (uint8_t)(first >> 8);
-    block[1] = (uint8_t)first;
-    block[2] = (uint8_t)(second >> 8);
-    block[3] = (uint8_t)second;
+    uint16_t head = (uint16_t)(disk[0] << 8 | disk[1]), tail = (uint16_t)(disk[2] << 8 | disk[3]), wheel;
+    for (wheel = 0; wheel < WHEELS; wheel++) {
+        uint32_t epoch = 1u + wheel;
+        /* C would cut an address of 256 to 0, that of the superblock. */
+        if (tail > 255) {
+            printf("the log is full\n");
+            exit(EXIT_FAILURE);
+        }
+        accepted("hand-in", hand_in((uint8_t)tail, LOG, epoch, wheel, pressure[wheel]));
+        accepted("hand-in", hand_in(0, SUPERBLOCK, epoch, head, (uint16_t)(tail + 1)));
+        tail++;
+    }
 }
 
-/* What the fitter reads from a disk that was left. */
-static void print_log(const uint8_t *left)
+/* Stores one block, and brings it to flash before the next. Answers the write's place, or 0 if none waits. */
+static uint64_t store_one(void)
+{
+    uint64_t place = accepted("step", pelzhondy_step(state, sizeof state, disk, sizeof disk));
+    if (place != 0) {
+        size_t offset = pelzhondy_offset_at(state, place);
+        memcpy(flash + offset, disk + offset, PELZHONDY_BLOCK_BYTES);
+    }
+    return place;
+}
+
+/* ---- the bench */
+
+/* What the ignition before has left: a log of one reading, of wheel 0. */
+static void set_log_before(uint8_t *blocks)
+{
+    static const uint8_t log[] = {0, 1, 0, 2, 0, 0, 835 >> 8, 835 & 0xFF};
+    memset(blocks, 0, PELZHONDY_DISK_BYTES);
+    memcpy(blocks, log, sizeof log);
+}
+
+/* The supply is cut, and what was in RAM is lost. */
+static void cut(void)
+{
+    memset(state, 0xA5, sizeof state);
+    memset(disk, 0xA5, sizeof disk);
+}
+
+/* What the fitter reads. */
+static void print_log(void)
 {
     uint16_t wheel;
     for (wheel = 0; wheel < WHEELS; wheel++) {
-        uint64_t value = accepted("get", pelzhondy_get(left, PELZHONDY_DISK_BYTES, wheel));
+        uint64_t value = accepted("get", pelzhondy_get(disk, sizeof disk, wheel));
         if (value == PELZHONDY_NO_VALUE) {
             printf("    -");
         } else {
@@ -63,63 +118,85 @@ static void print_log(const uint8_t *left)
     printf("\n");
 }
 
-/* Opens the cache and hands in the ignition, each superblock even before its log block. */
-static void ignition(void)
+static void print_answer(const char *call, uint64_t answer)
 {
-    uint16_t wheel;
-    accepted("open", pelzhondy_open(state, sizeof state, rules, sizeof rules));
-    for (wheel = 0; wheel < WHEELS; wheel++) {
-        uint8_t tail = (uint8_t)(2 + wheel);
-        uint32_t epoch = 1u + wheel;
-        accepted("hand-in", hand_in(0, SUPERBLOCK, epoch, 1, tail + 1));
-        accepted("hand-in", hand_in(tail, LOG, epoch, wheel, pressure[wheel]));
+    if (pelzhondy_is_refused(answer)) {
+        printf("%s: refused, number %u, place %u\n", call, (unsigned)pelzhondy_refusal_number(answer),
+               (unsigned)pelzhondy_refusal_place(answer));
+    } else {
+        printf("%s: %u\n", call, (unsigned)answer);
     }
 }
 
 /* What a place of the ignition is for. */
 static const char *written(uint64_t place)
 {
-    return place == 0 ? "nothing" : place % 2 == 1 ? "superblock" : "log block";
+    return place == 0 ? "nothing" : place % 2 == 1 ? "log block" : "superblock";
+}
+
+/* An ignition whose supply is cut after so many stores. */
+static void ignition_cut_after(unsigned stores)
+{
+    uint64_t place = 0;
+    unsigned i;
+    set_log_before(flash);
+    start();
+    hand_in_ignition();
+    for (i = 0; i < stores; i++) {
+        place = store_one();
+    }
+    cut();
+    start();
+    printf("%6u  %-13s  %5u    ", stores, written(place), (unsigned)place);
+    print_log();
+}
+
+/* A whole ignition: what comes after it, and the same one by a drain. */
+static void whole_ignition(void)
+{
+    set_log_before(flash);
+    start();
+    hand_in_ignition();
+    while (store_one() != 0) {
+    }
+    print_answer("a step with nothing waiting", pelzhondy_step(state, sizeof state, disk, sizeof disk));
+    print_answer("a late block, of a superblock that is stored", hand_in(2, LOG, 1, 0, 831));
+
+    /* In one go: for a disk that stays in RAM. Flash is fed block by block, as above. */
+    set_log_before(disk);
+    accepted("open", pelzhondy_open(state, sizeof state, rules, sizeof rules));
+    hand_in_ignition();
+    print_answer("a drain", pelzhondy_drain(state, sizeof state, disk, sizeof disk));
+    printf("the same disk: %s\n", memcmp(disk, flash, sizeof disk) == 0 ? "yes" : "no");
+}
+
+/* WRONG: a step before the log block is handed in. No step waits for a write that it has not got. */
+static void superblock_too_early(void)
+{
+    static const uint8_t empty[PELZHONDY_BLOCK_BYTES];
+    set_log_before(flash);
+    start();
+    accepted("hand-in", hand_in(0, SUPERBLOCK, 1, 1, 3));
+    print_answer("too early: the superblock alone, and a step", store_one());
+    print_answer("its log block after that", hand_in(2, LOG, 1, 0, 830));
+    cut();
+    start();
+    printf("after a cut there the log goes up to block %u, which is %s\n", (unsigned)disk[3] - 1,
+           memcmp(disk + 8, empty, sizeof empty) == 0 ? "empty" : "there");
 }
 
 int main(void)
 {
-    static uint8_t left[2 * WHEELS + 1][PELZHONDY_DISK_BYTES];
-    uint64_t place[2 * WHEELS + 1] = {0};
-    uint64_t late;
-    size_t stores = 0, cut;
-
-    /* The log has one reading, of wheel 0, from the ignition before. */
-    set_block(0, 1, 2);
-    set_block(1, 0, 835);
-    ignition();
-
-    /* The supply may be cut before the first store and after each: keep what is then left. */
-    memcpy(left[0], disk, sizeof disk);
-    while (stores < 2 * WHEELS) {
-        place[stores + 1] = accepted("step", pelzhondy_step(state, sizeof state, disk, sizeof disk));
-        stores++;
-        memcpy(left[stores], disk, sizeof disk);
-    }
-    printf("nothing waits: step answers %u\n",
-           (unsigned)accepted("step", pelzhondy_step(state, sizeof state, disk, sizeof disk)));
-
+    unsigned stores;
     printf("stores  the last one   place  wheel 0    1    2    3\n");
-    for (cut = 0; cut <= stores; cut++) {
-        printf("%6u  %-13s  %5u    ", (unsigned)cut, written(place[cut]), (unsigned)place[cut]);
-        print_log(left[cut]);
+    for (stores = 0; stores <= WRITES; stores++) {
+        ignition_cut_after(stores);
     }
+    whole_ignition();
+    superblock_too_early();
 
-    /* A log block for a superblock that is stored comes too late. */
-    late = hand_in(2, LOG, 1, 0, 831);
-    printf("a late block: refused %d, number %u, place %u\n", pelzhondy_is_refused(late),
-           (unsigned)pelzhondy_refusal_number(late), (unsigned)pelzhondy_refusal_place(late));
-
-    /* The same ignition in one go, on the disk as it was. */
-    memcpy(disk, left[0], sizeof disk);
-    ignition();
-    printf("drain stores %u\n",
-           (unsigned)accepted("drain", pelzhondy_drain(state, sizeof state, disk, sizeof disk)));
-    printf("the same disk: %s\n", memcmp(disk, left[stores], sizeof disk) == 0 ? "yes" : "no");
+    /* A state that was not opened after the reset. Were it still sound, nobody would notice. */
+    cut();
+    print_answer("a step on what the reset has left", pelzhondy_step(state, sizeof state, disk, sizeof disk));
     return EXIT_SUCCESS;
 }
