@@ -643,8 +643,10 @@ static uint64_t step_on_copies(uint8_t *s, const uint8_t *d, uint8_t *new_state,
     return pelzhondy_step(new_state, STATE, new_disk, DISK);
 }
 
-/* Sets the flag before it stores the block. */
-static uint64_t step_flag_first(uint8_t *s, size_t s_length, uint8_t *d, size_t d_length)
+/* A step that finds the right write i and then stores in a way of its own. */
+typedef void storing_way(uint8_t *s, uint8_t *d, const uint8_t *new_disk, size_t i);
+
+static uint64_t step_by(storing_way *way, uint8_t *s, size_t s_length, uint8_t *d, size_t d_length)
 {
     uint8_t new_state[STATE], new_disk[DISK];
     uint64_t place;
@@ -653,46 +655,51 @@ static uint64_t step_flag_first(uint8_t *s, size_t s_length, uint8_t *d, size_t 
     }
     place = step_on_copies(s, d, new_state, new_disk);
     if (place != 0 && !pelzhondy_is_refused(place)) {
-        mark_write(s, (size_t)place - 1);
-        store_write(s, d, (size_t)place - 1);
+        way(s, d, new_disk, (size_t)place - 1);
     }
     return place;
+}
+
+static void flag_first(uint8_t *s, uint8_t *d, const uint8_t *new_disk, size_t i)
+{
+    (void)new_disk;
+    mark_write(s, i);
+    store_write(s, d, i);
+}
+
+/* Sets the flag before it stores the block. */
+static uint64_t step_flag_first(uint8_t *s, size_t s_length, uint8_t *d, size_t d_length)
+{
+    return step_by(flag_first, s, s_length, d, d_length);
+}
+
+static void whole_disk(uint8_t *s, uint8_t *d, const uint8_t *new_disk, size_t i)
+{
+    memcpy(d, new_disk, DISK);
+    mark_write(s, i);
 }
 
 /* Stores the whole disk, most of it as it was. */
 static uint64_t step_whole_disk(uint8_t *s, size_t s_length, uint8_t *d, size_t d_length)
 {
-    uint8_t new_state[STATE], new_disk[DISK];
-    uint64_t place;
-    if (s_length != STATE || d_length != DISK) {
-        return pelzhondy_step(s, s_length, d, d_length);
-    }
-    place = step_on_copies(s, d, new_state, new_disk);
-    if (place != 0 && !pelzhondy_is_refused(place)) {
-        memcpy(d, new_disk, DISK);
-        mark_write(s, (size_t)place - 1);
-    }
-    return place;
+    return step_by(whole_disk, s, s_length, d, d_length);
+}
+
+static void by_way_of_another(uint8_t *s, uint8_t *d, const uint8_t *new_disk, size_t i)
+{
+    volatile uint8_t *other = d + BLOCK * 100;
+    uint8_t kept = *other;
+    (void)new_disk;
+    *other = (uint8_t)(kept + 1);
+    *other = kept;
+    store_write(s, d, i);
+    mark_write(s, i);
 }
 
 /* Stores two bytes of the wrong block, and then all as it ought to be. */
 static uint64_t step_by_way_of_another(uint8_t *s, size_t s_length, uint8_t *d, size_t d_length)
 {
-    uint8_t new_state[STATE], new_disk[DISK];
-    uint64_t place;
-    if (s_length != STATE || d_length != DISK) {
-        return pelzhondy_step(s, s_length, d, d_length);
-    }
-    place = step_on_copies(s, d, new_state, new_disk);
-    if (place != 0 && !pelzhondy_is_refused(place)) {
-        volatile uint8_t *other = d + BLOCK * 100;
-        uint8_t kept = *other;
-        *other = (uint8_t)(kept + 1);
-        *other = kept;
-        store_write(s, d, (size_t)place - 1);
-        mark_write(s, (size_t)place - 1);
-    }
-    return place;
+    return step_by(by_way_of_another, s, s_length, d, d_length);
 }
 
 /* Stores before it refuses, and puts back what was there. */

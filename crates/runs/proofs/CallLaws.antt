@@ -6,7 +6,7 @@ use mathlib.Core.Bool.{Bool, true, false, cond, not, _&&_, _||_}
 use mathlib.Core.List.{List, [], _∷_, _++_}
 use mathlib.Core.Option.{Option}
 use Prim.{tt}
-use Prim.Native.Nat.{ℕ, zero, suc, _-_}
+use Prim.Native.Nat.{ℕ, _-_}
 use native.Mathlib.Decide.{ℕ-discrete}
 use native.Mathlib.Omega.{arith}
 use lib.Dec.{eqb, leb, ltb}
@@ -24,11 +24,13 @@ use Rattle.reader.proofs.CallerLaws.{holding-limits}
 use Rattle.cyclelaws.proofs.CyclicLaws.{true-cyclic, cyclic-true}
 use Rattle.log.specs.Get.{LogGets, PastDisk, getFrom, getOf, getCode, getAnswer}
 use Rattle.log.proofs.Theorems.{highest, get-answers, refused-gets}
-use Rattle.cache.specs.Needs.{needsRing, ready}
+use Rattle.cache.specs.Needs.{needsRing}
 use Rattle.cache.specs.State.{stateSize, rulesIn, writesIn, storedIn, acceptedCount, opened}
 use Rattle.cache.specs.Sound.{Sound, sound}
-use Rattle.cache.specs.Calls.{Held, Left, left, late, openWith, openOf, handInOf, checked, storing, stepped, stepOf, drained, drainOf}
+use Rattle.cache.specs.Calls.{Held, Left, left, late, openWith, openOf, handInOf, checked}
 use Rattle.soundness.proofs.SoundLaws.{sound-true}
+use Rattle.soundlaws.specs.Theorem.{Unchanged}
+use Rattle.soundlaws.proofs.RefusalLaws.{refuses}
 use Rattle.runs.specs.Run.{Call, opening, handIn, step, drain, get, Lent, own, other, stateLent, diskLent, Wrong, Unsound, Own, WrongLength, OpensNone, Listed, lentTo, keptBy, valued, called, isRefused}
 use Rattle.runs.specs.Theorem.{RefusedOpenings, Widths, Diskless, GetCoded}
 
@@ -131,60 +133,12 @@ get-given d key v e n g = ⊎-elim
 
 -- ---- a refused call leaves what it was lent
 
-abbrev Leaves : List ℕ → List ℕ → Left → Type 0
-Leaves s d l = (number place : ℕ) → l .outcome ≡ refused number place → (l .state ≡ s) × (l .disk ≡ d)
-
-module _ (s d : List ℕ) where
-  refusing : (number place : ℕ) → Leaves s d (left (refused number place) s d)
-  refusing number place n p e = (refl, refl)
-
-  answering : (a : ℕ) (s′ d′ : List ℕ) → Leaves s d (left (answer a) s′ d′)
-  answering a s′ d′ n p e = absurd (let z : _≡_ {A = ℕ} 0 1 = cc in omega arith)
-
-  choosing : (b : Bool) (x y : Left) → Leaves s d x → Leaves s d y → Leaves s d (cond b x y)
-  choosing true x y p q = p
-  choosing false x y p q = q
-
-  open-leaves : (r : Outcome File) → Leaves s d (openWith r s d)
-  unfolding openWith
-  open-leaves (refused number place) = refusing number place
-  open-leaves (answer g) = choosing (ltb 0 (length (g .tests))) _ _ (refusing 22 0) (choosing (cyclic (g .rules)) _ _ (refusing 8 0) (answering 0 _ d))
-
-  hand-leaves : (w : Write) → Leaves s d (handInOf w s d)
-  unfolding handInOf
-  hand-leaves w =
-      choosing (not (eqb (length s) stateSize)) _ _ (refusing 14 0)
-      (choosing (not (sound s)) _ _ (refusing 15 0)
-      (choosing (leb 64 (acceptedCount s)) _ _ (refusing 16 0)
-      (choosing (late (rulesIn s) (writesIn s) (storedIn s) w) _ _ (refusing 17 0)
-      (choosing (needsRing (rulesIn s) (writesIn s ++ (w ∷ []))) _ _ (refusing 18 0) (answering _ _ d)))))
-
-  checked-leaves : (call : List ℕ → List ℕ → Left) → Leaves s d (call s d) → Leaves s d (checked call s d)
-  unfolding checked
-  checked-leaves call h =
-      choosing (not (eqb (length s) stateSize)) _ _ (refusing 14 0)
-      (choosing (not (eqb (length d) 1024)) _ _ (refusing 14 0) (choosing (not (sound s)) _ _ (refusing 15 0) h))
-
-  storing-leaves : (k : ℕ) → Leaves s d (storing k s d)
-  unfolding storing
-  storing-leaves zero = answering 0 s d
-  storing-leaves (suc i) = answering (suc i) _ _
-
-  step-leaves : Leaves s d (stepOf s d)
-  unfolding stepOf
-  step-leaves = checked-leaves stepped (unfold stepped in storing-leaves (ready (rulesIn s) (writesIn s) (storedIn s)))
-
-  drain-leaves : Leaves s d (drainOf s d)
-  unfolding drainOf
-  drain-leaves = checked-leaves drained (unfold drained in answering _ _ _)
-
-pub called-leaves : (c : Call) (h : Held) → Leaves (lentTo (stateLent c) (h .state)) (lentTo (diskLent c) (h .disk)) (called c h)
+pub called-leaves : (c : Call) (h : Held) → Unchanged (lentTo (stateLent c) (h .state)) (lentTo (diskLent c) (h .disk)) (called c h)
 unfolding called
-called-leaves (opening file s) h =
-    unfold openOf in choosing _ _ (eqb (length (lentTo s (h .state))) stateSize) _ _ (open-leaves _ _ (readOf file)) (refusing _ _ 14 0)
-called-leaves (handIn w s) h = hand-leaves _ _ w
-called-leaves (step s d) h = step-leaves _ _
-called-leaves (drain s d) h = drain-leaves _ _
+called-leaves (opening file s) h = refuses (lentTo s (h .state)) (h .disk) .0 file
+called-leaves (handIn w s) h = refuses (lentTo s (h .state)) (h .disk) .1 w
+called-leaves (step s d) h = refuses (lentTo s (h .state)) (lentTo d (h .disk)) .2
+called-leaves (drain s d) h = refuses (lentTo s (h .state)) (lentTo d (h .disk)) .3
 called-leaves (get key d) h = λ n p e. (refl, refl)
 
 -- ---- the openings that are refused
