@@ -173,7 +173,7 @@ case "${1:-}" in
     # shellcheck disable=SC2046
     add $(last_line_counts '')
     static_libraries
-    part 'tests of the reference' rust test -p reference -p fast
+    part 'tests of the reference and the turns' rust test -p reference -p fast -p benchmark
     # shellcheck disable=SC2046
     add $(cargo_test_counts)
     differential_tests

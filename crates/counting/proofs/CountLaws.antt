@@ -4,6 +4,7 @@ use mathlib.Core.Logic.{_⊎_, ⊎-elim}
 use mathlib.Core.Bool.{Bool, true, false, not, _&&_}
 use mathlib.Core.List.{List}
 use Prim.Native.Nat.{ℕ, _+_, _^_, _≤_, _<_}
+use native.Mathlib.Decide.{decLt}
 use native.Mathlib.Numerals.{add-one}
 use native.Mathlib.Omega.{arith}
 use lib.Dec.{eqb}
@@ -18,7 +19,7 @@ use Rattle.model.specs.Check.{holds, consistent}
 use Rattle.checks.proofs.CheckSteps.{checks-stop}
 use Rattle.counting.specs.declared.Judgement.{Judgement}
 use Rattle.counting.specs.declared.Verdict.the-variants.{Holds, Fails}
-use Rattle.schedules.specs.Rows.{validBy, badBy}
+use Rattle.schedules.specs.Rows.{validBy, badBy, NoneValid}
 use Rattle.counting.specs.Tally.{Finds, tallied}
 
 -- by cases, the two ways first
@@ -59,6 +60,11 @@ module _ (low high base : List ℕ) (ws : List Write) (cs : List Check) where
 
   pub clear-skip : (s : ℕ) (b : Bool) → Clear low high base ws cs s → b ≡ validBy low high s → not b ≡ true → Clear low high base ws cs (s + 1)
   clear-skip s b c e h = clear-suc s c (unfold badBy in rw (sym e ∙ not-true b h))
+
+  -- schedules passed over are not valid
+  pub clear-past : (s r : ℕ) → Clear low high base ws cs s → NoneValid high s r → Clear low high base ws cs r
+  unfolding NoneValid badBy
+  clear-past s r c h = record { good = λ k l. elim (decLt k s) [ yes lt ↦ c .good k lt | no ge ↦ rw (h low k (omega arith) l) ] }
 
   clear-good : (s : ℕ) (d : List ℕ) → Clear low high base ws cs s → d ≡ run ws s base → consistent cs d ≡ true → Clear low high base ws cs (s + 1)
   clear-good s d c e h = clear-suc s c (unfold badBy in go (validBy low high s))

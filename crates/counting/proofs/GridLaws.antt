@@ -123,8 +123,8 @@ module _ (v : ℕ → Bool) (x rows : ℕ) (mid : List ℕ) (ws : List Write) (c
     pub gained-bad : (columns : ℕ) → old .bad ≤ 4032 → y < columns → columns ≤ 64 → j .bad ≤ 4096
     gained-bad columns h l m = let a = g .bad in let n = count-most (badAfter v x rows mid ws cs) y in omega arith
 
-    pub gains-all : (far columns : ℕ) → columns ≡ 2 ^ far → y ≤ columns → columns ≤ y → Gained (2 ^ far) j
-    gains-all far columns e h l = let i : y ≡ 2 ^ far = omega arith in subst (λ (k : ℕ). Gained k j) i g
+    pub gains-all : (far columns : ℕ) → columns ≡ 2 ^ far → y ≡ columns → Gained (2 ^ far) j
+    gains-all far columns e h = subst (λ (k : ℕ). Gained k j) (h ∙ e) g
 
 -- ---- all beginnings
 

@@ -79,7 +79,8 @@ fn count_after(
     let mut counts = j;
     let mut disk = mid;
     let mut y: u64 = 0;
-    'schedules: while y < columns {
+    // Not y < columns: the compiler turns that into y >> far == 0, a shift in every turn.
+    'schedules: while y != columns {
         let s = joined(x, near, y);
         if !schedules::is_valid(low, high, s) {
             y += 1;
@@ -150,7 +151,13 @@ pub fn first_bad(
     let mut disk = base;
     let mut s: u64 = 0;
     let mut bad: u64 = total;
-    'search: while s < total {
+    // Not s < total, as in count_after.
+    'search: while s != total {
+        let from = schedules::past_invalid(high, s, total);
+        if from != s {
+            s = from;
+            continue 'search;
+        }
         if !schedules::is_valid(low, high, s) {
             s += 1;
             continue 'search;

@@ -1,3 +1,4 @@
+pub mod EndLaws
 pub mod RowLaws
 pub mod Steps
 pub mod TotalLaws

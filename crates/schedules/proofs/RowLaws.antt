@@ -5,6 +5,7 @@ use mathlib.Core.List.{List, [], _∷_}
 use Prim.Native.Nat.{ℕ, zero, suc, _+_, _-_, _*_, _/_, _%_, _^_, _≤_, _<_}
 use native.Mathlib.Nat.{pow-suc, mod-lt, zero-add, lt-of-lt-of-le}
 use native.Mathlib.Omega.{arith}
+use lib.Bits.{bitAnd, and-mask}
 use lib.Dec.{lit<}
 use lib.ListN.{length, getD, take}
 use lib.Pow.{pow-pos, pow-mono}
@@ -22,6 +23,15 @@ use Rattle.model.specs.Rules.{dependsOn, labelOf}
 use Rattle.model.specs.Schedule.{noWrite, labelAt, store, run, written, valid}
 use Rattle.format.specs.Scan.{writeField, writesAt}
 use Rattle.schedules.specs.Rows.{rowOf, rowsFrom, needed, validBy, Validates}
+
+-- valid exactly if all that the first six depend on is flagged, and all that the next six do
+valid-groups : (low high : List ℕ) (s : ℕ) → validBy low high s ≡ partOf (getD low (s % 64) 0) s && partOf (getD high (s / 64 % 64) 0) s
+unfolding validBy needed
+valid-groups low high s = part-or (getD low (s % 64) 0) (getD high (s / 64 % 64) 0) s
+
+-- the same, six flags taken by a mask
+pub valid-both : (low high : List ℕ) (s : ℕ) → validBy low high s ≡ partOf (getD low (bitAnd s 63) 0) s && partOf (getD high (bitAnd (s / 64) 63) 0) s
+valid-both low high s = rw (and-mask s 6, and-mask (s / 64) 6) (valid-groups low high s)
 
 pub writes-length : (s : List ℕ) (at n : ℕ) → length (writesAt s at n) ≡ n
 unfolding writesAt
@@ -74,11 +84,10 @@ module _ (rules : List Rule) (s : List ℕ) (at n m : ℕ) where
 
   -- the unions of the first six rows and of the next six
   covers-halves : (rows low high : List ℕ) → Unites rows 0 6 low → Unites rows 6 6 high → validBy low high m ≡ allBelow (covers rows) 12
-  unfolding validBy needed
   covers-halves rows low high u v =
       let a : m % 64 < 2 ^ 6 = mod-lt m {m = 64} (lit< tt) in
       let b : m / 64 % 64 < 2 ^ 6 = mod-lt (m / 64) {m = 64} (lit< tt) in
-      part-or (getD low (m % 64) 0) (getD high (m / 64 % 64) 0) m
+      valid-groups low high m
       ∙ rw (u .at (m % 64) a, v .at (m / 64 % 64) b, union-part (rowsOn rows 0) (m % 64) 6 m, union-part (rowsOn rows 6) (m / 64 % 64) 6 m)
       (ap₂ _&&_
       (allBelow-ext _ (covers rows) 6 (λ i h. rw (zero-add i, bit-mod m 6 i h)))

@@ -5,12 +5,12 @@ use mathlib.Core.List.{List}
 use Prim.Native.Nat.{ℕ, _+_, _*_, _/_, _≤_, _<_}
 use native.Mathlib.Numerals.{add-one}
 use native.Mathlib.Omega.{arith}
-use lib.Bits.{bitAnd, bitOr, and-mask, mask-lt}
+use lib.Bits.{bitAnd, bitOr, mask-lt}
 use lib.Dec.{eqb}
 use lib.ListN.{length, getD, take, set, replicate}
 use lib.Seq.{take-suc-set}
 use borrow.Author.Needs.{needs}
-use borrow.Author.Tests.{ne-eqb}
+use borrow.Author.Tests.{eq-eqb, ne-eqb}
 use Rattle.relation.specs.Bits.{withBit, maskOf}
 use Rattle.relation.specs.Lists.{any, tabulate}
 use Rattle.relation.specs.Union.{partOf}
@@ -28,8 +28,8 @@ use Rattle.rules.proofs.MatchSteps.{length-mapped, depends-next}
 use Rattle.rules.specs.Held.{itemAt}
 use Rattle.disks.specs.Packed.{Loads, heldFrom}
 use Rattle.disks.proofs.Steps.{loaded-run}
-use Rattle.schedules.specs.Rows.{ruleRow, rowOf, rowsFrom, needed, validBy}
-use Rattle.schedules.proofs.RowLaws.{validates, initial-run}
+use Rattle.schedules.specs.Rows.{ruleRow, rowOf, rowsFrom, validBy}
+use Rattle.schedules.proofs.RowLaws.{valid-both, validates, initial-run}
 
 -- ---- a test of a callee's answer
 
@@ -98,10 +98,15 @@ six-below s = mask-lt s 6
 pub six-fits : (s : ℕ) → bitAnd s 63 * 8 < 18446744073709551616
 six-fits s = let h = six-below s in omega arith
 
-pub valid-is : (low high : List ℕ) (s : ℕ)
-    → eqb (bitAnd (bitOr (getD low (bitAnd s 63) 0) (getD high (bitAnd (s / 64) 63) 0)) s) (bitOr (getD low (bitAnd s 63) 0) (getD high (bitAnd (s / 64) 63) 0)) ≡ validBy low high s
-unfolding validBy needed partOf
-valid-is low high s = rw (and-mask s 6, and-mask (s / 64) 6)
+module _ (low high : List ℕ) (s : ℕ) where
+  pub valid-broken : (bitAnd (getD low (bitAnd s 63) 0) s ≡ getD low (bitAnd s 63) 0 → ⊥) → false ≡ validBy low high s
+  unfolding partOf
+  valid-broken h = sym (valid-both low high s ∙ rw (ne-eqb _ _ h))
+
+  pub valid-next : bitAnd (getD low (bitAnd s 63) 0) s ≡ getD low (bitAnd s 63) 0
+      → eqb (bitAnd (getD high (bitAnd (s / 64) 63) 0) s) (getD high (bitAnd (s / 64) 63) 0) ≡ validBy low high s
+  unfolding partOf
+  valid-next h = sym (valid-both low high s ∙ rw (eq-eqb _ _ h))
 
 -- ---- disks
 
@@ -109,4 +114,4 @@ pub initial-done : (s : List ℕ) (at n : ℕ) (t r : List ℕ) → n ≤ 64 →
 unfolding emptyDisk
 initial-done s at n t r h l e = initial-run s at n (replicate 256 0) r h (e ∙ loaded-run s at n t 18446744073709551615 (replicate 256 0) l)
 
-pub ruleset steps = (needs, length-mapped, answered-yes, answered-no, row-none, row-more, row-all, row-other, rules-none, rules-more, rules-all, rows-none, rows-more, rows-all, validates, six-below, six-fits, valid-is, initial-done)
+pub ruleset steps = (needs, length-mapped, answered-yes, answered-no, row-none, row-more, row-all, row-other, rules-none, rules-more, rules-all, rows-none, rows-more, rows-all, validates, six-below, six-fits, valid-broken, valid-next, initial-done)

@@ -1,7 +1,7 @@
 -- Dependencies as masks: the dependencies of each write of a trace, computed once.
-use Prim.Native.Nat.{ℕ, _+_, _*_, _/_, _%_, _^_, _<_}
+use Prim.Native.Nat.{ℕ, _+_, _*_, _/_, _%_, _^_, _≤_, _<_}
 use mathlib.Core.Path.{_≡_}
-use mathlib.Core.Bool.{Bool, not, _&&_}
+use mathlib.Core.Bool.{Bool, false, not, _&&_}
 use mathlib.Core.List.{List}
 use lib.Bits.{bitOr}
 use lib.ListN.{getD}
@@ -35,6 +35,10 @@ needed low high s = bitOr (getD low (s % 64) 0) (getD high (s / 64 % 64) 0)
 -- a schedule is valid by these unions: all of it is flagged
 unfoldable pub validBy : List ℕ → List ℕ → ℕ → Bool
 validBy low high s = partOf (needed low high s) s
+
+-- no schedule from s up to below r is valid, whatever the unions of the first six rows
+unfoldable pub NoneValid : List ℕ → ℕ → ℕ → Type 0
+NoneValid high s r = (low : List ℕ) (t : ℕ) → s ≤ t → t < r → validBy low high t ≡ false
 
 -- a schedule is bad by these unions
 unfoldable pub badBy : List ℕ → List ℕ → List ℕ → List Write → List Check → ℕ → Bool

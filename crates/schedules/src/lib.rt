@@ -12,7 +12,7 @@ ghost use Rattle.model.specs.Disk.{emptyDisk};
 ghost use Rattle.model.specs.Schedule.{written};
 ghost use Rattle.format.specs.Scan.{writesAt};
 ghost use Rattle.rules.specs.Held.{rulesOf};
-ghost use Rattle.schedules.specs.Rows.{ruleRow, rowOf, rowsFrom, validBy, Validates};
+ghost use Rattle.schedules.specs.Rows.{ruleRow, rowOf, rowsFrom, validBy, NoneValid, Validates};
 
 // mask, with bit j set where a rule pairs the label (name, epoch) with w's.
 fn with_match(mask: u64, j: usize, rule: Rule, name: u8, epoch: u32, w: Write) -> u64
@@ -82,12 +82,42 @@ pub fn prepare(low: &mut [u64], high: &mut [u64], rules: Rules, file: &[u8], at:
 }
 
 // Whether a schedule is valid: all that its flagged writes depend on is flagged. Its first six flags
-// and its next six are looked up.
+// are looked up, and its next six only where the first show no unflagged dependency.
 pub fn is_valid(low: &[u64; 64], high: &[u64; 64], s: u64) -> bool
     ensures { λ r. ⌜ r ≡ validBy (now (low .entry)) (now (high .entry)) s ⌝ }
 {
-    let needed = low[(s & 63) as usize] | high[((s >> 6) & 63) as usize];
-    needed & s == needed
+    let first = low[(s & 63) as usize];
+    if first & s != first {
+        return false;
+    }
+    let next = high[((s >> 6) & 63) as usize];
+    next & s == next
+}
+
+// Where a search goes on from schedule s, of those below total. The 64 schedules with the same flags
+// from the seventh on stand together, and at the first of them one look-up tells of all what these
+// flags need: if one from the seventh on that is not set, none of the 64 is valid, and all are passed
+// over; if one of the first six, s is. (Fewer than 64 are left only where the tables are not those of
+// `prepare`.)
+pub fn past_invalid(high: &[u64; 64], s: u64, total: u64) -> u64
+    requires { ⌜ s < total ⌝ }
+    ensures { λ r. ⌜ (s ≤ r) × ((r ≤ total) × NoneValid (now (high .entry)) s r) ⌝ }
+{
+    if s & 63 != 0 {
+        return s;
+    }
+    let end = s >> 6;
+    let needed = high[(end & 63) as usize];
+    if needed & s == needed {
+        return s;
+    }
+    if (needed >> 6) & end == needed >> 6 {
+        return s + 1;
+    }
+    if total - s < 64 {
+        return total;
+    }
+    s + 64
 }
 
 // The initial disk: the empty disk after the n writes from `at` on.

@@ -1,12 +1,14 @@
 // The benchmark: each proved routine and its counterpart in Rust on the same input, in one process,
-// in turn; the medians and their ratio. Then the proved verdict and an SMT solver's. With --check
-// it only compares the solver's answers with the reference's, on many random tests.
+// in turn; the medians and their ratio. Then the turns of the test whether a schedule is valid. Then
+// the proved verdict and an SMT solver's. With --check it only compares the solver's answers with
+// the reference's, on many random tests.
 
 mod inputs;
 mod measure;
 mod rows;
 mod smt;
 mod solver;
+mod turns;
 mod verdicts;
 
 use std::env;
@@ -24,6 +26,7 @@ fn main() {
     match env::args().nth(1).as_deref() {
         None => {
             routines();
+            turns::print();
             against_solver();
         }
         Some("--check") if solver::version().is_some() => verdicts::compare_with_reference(CHECKED),

@@ -72,7 +72,7 @@ pub fn compare_with_reference(files: u64) {
 }
 
 /// A file of one of the reference's generators, with rules that are not cyclic.
-fn random_file(seed: u64) -> File {
+pub fn random_file(seed: u64) -> File {
     let mut random = Random::new(seed);
     match seed % 5 {
         0 => crashes::file(&mut random),

@@ -361,6 +361,20 @@ fn stores_elsewhere(sources: &Sources) -> Vec<String> {
     faults
 }
 
+/// The benchmark counts the turns of copies: they must be copies.
+#[test]
+fn the_turns_counted_are_those_of_the_code() {
+    let copies = functions(&text(&target("tests/benchmark/src/turns.rs")));
+    let code = functions(&text(&target("schedules/src/lib.rt")));
+    for name in ["is_valid", "past_invalid"] {
+        let body = |functions: &[code::Function]| {
+            let found = functions.iter().find(|function| function.name == name);
+            found.unwrap_or_else(|| panic!("there is no {}", name)).body.clone()
+        };
+        assert_eq!(body(&copies), body(&code), "{}", name);
+    }
+}
+
 #[test]
 fn only_steps_store() {
     none(stores_elsewhere(&Sources::load()));

@@ -12,16 +12,16 @@ use Rattle.disks.specs.Packed.{heldFrom}
 use Rattle.checks.proofs.CheckSteps.{checks-start, checks-more, checks-stop}
 use Rattle.disks.proofs.RestoreLaws.{restored-run}
 use Rattle.schedules.proofs.TotalLaws.{ran, total-is, total-most}
-use Rattle.counting.proofs.CountLaws.{either, Clear, clear-none, clear-skip, clear-pass, finds-none, finds-bad}
+use Rattle.counting.proofs.CountLaws.{either, Clear, clear-none, clear-past, clear-skip, clear-pass, finds-none, finds-bad}
 use Rattle.counting.proofs.first_bad.Statement.{statement}
 use Rattle.counting.proofs.first_bad.Tie as tie
 
 abbrev Inv-loop : tie.InvT-loop
-Inv-loop low high table n m base checks total disk s bad₀ j₀ bad j =
+Inv-loop low high table n m base checks total disk s bad₀ from j₀ bad j =
     (j ≤ m) × (disk ≡ run (heldFrom table 0 n) s base) × (bad ≡ bad₀) × (consistent (take j checks) disk ≡ true)
 
 abbrev μ-loop : tie.MeasureT-loop
-μ-loop low high table n m base checks total disk s bad₀ j₀ bad j = m - j
+μ-loop low high table n m base checks total disk s bad₀ from j₀ bad j = m - j
 
 abbrev Inv-search : tie.InvT-search
 Inv-search low high table n m base checks total disk₀ s₀ bad₀ disk s bad =
@@ -37,11 +37,8 @@ shl-total c = search needs
 search-holds : tie.Need-search-holds Inv-loop μ-loop Inv-search μ-search
 search-holds c = search (needs, total-is, total-most, clear-none)
 
-is-valid-requires : tie.Need-is-valid-requires Inv-loop μ-loop Inv-search μ-search
-is-valid-requires c κs = search needs
-
-add-s : tie.Need-add-s Inv-loop μ-loop Inv-search μ-search
-add-s c = search needs
+past-invalid-requires : tie.Need-past-invalid-requires Inv-loop μ-loop Inv-search μ-search
+past-invalid-requires c κs = search needs
 
 search-less : tie.Need-search-less Inv-loop μ-loop Inv-search μ-search
 search-less c = search needs
@@ -49,7 +46,22 @@ search-less c = search needs
 search-again : tie.Need-search-again Inv-loop μ-loop Inv-search μ-search
 search-again c =
     let i = c .before .before .before .search .inv in
-    (omega arith, i .1, i .2, i .3, i .4, i .5, i .6, clear-skip _ _ _ _ _ (c .before .before .before .search .s) (c .before .is-valid .result) (i .7) (c .before .is-valid .ensures) (c .if1 .taken))
+    let e = c .before .past-invalid .ensures in
+    (omega arith, i .1, i .2, i .3, i .4, i .5, i .6, clear-past _ _ _ _ _ (c .before .before .before .search .s) _ (i .7) (e .1 .1))
+
+is-valid-requires : tie.Need-is-valid-requires Inv-loop μ-loop Inv-search μ-search
+is-valid-requires c κs = search needs
+
+add-s : tie.Need-add-s Inv-loop μ-loop Inv-search μ-search
+add-s c = search needs
+
+search-less-2 : tie.Need-search-less-2 Inv-loop μ-loop Inv-search μ-search
+search-less-2 c = search needs
+
+search-again-2 : tie.Need-search-again-2 Inv-loop μ-loop Inv-search μ-search
+search-again-2 c =
+    let i = c .before .before .before .before .before .search .inv in
+    (omega arith, i .1, i .2, i .3, i .4, i .5, i .6, clear-skip _ _ _ _ _ (c .before .before .before .before .before .search .s) (c .before .is-valid .result) (i .7) (c .before .is-valid .ensures) (c .if2 .taken))
 
 apply-requires : tie.Need-apply-requires Inv-loop μ-loop Inv-search μ-search
 apply-requires c κs = search needs
@@ -75,9 +87,9 @@ loop-less c = search needs
 loop-again : tie.Need-loop-again Inv-loop μ-loop Inv-search μ-search
 loop-again c =
     let l = c .before .before .before .before .before .loop in
-    let i = c .before .before .before .before .before .before .before .before .before .before .before .search .inv in
-    let a = c .before .before .before .before .before .before .before .before .before .before .before .before .args in
-    (omega arith, l .inv .1, l .inv .2, checks-more (c .before .before .before .before .before .before .apply .last .0) (a .t6) (Range 0) (a .m) (l .j) (c .before .check-holds .result) (omega arith) (omega arith) (i .4) (l .inv .3) (c .before .check-holds .ensures) (c .if2 .left))
+    let i = c .before .before .before .before .before .before .before .before .before .before .before .before .before .search .inv in
+    let a = c .before .before .before .before .before .before .before .before .before .before .before .before .before .before .args in
+    (omega arith, l .inv .1, l .inv .2, checks-more (c .before .before .before .before .before .before .apply .last .0) (a .t6) (Range 0) (a .m) (l .j) (c .before .check-holds .result) (omega arith) (omega arith) (i .4) (l .inv .3) (c .before .check-holds .ensures) (c .if3 .left))
 
 restore-requires : tie.Need-restore-requires Inv-loop μ-loop Inv-search μ-search
 restore-requires c κs = search needs
@@ -85,22 +97,22 @@ restore-requires c κs = search needs
 add-s-2 : tie.Need-add-s-2 Inv-loop μ-loop Inv-search μ-search
 add-s-2 c = search needs
 
-search-less-2 : tie.Need-search-less-2 Inv-loop μ-loop Inv-search μ-search
-search-less-2 c = search needs
+search-less-3 : tie.Need-search-less-3 Inv-loop μ-loop Inv-search μ-search
+search-less-3 c = search needs
 
-search-again-2 : tie.Need-search-again-2 Inv-loop μ-loop Inv-search μ-search
-search-again-2 c =
+search-again-3 : tie.Need-search-again-3 Inv-loop μ-loop Inv-search μ-search
+search-again-3 c =
     let l = c .before .before .before .before .loop in
-    let i = c .before .before .before .before .before .before .before .before .before .before .search .inv in
-    let a = c .before .before .before .before .before .before .before .before .before .before .before .args in (
+    let i = c .before .before .before .before .before .before .before .before .before .before .before .before .search .inv in
+    let a = c .before .before .before .before .before .before .before .before .before .before .before .before .before .args in (
       omega arith,
       i .1,
       i .2,
       i .3,
       i .4,
-      c .restore .ensures ∙ restored-run (a .table .now) (a .t3) 0 (a .n) (c .before .before .before .before .before .before .before .before .before .before .search .s) (c .before .before .before .before .before .apply .last .0) (i .3) (l .inv .1),
+      c .restore .ensures ∙ restored-run (a .table .now) (a .t3) 0 (a .n) (c .before .before .before .before .before .before .before .before .before .before .before .before .search .s) (c .before .before .before .before .before .apply .last .0) (i .3) (l .inv .1),
       l .inv .2 ∙ i .6,
-      clear-pass (a .low .now) (a .high .now) (a .t3) (heldFrom (a .table .now) 0 (a .n)) (a .t6) (c .before .before .before .before .before .before .before .before .before .before .search .s) (a .m) (l .j) (c .before .before .before .before .before .apply .last .0) (i .7) (l .inv .1) (omega arith) (omega arith) (l .inv .3),
+      clear-pass (a .low .now) (a .high .now) (a .t3) (heldFrom (a .table .now) 0 (a .n)) (a .t6) (c .before .before .before .before .before .before .before .before .before .before .before .before .search .s) (a .m) (l .j) (c .before .before .before .before .before .apply .last .0) (i .7) (l .inv .1) (omega arith) (omega arith) (l .inv .3),
     )
 
 returns : tie.Need-returns Inv-loop μ-loop Inv-search μ-search
@@ -116,10 +128,10 @@ returns-2 c =
     let s = c .before .before .search .s in
     let a = c .before .before .before .args in
     either (c .before .search-test .came)
-    (λ w. absurd (c .if3 .left (omega arith)))
+    (λ w. absurd (c .if4 .left (omega arith)))
     (λ w. let e : c .before .search-test .bad ≡ s = omega arith in
-    rw e (finds-bad (a .low .now) (a .high .now) (a .t3) (heldFrom (a .table .now) 0 (a .n)) (take (a .m) (a .t6)) (a .n) s _ (w .1 .result) (w .4 .last .0) (i .1) (omega arith) (w .1 .ensures) (w .2 .left) (w .5 .inv .1)
-    (checks-stop (w .4 .last .0) (a .t6) (Range 0) (a .m) (w .5 .j) (w .9 .result) (omega arith) (omega arith) (i .4) (w .9 .ensures) (w .10 .taken))))
+    rw e (finds-bad (a .low .now) (a .high .now) (a .t3) (heldFrom (a .table .now) 0 (a .n)) (take (a .m) (a .t6)) (a .n) s _ (w .3 .result) (w .6 .last .0) (i .1) (omega arith) (w .3 .ensures) (w .4 .left) (w .7 .inv .1)
+    (checks-stop (w .6 .last .0) (a .t6) (Range 0) (a .m) (w .7 .j) (w .11 .result) (omega arith) (omega arith) (i .4) (w .11 .ensures) (w .12 .taken))))
 
 pub first-bad-spec : {M : Type 1} → statement M
 first-bad-spec =
@@ -131,10 +143,13 @@ first-bad-spec =
     μ-search
     shl-total
     search-holds
-    is-valid-requires
-    add-s
+    past-invalid-requires
     search-less
     search-again
+    is-valid-requires
+    add-s
+    search-less-2
+    search-again-2
     apply-requires
     loop-holds
     mul-c
@@ -145,7 +160,7 @@ first-bad-spec =
     loop-again
     restore-requires
     add-s-2
-    search-less-2
-    search-again-2
+    search-less-3
+    search-again-3
     returns
     returns-2)

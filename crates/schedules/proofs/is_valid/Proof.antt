@@ -1,24 +1,25 @@
--- `schedules::is_valid` meets its contract: it is the definition by unions.
+-- `schedules::is_valid` meets its contract: a union is part of a set exactly if both its parts are.
 use Rattle.schedules.proofs.Steps.{steps}
 use Rattle.schedules.proofs.is_valid.Statement.{statement}
 use Rattle.schedules.proofs.is_valid.Tie as tie
 
-mul-needed : tie.Need-mul-needed
-mul-needed c = search steps
+mul-first : tie.Need-mul-first
+mul-first c = search steps
 
-element-copy-out-needed : tie.Need-element-copy-out-needed
-element-copy-out-needed c = search steps
-
-mul-needed-2 : tie.Need-mul-needed-2
-mul-needed-2 c = search steps
-
-element-copy-out-needed-2 : tie.Need-element-copy-out-needed-2
-element-copy-out-needed-2 c = search steps
+element-copy-out-first : tie.Need-element-copy-out-first
+element-copy-out-first c = search steps
 
 returns : tie.Need-returns
 returns c = search steps
 
+mul-next : tie.Need-mul-next
+mul-next c = search steps
+
+element-copy-out-next : tie.Need-element-copy-out-next
+element-copy-out-next c = search steps
+
+returns-2 : tie.Need-returns-2
+returns-2 c = search steps
+
 pub is-valid-spec : {M : Type 1} → statement M
-is-valid-spec =
-    tie.close
-    (tie.spec mul-needed element-copy-out-needed mul-needed-2 element-copy-out-needed-2 returns)
+is-valid-spec = tie.close (tie.spec mul-first element-copy-out-first returns mul-next element-copy-out-next returns-2)
