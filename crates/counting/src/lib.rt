@@ -151,7 +151,7 @@ pub fn first_bad(
     let mut disk = base;
     let mut s: u64 = 0;
     let mut bad: u64 = total;
-    // Not s < total, as in count_after.
+    // Not s < total: see count_after.
     'search: while s != total {
         let from = schedules::past_invalid(high, s, total);
         if from != s {

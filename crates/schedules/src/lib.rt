@@ -97,8 +97,7 @@ pub fn is_valid(low: &[u64; 64], high: &[u64; 64], s: u64) -> bool
 // Where a search goes on from schedule s, of those below total. The 64 schedules with the same flags
 // from the seventh on stand together, and at the first of them one look-up tells of all what these
 // flags need: if one from the seventh on that is not set, none of the 64 is valid, and all are passed
-// over; if one of the first six, s is. (Fewer than 64 are left only where the tables are not those of
-// `prepare`.)
+// over; if one of the first six, s is.
 pub fn past_invalid(high: &[u64; 64], s: u64, total: u64) -> u64
     requires { ⌜ s < total ⌝ }
     ensures { λ r. ⌜ (s ≤ r) × ((r ≤ total) × NoneValid (now (high .entry)) s r) ⌝ }
@@ -114,6 +113,7 @@ pub fn past_invalid(high: &[u64; 64], s: u64, total: u64) -> u64
     if (needed >> 6) & end == needed >> 6 {
         return s + 1;
     }
+    // Not reached with the tables of `prepare`: with fewer than six writes high[0] is 0.
     if total - s < 64 {
         return total;
     }

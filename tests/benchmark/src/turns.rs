@@ -134,15 +134,10 @@ enum Form {
     WriteByWrite,
 }
 
-const FORMS: [Form; 4] = [
-    Form::Before,
-    Form::Now,
-    Form::Verdict,
-    Form::WriteByWrite,
-];
+const FORMS: [Form; 4] = [Form::Before, Form::Now, Form::Verdict, Form::WriteByWrite];
 
 impl Form {
-    /// Whether schedule s is valid, and where the form goes on: all before that are not.
+    /// Whether schedule s is valid, and where the form goes on: those in between are not.
     #[inline(always)]
     fn step<T: Index<usize, Output = u64>>(
         self,
@@ -196,7 +191,6 @@ impl Form {
 
 /// The turns of one step of a form.
 struct Turns {
-    schedule: u64,
     begun: u64,
     /// Of these, the ones begun after one that showed an unflagged dependency.
     late: u64,
@@ -220,7 +214,6 @@ fn turns(form: Form, rules: &[Rule], test: &Test) -> Vec<Turns> {
         let broken = seen.iter().position(|entry| entry & !s != 0);
         let in_time = broken.map_or(seen.len(), |i| i + 1);
         found.push(Turns {
-            schedule: s,
             begun: seen.len() as u64,
             late: (seen.len() - in_time) as u64,
         });
@@ -241,13 +234,22 @@ fn files() -> [(&'static str, File); 4] {
         ("log of 6 puts, no rules", inputs::log_file(&[])),
         ("12 writes, 16 checks, many rules", inputs::dense_file()),
     ]
-    .map(|(input, bytes)| (input, file::read(&bytes).expect("a file that reading accepts")))
+    .map(|(input, bytes)| {
+        (
+            input,
+            file::read(&bytes).expect("a file that reading accepts"),
+        )
+    })
 }
 
 /// The table of turns.
 pub fn print() {
-    println!("The test whether a schedule is valid, in Rust copies: look-ups begun (turns), mean of");
-    println!("all schedules of a test; look-ups begun after one that shows an unflagged dependency,");
+    println!(
+        "The test whether a schedule is valid, in Rust copies: look-ups begun (turns), mean of"
+    );
+    println!(
+        "all schedules of a test; look-ups begun after one that shows an unflagged dependency,"
+    );
     println!("sum of all; and the time of a schedule where they are asked in rising number.");
     println!();
     println!("| input | valid | test of a schedule | turns | begun too late | time |");
@@ -310,7 +312,10 @@ mod tests {
         for file in many_files() {
             for test in &file.tests {
                 let on = dependencies(&file.rules, &test.main);
-                for Turns { schedule, begun, .. } in turns(Form::Now, &file.rules, test) {
+                // One step for each schedule.
+                for (schedule, Turns { begun, .. }) in
+                    (0..).zip(turns(Form::Now, &file.rules, test))
+                {
                     let is = |i| flagged(schedule, i);
                     let broken = |&i: &usize| is(i) && on[i].iter().any(|&j| !is(j));
                     let first = (0..on.len()).find(broken);

@@ -5,7 +5,7 @@ use reference::crashes;
 use reference::damage::{self, LIMITS};
 use reference::file::{File, Test, MOST_CHECKS, MOST_INITIAL, MOST_MAIN, MOST_RULES, MOST_TESTS};
 use reference::generate::{self, Values};
-use reference::judge::{is_bad, judge_test, numbered, readable, Judgement};
+use reference::judge::{is_bad, judge_test, numbered, readable, schedules, Judgement};
 use reference::random::Random;
 use reference::refusal::Refusal;
 use reference::samples;
@@ -31,6 +31,7 @@ pub fn suites() -> Vec<Suite> {
         suite("judge: bad from the start", bad_from_the_start),
         suite("judge: every rule on every two labels", every_two_labels),
         suite("judge: 12 main writes", most_main_writes),
+        suite("judge: the schedules shown", schedules_shown),
         suite("judge: 32 rules", most_rules),
         suite("judge: full files", full_files),
         suite("judge: files at the limits", files_at_limits),
@@ -402,6 +403,43 @@ fn most_main_writes(run: &mut Run) -> Outcome {
         same_on_each(&mut random, &file.to_bytes(), &[1])?;
     }
     kinds.spread(run)
+}
+
+/// [3] of document 02 keeps every answer, and so the bad schedule shown, which document 01 leaves
+/// free: the verdict shows the first in rising number, the judge the last by the first six flags
+/// and, among equals, by the others.
+fn schedules_shown(run: &mut Run) -> Outcome {
+    let mut late = 0;
+    for _ in 0..run.times(800) {
+        let mut random = run.next_case();
+        let values = Values::small(&mut random);
+        let most = random.pick(&[0, 2, 12]);
+        let file = File {
+            rules: crashes::acyclic_rules(&mut random, &values, most),
+            tests: vec![crashes::test(&mut random, &values, MOST_MAIN)],
+        };
+        let test = &file.tests[0];
+        let bad: Vec<u64> = schedules(test)
+            .filter(|&s| is_bad(&file.rules, test, s))
+            .collect();
+        let first = bad.first().map_or(0, |s| 1 + s);
+        let last = bad
+            .into_iter()
+            .max_by_key(|s| (s % 64, s / 64))
+            .unwrap_or(0);
+        late += u64::from(first > 64);
+        let lent = Lent::new(&mut random, &file.to_bytes());
+        same_answer("verdict", lent.content(), first, calls::verdict(&lent, 1))?;
+        let shown = judgement_of(calls::judge(&lent, 1)).shown;
+        same_answer("shown", lent.content(), last, shown)?;
+    }
+    let note = format!("{late} verdicts by a schedule above 63");
+    run.note(note.clone());
+    require(
+        late >= 20,
+        "20 verdicts at least by a schedule above 63",
+        note,
+    )
 }
 
 /// One test, and rules of which the last of 32 often decides.

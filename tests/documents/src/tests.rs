@@ -373,6 +373,14 @@ fn the_turns_counted_are_those_of_the_code() {
         };
         assert_eq!(body(&copies), body(&code), "{}", name);
     }
+    // The verdict asks both in turn, as the copy's step does, and neither anywhere else.
+    let all = functions(&text(&target("counting/src/lib.rt")));
+    let search = all.iter().find(|function| function.name == "first_bad").expect("first_bad");
+    let asked = "let from = schedules::past_invalid(high, s, total); \
+                 if from != s { s = from; continue 'search; } \
+                 if !schedules::is_valid(low, high, s) { s += 1; continue 'search; }";
+    assert!(search.body.contains(asked), "{}", search.body);
+    assert_eq!((uses(&search.body, "is_valid"), uses(&search.body, "past_invalid")), (1, 1));
 }
 
 #[test]
