@@ -48,7 +48,9 @@ enum {
     PELZHONDY_RING_OF_NEEDS = 18,  /* with the one handed in, writes would wait for each other */
     PELZHONDY_NOT_WHOLE_PUTS = 19, /* a program's length is not a multiple of 4 */
     PELZHONDY_EMPTY_PUT = 20,      /* a put of (0,0) */
-    PELZHONDY_LOG_PAST_DISK = 21,  /* the superblock names blocks beyond the disk */
+    PELZHONDY_LOG_DAMAGED = 21,    /* the superblock is damage: head > tail, or head < tail and
+                                      tail > 256 */
+    PELZHONDY_LOG_PAST_DISK = 21,  /* the name of 21 while head > tail was taken for an empty log */
     PELZHONDY_FILE_HAS_TESTS = 22
 };
 

@@ -54,6 +54,9 @@
  *       depends on: for the log, after any whole put.
  *   17, 18: under these rules the write can't be taken in this order of calls, and will be refused
  *       until the next opening. It is the order, or the rules, that has to be mended.
+ *   21: the log on the disk is damaged, whatever the key. Show the fitter that: neither a value nor an
+ *       empty log. Ask get of any key before the first put after a reset, and hand in no put that goes
+ *       by such a head and tail: it would carry the damage on, or hide it.
  *
  * AFTER A RESET never use the state again, even if the RAM has kept it: read the disk back from the
  * flash, and open a cache anew on it. The waiting writes are lost. What is said here of cuts holds
@@ -154,7 +157,14 @@ uint64_t pelzhondy_drain(uint8_t *state, size_t state_length,
  * number.
  *
  * Answers the value, from 0 to 65,535, or PELZHONDY_NO_VALUE. Refused, in this order: 14 if
- * `disk_length` is not 1,024; 21 if head < tail and tail > 256.
+ * `disk_length` is not 1,024; 21 if head > tail, or if head < tail and tail > 256.
+ *
+ * 21 is damage: with such a block 0 no disk whatever meets the log's range check, by which the blocks
+ * from head to tail - 1 are there. Ask pelzhondy_is_refused first: the low 16 bits of a refusal by 21
+ * are 0 and look like a value, and "PELZHONDY_NO_VALUE or more" would show damage as an empty log.
+ * The log is empty where head = tail, be it (0,0), as on an empty disk, or (300,300). Where head < tail
+ * a log that meets the check has a value for some key. If no key has one there, blocks are missing, and
+ * get does not refuse that: 21 goes by block 0 alone.
  */
 uint64_t pelzhondy_get(const uint8_t *disk, size_t disk_length, uint16_t key);
 

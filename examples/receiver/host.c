@@ -39,6 +39,12 @@ static uint64_t accepted(const char *call, uint64_t answer)
     return answer;
 }
 
+/* Whether get has refused a log as damaged. It does so for every key or for none. */
+static int is_damaged(uint64_t answer)
+{
+    return pelzhondy_is_refused(answer) && pelzhondy_refusal_number(answer) == PELZHONDY_LOG_DAMAGED;
+}
+
 /* ---- the firmware */
 
 /* After every reset: the disk is what the flash holds, and a cache is opened anew on it. */
@@ -62,6 +68,10 @@ static uint64_t hand_in(uint8_t address, uint8_t name, uint32_t epoch, uint16_t 
 static void hand_in_ignition(void)
 {
     uint16_t head = (uint16_t)(disk[0] << 8 | disk[1]), tail = (uint16_t)(disk[2] << 8 | disk[3]), wheel;
+    if (is_damaged(pelzhondy_get(disk, sizeof disk, 0))) {
+        printf("the log is damaged\n");
+        exit(EXIT_FAILURE);
+    }
     for (wheel = 0; wheel < WHEELS; wheel++) {
         uint32_t epoch = 1u + wheel;
         /* C would cut an address of 256 to 0, that of the superblock. */
@@ -103,10 +113,14 @@ static void cut(void)
     memset(disk, 0xA5, sizeof disk);
 }
 
-/* What the fitter reads. */
+/* What the fitter reads. Damage is shown as damage, and not as a log without readings. */
 static void print_log(void)
 {
     uint16_t wheel;
+    if (is_damaged(pelzhondy_get(disk, sizeof disk, 0))) {
+        printf(" the log is damaged\n");
+        return;
+    }
     for (wheel = 0; wheel < WHEELS; wheel++) {
         uint64_t value = accepted("get", pelzhondy_get(disk, sizeof disk, wheel));
         if (value == PELZHONDY_NO_VALUE) {
@@ -185,6 +199,25 @@ static void superblock_too_early(void)
            memcmp(disk + 8, empty, sizeof empty) == 0 ? "empty" : "there");
 }
 
+/* Superblocks as a flash could give them back, each beside the log block of wheel 0. */
+static void read_superblocks(void)
+{
+    static const uint16_t superblocks[][2] = {{1, 2}, {2, 2}, {3, 2}, {1, 257}};
+    size_t i;
+    printf("   head  tail  wheel 0    1    2    3\n");
+    for (i = 0; i < sizeof superblocks / sizeof superblocks[0]; i++) {
+        uint16_t head = superblocks[i][0], tail = superblocks[i][1];
+        set_log_before(flash);
+        flash[0] = (uint8_t)(head >> 8);
+        flash[1] = (uint8_t)(head & 0xFF);
+        flash[2] = (uint8_t)(tail >> 8);
+        flash[3] = (uint8_t)(tail & 0xFF);
+        start();
+        printf("%7u %5u    ", head, tail);
+        print_log();
+    }
+}
+
 int main(void)
 {
     unsigned stores;
@@ -192,6 +225,7 @@ int main(void)
     for (stores = 0; stores <= WRITES; stores++) {
         ignition_cut_after(stores);
     }
+    read_superblocks();
     whole_ignition();
     superblock_too_early();
 

@@ -2,20 +2,39 @@
 use mathlib.Core.Path.{_≡_, refl, sym, ap, _∙_}
 use mathlib.Core.Bool.{Bool, true, false, not, false≢true}
 use mathlib.Core.List.{List, [], _∷_}
-use Prim.Native.Nat.{ℕ, suc, _+_, _-_, _≤_, _<_}
+use mir.Syntax.{w64}
+use mir.Val.{Fits}
+use Prim.Native.Nat.{ℕ, suc, _+_, _-_, _*_, _≤_, _<_}
 use native.Mathlib.Numerals.{add-one}
 use native.Mathlib.Omega.{arith}
-use lib.Dec.{eqb}
+use lib.Dec.{eqb, ltb, lit<}
 use lib.ListN.{length, getD, take}
 use lib.Seq.{getD-take, take-suc, length-take-le}
-use borrow.Author.Needs.{needs}
-use borrow.Author.Tests.{eq-eqb, ne-eqb, le-leb, lt-leb, not-true, not-false}
+use borrow.Author.Needs.{needs, scaled-fits}
+use borrow.Author.Tests.{eq-eqb, ne-eqb, le-leb, lt-leb, le-ltb, lt-ltb, not-true, not-false}
 use Rattle.relation.specs.Lists.{allBelow, all}
+use Rattle.relation.proofs.Cases.{told}
 use Rattle.relation.proofs.ListLaws.{allBelow-true, and-intro, all-true, all-append, index-mem}
 use Rattle.model.specs.declared.Check.{Check}
 use Rattle.model.specs.declared.Check.the-variants.{Range, Pointer}
 use Rattle.model.specs.Disk.{empty, firstOf, secondOf, blockAt}
-use Rattle.model.specs.Check.{rangeHolds, holds, consistent}
+use Rattle.model.specs.Check.{damaged, rangeHolds, holds, consistent}
+use Rattle.model.proofs.CheckLaws.{undamaged-ordered, undamaged-inside}
+
+-- ---- head and tail
+
+module _ (head tail : ℕ) where
+  pub damage-none : head ≡ tail → false ≡ damaged head tail
+  unfolding damaged
+  damage-none e = rw (le-ltb tail head (omega arith), le-ltb head tail (omega arith))
+
+  pub damage-past : tail < head → true ≡ damaged head tail
+  unfolding damaged
+  damage-past h = rw (lt-ltb tail head h)
+
+  pub damage-beyond : (head ≡ tail → ⊥) → head ≤ tail → ltb 256 tail ≡ damaged head tail
+  unfolding damaged
+  damage-beyond n h = let l : head < tail = omega arith in rw (le-ltb tail head h, lt-ltb head tail l)
 
 -- ---- a range
 
@@ -31,23 +50,23 @@ not-all p n k h e = go (allBelow p n) refl
     go false q = q
 
 module _ (d : List ℕ) (head tail : ℕ) where
-  pub range-none : tail ≤ head → true ≡ rangeHolds d head tail
+  pub range-damaged : (b : Bool) → b ≡ damaged head tail → b ≡ true → false ≡ rangeHolds d head tail
   unfolding rangeHolds
-  range-none h = rw (le-leb tail head h)
-
-  pub range-past : head < tail → 256 < tail → false ≡ rangeHolds d head tail
-  unfolding rangeHolds
-  range-past h l = rw (lt-leb tail head h, lt-leb tail 256 l)
+  range-damaged b e q = rw (sym e ∙ q)
 
   pub range-start : Full d head head
   unfolding allBelow
   range-start = let z : head - head ≡ 0 = omega arith in rw z
 
-  pub range-gap : (k : ℕ) → head < tail → tail ≤ 256 → head ≤ k → k < tail → getD d k 0 ≡ 0 → false ≡ rangeHolds d head tail
+  -- where a block stands, with four bytes each, is a number of 64 bits
+  pub range-fits : (k : ℕ) → damaged head tail ≡ false → head ≤ k → k < tail → Fits w64 (k * 4)
+  range-fits k u i j = scaled-fits k 256 4 (undamaged-inside head tail k u i j) (lit< tt)
+
+  pub range-gap : (k : ℕ) → damaged head tail ≡ false → head ≤ k → k < tail → getD d k 0 ≡ 0 → false ≡ rangeHolds d head tail
   unfolding rangeHolds empty
-  range-gap k h l i j e =
+  range-gap k u i j e =
       let z : head + (k - head) ≡ k = omega arith in
-      rw (lt-leb tail head h, le-leb tail 256 l)
+      rw u
       (sym (not-all (λ x. not (empty (blockAt d (head + x)))) (tail - head) (k - head) (omega arith) (rw (z, e))))
 
   pub range-more : (k : ℕ) → head ≤ k → Full d head k → (getD d k 0 ≡ 0 → ⊥) → Full d head (k + 1)
@@ -57,11 +76,11 @@ module _ (d : List ℕ) (head tail : ℕ) where
       let y : head + (k - head) ≡ k = omega arith in
       rw z (and-intro _ _ f (rw (y, ne-eqb _ _ e)))
 
-  pub range-full : (k : ℕ) → head < tail → tail ≤ 256 → k ≤ tail → tail ≤ k → Full d head k → true ≡ rangeHolds d head tail
+  pub range-full : (k : ℕ) → damaged head tail ≡ false → k ≤ tail → tail ≤ k → Full d head k → true ≡ rangeHolds d head tail
   unfolding rangeHolds
-  range-full k h l i j f =
+  range-full k u i j f =
       let z : k ≡ tail = omega arith in
-      rw (lt-leb tail head h, le-leb tail 256 l) (sym (rw z at f))
+      rw u (sym (rw z at f))
 
 -- ---- a check
 
@@ -115,4 +134,4 @@ module _ (d : List ℕ) (cs : List Check) (z : Check) where
       rw (add-one i, take-suc cs i z size, all-append (holds d) (take i cs) (getD cs i z ∷ []))
       (and-intro (all (holds d) (take i cs)) _ p (unfold all in and-intro (holds d (getD cs i z)) true (sym e ∙ not-false b q) refl))
 
-pub ruleset checking = (needs, range-none, range-past, range-start, range-gap, range-more, range-full, checks-start, checks-stop, checks-more, checks-end, same-check, range-read, pointer-none, pointer-past, pointer-read)
+pub ruleset checking = (needs, damage-none, damage-past, damage-beyond, told, range-damaged, undamaged-ordered, undamaged-inside, range-fits, range-start, range-gap, range-more, range-full, checks-start, checks-stop, checks-more, checks-end, same-check, range-read, pointer-none, pointer-past, pointer-read)

@@ -4,15 +4,26 @@ ghost use mathlib.Core.Path.{_≡_};
 ghost use Prim.Native.Nat.{_<_, _≤_};
 ghost use lib.ListN.{take};
 ghost use Rattle.model.specs.Disk.{firstOf, secondOf};
-ghost use Rattle.model.specs.Check.{rangeHolds, holds, consistent};
+ghost use Rattle.model.specs.Check.{damaged, rangeHolds, holds, consistent};
+
+// Whether a range with this head and tail fails whatever the disk holds: head exceeds tail, or there
+// are blocks in it and some are beyond the disk.
+pub fn is_damaged(head: usize, tail: usize) -> bool
+    ensures { λ r. ⌜ r ≡ damaged head tail ⌝ }
+{
+    if head == tail {
+        return false;
+    }
+    if tail < head {
+        return true;
+    }
+    256 < tail
+}
 
 fn range_holds(disk: &[u32; 256], head: usize, tail: usize) -> bool
     ensures { λ r. ⌜ r ≡ rangeHolds (now (disk .entry)) head tail ⌝ }
 {
-    if tail <= head {
-        return true;
-    }
-    if 256 < tail {
+    if is_damaged(head, tail) {
         return false;
     }
     let mut k = head;

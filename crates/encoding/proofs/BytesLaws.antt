@@ -16,14 +16,14 @@ use Rattle.model.specs.declared.Check.{Check}
 use Rattle.model.specs.Answer.{answer, refused}
 use Rattle.model.specs.Test.{test, File, file}
 use Rattle.format.specs.declared.Counts.{Counts}
-use Rattle.format.specs.Bytes.{byte, half}
+use Rattle.format.specs.Bytes.{byte, Small, half}
 use Rattle.format.specs.File.{isTag, bodyLength, outOfOrder, faultOf, fieldEnd, bodyAt, ruleOf, writeOf, checkOf, Progress, progress, countsOf, grown, finished, readFrom, readOf, nothing}
 use Rattle.reader.specs.Limits.{Within}
 use Rattle.format.specs.Encode.{fieldBytes, ruleFields, writeFields, checkFieldBytes, checkFields, testBytes, testsBytes, fileBytes, FileFits}
 use Rattle.reader.proofs.LimitLaws.{Clean, clean, by-tag, within-counted}
 use Rattle.reader.proofs.CallerLaws.{holding-limits}
 use Rattle.reader.proofs.TellsLaws.{counts-grown}
-use Rattle.encoding.specs.Theorem.{Small, ReadsExactly}
+use Rattle.encoding.specs.Theorem.{ReadsExactly}
 use Rattle.encoding.proofs.FitLaws.{bounded, bounded-part, Fitting, fitting-start, fitting-on}
 use Rattle.encoding.proofs.RunLaws.{rule-run, write-run, check-run, test-run, run-last}
 use Rattle.encoding.proofs.ReadLaws.{read-bytes}

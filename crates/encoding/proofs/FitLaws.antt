@@ -12,11 +12,10 @@ use borrow.Author.Tests.{ltb-false}
 use Rattle.model.specs.declared.Rule.{Rule}
 use Rattle.model.specs.declared.Check.{Check}
 use Rattle.model.specs.Test.{Test, test}
-use Rattle.format.specs.Bytes.{byte, half, word}
+use Rattle.format.specs.Bytes.{byte, Small, half, word}
 use Rattle.format.specs.File.{isTag, ruleFault, bodyFault, ruleOf, writeOf, checkOf, Progress, progress, grown, nothing}
 use Rattle.format.specs.Encode.{RuleFits, WriteFits, CheckFits, TestFits}
 use Rattle.reader.proofs.LimitLaws.{by-tag}
-use Rattle.encoding.specs.Theorem.{Small}
 use Rattle.encoding.proofs.PartLaws.{Bounded}
 
 -- ---- bytes

@@ -1,19 +1,14 @@
 -- What is shown: reading accepts exactly the bytes of files.
-use Prim.Native.Nat.{ℕ, _<_}
+use Prim.Native.Nat.{ℕ}
 use mathlib.Core.Path.{_≡_}
 use mathlib.Core.Logic.{_↔_}
 use mathlib.Core.List.{List}
-use lib.ListN.{length}
 use Rattle.model.specs.Answer.{answer}
 use Rattle.model.specs.Test.{File}
-use Rattle.format.specs.Bytes.{byte}
+use Rattle.format.specs.Bytes.{Small}
 use Rattle.format.specs.File.{readOf}
 use Rattle.reader.specs.Limits.{FileLimits}
 use Rattle.format.specs.Encode.{fileBytes, FileFits}
-
--- numbers below 256
-abbrev pub Small : List ℕ → Type 0
-Small s = (i : ℕ) → i < length s → byte s i < 256
 
 -- the bytes of a file within the limits, whose parts are within their widths
 pub record Encodes (s : List ℕ) (f : File) : Type 0 where

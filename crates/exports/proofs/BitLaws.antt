@@ -16,7 +16,7 @@ use Rattle.model.specs.declared.Rule.{Rule}
 use Rattle.model.specs.declared.Write.{Write}
 use Rattle.model.specs.Answer.{Outcome, answer, refused}
 use Rattle.model.specs.Cyclic.{cyclic}
-use Rattle.model.specs.Disk.{firstOf, secondOf}
+use Rattle.model.specs.Disk.{secondOf}
 use Rattle.model.specs.Find.{candidatesOf, chosen, picked}
 use Rattle.model.specs.Schedule.{valid}
 use Rattle.model.specs.Test.{Test, File, schedules, Bad, bad, validCount, badCount}
@@ -40,7 +40,8 @@ use Rattle.printing.specs.Decimal.{decimal}
 use Rattle.printing.specs.Lines.{refusedLine, testLine, lines, textOf, programText, holdsText, failsText}
 use Rattle.printing.proofs.WriteLaws.{decimal-most}
 use Rattle.finding.specs.Finder.{Found, wrote, findAmong, findIn, findOf}
-use Rattle.log.specs.Get.{keyed, getFrom, getOf, valueCode}
+use Rattle.model.specs.Check.{damaged}
+use Rattle.log.specs.Get.{keyed, headOf, tailOf, getFrom, getOf, valueCode}
 use Rattle.format.specs.Encode.{testBytes}
 use Rattle.log.specs.Puts.{Put, Traced, traced, putsOf, logTest, emptyPut, traceOf}
 use Rattle.workbench.specs.Printed.{printedOf}
@@ -137,9 +138,9 @@ get-of g v h false false q = let z : g ≡ v = cc in rw z at h
 get-below : (disk : List ℕ) (key : ℕ) (v : Option ℕ) → getOf disk key ≡ answer v → valueCode v < bit63
 unfolding getOf
 get-below disk key v e =
-    let head : ℕ = firstOf (blockIn disk 0) in
-    let tail : ℕ = secondOf (blockIn disk 0) in
-    get-of (getFrom disk key head (tail - head)) v (value-below disk key head (tail - head)) (not (eqb (length disk) 1024)) (ltb head tail && ltb 256 tail) e
+    let head : ℕ = headOf disk in
+    let tail : ℕ = tailOf disk in
+    get-of (getFrom disk key head (tail - head)) v (value-below disk key head (tail - head)) (not (eqb (length disk) 1024)) (damaged head tail) e
 
 -- ---- read, locate, cyclic
 

@@ -1,13 +1,17 @@
 -- Numbers, blocks and writes as bytes, big-endian.
-use Prim.Native.Nat.{ℕ, _+_, _*_, _/_, _%_}
+use Prim.Native.Nat.{ℕ, _+_, _*_, _/_, _%_, _<_}
 use mathlib.Core.List.{List, [], _∷_, _++_}
-use lib.ListN.{getD}
+use lib.ListN.{length, getD}
 use Rattle.relation.specs.Lists.{tabulate}
 use Rattle.model.specs.declared.Write.{Write}
 use Rattle.model.specs.declared.Rule.{Rule}
 
 abbrev pub byte : List ℕ → ℕ → ℕ
 byte s i = getD s i 0
+
+-- numbers below 256
+abbrev pub Small : List ℕ → Type 0
+Small s = (i : ℕ) → i < length s → byte s i < 256
 
 -- the number of two bytes, and of four
 unfoldable pub half : List ℕ → ℕ → ℕ

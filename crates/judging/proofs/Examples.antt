@@ -15,7 +15,7 @@ use Rattle.model.specs.Disk.{block, firstOf, secondOf, empty, emptyDisk}
 use Rattle.model.specs.Rules.{stands, matches, dependsOn}
 use Rattle.model.specs.Cyclic.{Cyclic, noRule, leads, has, equalLeads, meets, cyclic}
 use Rattle.model.specs.Schedule.{store, run, written, noWrite, valid}
-use Rattle.model.specs.Check.{rangeHolds, holds, consistent}
+use Rattle.model.specs.Check.{damaged, rangeHolds, holds, consistent}
 use Rattle.model.specs.Test.{Test, File, file, initialDisk, Bad, bad, countBelow, validCount, badCount}
 use Rattle.model.proofs.TestLaws.{bad-true, bad-fails}
 use Rattle.cyclelaws.specs.Examples.{equalAlone}
@@ -36,7 +36,7 @@ unfolding K3-bytes K3-file K3-test ring-bytes readOf readFrom nothing finished g
 fileRead s = readOf s
 
 counted : List Rule → Test → ℕ
-unfolding K3-file K3-test validCount badCount countBelow bad valid consistent holds rangeHolds run written store initialDisk emptyDisk noWrite dependsOn matches stands bit allBelow any all empty firstOf secondOf block
+unfolding K3-file K3-test validCount badCount countBelow bad valid consistent holds rangeHolds damaged run written store initialDisk emptyDisk noWrite dependsOn matches stands bit allBelow any all empty firstOf secondOf block
 counted rules t = badCount rules t
 
 ringed : List Rule → Bool

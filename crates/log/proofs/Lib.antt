@@ -1,3 +1,4 @@
 pub mod GetLaws
 pub mod Steps
 pub mod Theorems
+pub mod DamageLaws

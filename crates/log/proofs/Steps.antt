@@ -8,9 +8,12 @@ use native.Mathlib.Omega.{arith}
 use lib.Dec.{eqb}
 use lib.ListN.{length}
 use borrow.Author.Needs.{needs}
-use borrow.Author.Tests.{eq-eqb, ne-eqb, lt-ltb, le-ltb}
+use borrow.Author.Tests.{eq-eqb, ne-eqb}
+use Rattle.relation.proofs.Cases.{told}
 use Rattle.model.specs.Answer.{refusal}
 use Rattle.model.specs.Disk.{empty, firstOf, secondOf}
+use Rattle.model.specs.Check.{damaged}
+use Rattle.model.proofs.CheckLaws.{undamaged-ordered, undamaged-inside}
 use Rattle.format.specs.Bytes.{word, blockIn}
 use Rattle.log.specs.Get.{keyed, getFrom, getOf, valueCode, getCode, getAnswer}
 
@@ -31,6 +34,9 @@ module _ (d : List ℕ) (key a b : ℕ) (e : b ≡ blockIn d a) where
 module _ (d : List ℕ) (key head tail a : ℕ) where
   pub seen-start : getFrom d key head (tail - head) ≡ getFrom d key head (tail - head)
   seen-start = refl
+
+  pub seen-inside : (x : ℕ) → damaged head tail ≡ false → head < a → a ≤ tail → x ≡ a - 1 → x < 256
+  seen-inside x u h l z = undamaged-inside head tail x u (omega arith) (omega arith)
 
   before : head < a → a - head ≡ suc (a - 1 - head)
   before h = omega arith
@@ -66,18 +72,13 @@ module _ (d : List ℕ) (key r : ℕ) where
   get-length n e = rw (ne-eqb (length d) 1024 n) e
 
   module _ (b head tail : ℕ) (size : length d ≡ 1024) (eb : b ≡ blockIn d 0) (eh : head ≡ firstOf b) (et : tail ≡ secondOf b) where
-    pub get-past : head < tail → 256 < tail → r ≡ refusal 21 0 → r ≡ getAnswer d key
-    unfolding getAnswer getCode getOf
-    get-past h l e = rw (eq-eqb (length d) 1024 size, ← eb, ← eh, ← et, lt-ltb head tail h, lt-ltb 256 tail l) e
+    module _ (t : Bool) (ed : t ≡ damaged head tail) where
+      pub get-damaged : t ≡ true → r ≡ refusal 21 0 → r ≡ getAnswer d key
+      unfolding getAnswer getCode getOf
+      get-damaged h e = rw (eq-eqb (length d) 1024 size, ← eb, ← eh, ← et, ← ed, h) e
 
-    pub get-found : head < tail → tail ≤ 256 → r ≡ valueCode (getFrom d key head (tail - head)) → r ≡ getAnswer d key
-    unfolding getAnswer getCode getOf
-    get-found h l e = rw (eq-eqb (length d) 1024 size, ← eb, ← eh, ← et, lt-ltb head tail h, le-ltb 256 tail l) e
+      pub get-found : t ≡ false → r ≡ valueCode (getFrom d key head (tail - head)) → r ≡ getAnswer d key
+      unfolding getAnswer getCode getOf
+      get-found h e = rw (eq-eqb (length d) 1024 size, ← eb, ← eh, ← et, ← ed, h) e
 
-pub get-empty : (d : List ℕ) (key b head tail : ℕ) → length d ≡ 1024 → b ≡ blockIn d 0 → head ≡ firstOf b → tail ≡ secondOf b → tail ≤ head → 65536 ≡ getAnswer d key
-unfolding getAnswer getCode getOf getFrom valueCode
-get-empty d key b head tail size eb eh et h =
-    let z : tail - head ≡ 0 = omega arith in
-    rw (eq-eqb (length d) 1024 size, ← eb, ← eh, ← et, le-ltb head tail h, z)
-
-pub ruleset gets = (needs, block-word, key-empty, key-first, seen-start, seen-found, seen-next, seen-all, get-length, get-past, get-found, get-empty)
+pub ruleset gets = (needs, block-word, key-empty, key-first, seen-start, undamaged-ordered, seen-inside, seen-found, seen-next, seen-all, get-length, get-damaged, get-found, told)

@@ -1,19 +1,18 @@
 -- The theorems of get, from the laws of `getFrom`: a range that is empty or reversed has no addresses, any other is head + n.
 use mathlib.Core.Path.{_≡_, refl, ap, subst}
-use mathlib.Core.Bool.{Bool, true, false, cond, not, _&&_, false≢true}
+use mathlib.Core.Bool.{Bool, true, false, cond, not, false≢true}
 use mathlib.Core.List.{List}
 use mathlib.Core.Option.{Option, none}
 use Prim.Native.Nat.{ℕ, _+_, _-_}
 use native.Mathlib.Omega.{arith}
 use native.Mathlib.Decide.{decLt}
-use lib.Dec.{eqb, ltb}
+use lib.Dec.{eqb}
 use lib.ListN.{length}
-use borrow.Author.Tests.{eq-eqb, lt-ltb, ltb-true}
-use Rattle.relation.proofs.ListLaws.{and-left, and-right}
+use borrow.Author.Tests.{eq-eqb, eqb-true}
 use Rattle.model.specs.Answer.{Outcome, answer, refused}
-use Rattle.model.specs.Disk.{firstOf, secondOf}
-use Rattle.format.specs.Bytes.{blockIn}
-use Rattle.log.specs.Get.{Gets, getFrom, getOf}
+use Rattle.model.specs.Check.{damaged}
+use Rattle.model.proofs.CheckLaws.{damaged-true, true-damaged}
+use Rattle.log.specs.Get.{Gets, headOf, tailOf, getFrom, getOf}
 use Rattle.log.specs.Theorem.{Highest, GetAnswers, RefusedGets}
 use Rattle.log.proofs.GetLaws.{getFrom-gets, gets-one}
 
@@ -44,21 +43,34 @@ behind true c n m u v e = absurd (false≢true (ap isAnswer e))
 behind false true n m u v e = absurd (false≢true (ap isAnswer e))
 behind false false n m u v e = ap valueIn e
 
+-- what an answer tells of the disk
+pub answered : (disk : List ℕ) (key : ℕ) (v : Option ℕ) → getOf disk key ≡ answer v
+    → (length disk ≡ 1024) × (damaged (headOf disk) (tailOf disk) ≡ false)
+unfolding getOf isAnswer
+answered disk key v e = go (eqb (length disk) 1024) refl (damaged (headOf disk) (tailOf disk)) refl _ e
+  where
+    go : (a : Bool) → eqb (length disk) 1024 ≡ a → (b : Bool) → damaged (headOf disk) (tailOf disk) ≡ b
+        → (u : Option ℕ) → cond (not a) (refused 14 0) (cond b (refused 21 0) (answer u)) ≡ answer v
+        → (length disk ≡ 1024) × (damaged (headOf disk) (tailOf disk) ≡ false)
+    go true p false q u e = (eqb-true (length disk) 1024 p, q)
+    go true p true q u e = absurd (false≢true (ap isAnswer e))
+    go false p b q u e = absurd (false≢true (ap isAnswer e))
+
 pub get-answers : GetAnswers
 unfolding getOf
 get-answers disk key v e =
-    let head = firstOf (blockIn disk 0) in
-    let tail = secondOf (blockIn disk 0) in
-    highest disk key head tail v .1 (behind (not (eqb (length disk) 1024)) (ltb head tail && ltb 256 tail) 14 21 _ v e)
+    let head = headOf disk in
+    let tail = tailOf disk in
+    highest disk key head tail v .1 (behind (not (eqb (length disk) 1024)) (damaged head tail) 14 21 _ v e)
 
 pub refused-gets : RefusedGets
 unfolding getOf
 refused-gets d key e =
-    let head = firstOf (blockIn d 0) in
-    let tail = secondOf (blockIn d 0) in
+    let head = headOf d in
+    let tail = tailOf d in
     rw (eq-eqb (length d) 1024 e) (
-      (λ q. let b = stands (ltb head tail && ltb 256 tail) (getFrom d key head (tail - head)) q in (ltb-true head tail (and-left _ _ b), ltb-true 256 tail (and-right (ltb head tail) _ b))),
-      λ p. rw (lt-ltb head tail (p .0), lt-ltb 256 tail (p .1)),
+      (λ q. damaged-true head tail (stands (damaged head tail) (getFrom d key head (tail - head)) q)),
+      λ p. rw (true-damaged head tail p),
     )
   where
     stands : (x : Bool) (v : Option ℕ) → cond x (refused 21 0) (answer v) ≡ refused 21 0 → x ≡ true

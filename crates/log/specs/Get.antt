@@ -4,10 +4,11 @@ use mathlib.Core.Path.{_≡_}
 use mathlib.Core.Bool.{Bool, true, false, cond, not, _&&_}
 use mathlib.Core.List.{List}
 use mathlib.Core.Option.{Option, none, some}
-use lib.Dec.{eqb, ltb}
+use lib.Dec.{eqb}
 use lib.ListN.{length}
 use Rattle.model.specs.Answer.{Outcome, answer, refused, refusal}
 use Rattle.model.specs.Disk.{empty, firstOf, secondOf}
+use Rattle.model.specs.Check.{Damaged, damaged}
 use Rattle.format.specs.Bytes.{blockIn}
 
 -- block a is non-empty and has this key
@@ -22,25 +23,31 @@ Gets disk key head tail (some v) =
     × ((b : ℕ) → a < b → b < tail → keyed disk key b ≡ false)
 
 -- the superblock, block 0, names the head and the tail of the log
-abbrev pub LogGets : List ℕ → ℕ → Option ℕ → Type 0
-LogGets disk key v = Gets disk key (firstOf (blockIn disk 0)) (secondOf (blockIn disk 0)) v
+abbrev pub headOf : List ℕ → ℕ
+headOf disk = firstOf (blockIn disk 0)
 
--- it names blocks beyond the disk: head < tail and tail > 256
-abbrev pub PastDisk : List ℕ → Type 0
-PastDisk disk = (firstOf (blockIn disk 0) < secondOf (blockIn disk 0)) × (256 < secondOf (blockIn disk 0))
+abbrev pub tailOf : List ℕ → ℕ
+tailOf disk = secondOf (blockIn disk 0)
+
+abbrev pub LogGets : List ℕ → ℕ → Option ℕ → Type 0
+LogGets disk key v = Gets disk key (headOf disk) (tailOf disk) v
+
+-- it is damage: head exceeds tail, or head < tail and tail > 256
+abbrev pub LogDamaged : List ℕ → Type 0
+LogDamaged disk = Damaged (headOf disk) (tailOf disk)
 
 -- the same, computed: the n addresses below head + n, from the highest down
 unfoldable pub getFrom : List ℕ → ℕ → ℕ → ℕ → Option ℕ
 getFrom disk key head zero = none
 getFrom disk key head (suc n) = cond (keyed disk key (head + n)) (some (secondOf (blockIn disk (head + n)))) (getFrom disk key head n)
 
--- *get*: 14 disk not 1,024; 21 head < tail and tail > 256
+-- *get*: 14 disk not 1,024; 21 head exceeds tail (02, [6]), or head < tail and tail > 256
 unfoldable pub getOf : List ℕ → ℕ → Outcome (Option ℕ)
 getOf disk key =
-    let head = firstOf (blockIn disk 0) in
-    let tail = secondOf (blockIn disk 0) in
+    let head = headOf disk in
+    let tail = tailOf disk in
     cond (not (eqb (length disk) 1024)) (refused 14 0)
-    (cond (ltb head tail && ltb 256 tail) (refused 21 0)
+    (cond (damaged head tail) (refused 21 0)
     (answer (getFrom disk key head (tail - head))))
 
 -- in one number: the value, or 65,536 for none

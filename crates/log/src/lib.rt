@@ -2,6 +2,8 @@
 ghost use mathlib.Core.Path.{_≡_};
 ghost use Prim.Native.Nat.{_-_, _<_, _≤_};
 ghost use lib.ListN.{length};
+ghost use mathlib.Core.Bool.{false};
+ghost use Rattle.model.specs.Check.{damaged};
 ghost use Rattle.format.specs.Bytes.{blockIn};
 ghost use Rattle.log.specs.Get.{keyed, getFrom, valueCode, getAnswer};
 
@@ -27,7 +29,7 @@ fn has_key(disk: &[u8], key: u16, a: usize) -> bool
 
 // The value of a key among the blocks from head to tail - 1, from the highest down; 65,536 for none.
 fn find_key(disk: &[u8], key: u16, head: usize, tail: usize) -> u64
-    requires { ⌜ (length (now disk) ≡ 1024) × ((head ≤ tail) × (tail ≤ 256)) ⌝ }
+    requires { ⌜ (length (now disk) ≡ 1024) × (damaged head tail ≡ false) ⌝ }
     ensures { λ r. ⌜ r ≡ valueCode (getFrom (now (disk .entry)) key head (tail - head)) ⌝ }
 {
     let mut a = tail;
@@ -41,7 +43,7 @@ fn find_key(disk: &[u8], key: u16, head: usize, tail: usize) -> u64
 }
 
 // The value at the highest address from head to tail - 1 whose block is non-empty with that key, or
-// 65,536 for none. 14: the disk has not 1,024 bytes; 21: head < tail and tail > 256.
+// 65,536 for none. 14: the disk has not 1,024 bytes; 21: head > tail, or head < tail and tail > 256.
 pub fn get(disk: &[u8], key: u16) -> u64
     ensures { λ r. ⌜ r ≡ getAnswer (now (disk .entry)) key ⌝ }
 {
@@ -51,10 +53,7 @@ pub fn get(disk: &[u8], key: u16) -> u64
     let b = block_at(disk, 0);
     let head = checks::first_of(b);
     let tail = checks::second_of(b);
-    if tail <= head {
-        return 65536;
-    }
-    if 256 < tail {
+    if checks::is_damaged(head, tail) {
         return model::refuse(21, 0);
     }
     find_key(disk, key, head, tail)

@@ -1,45 +1,93 @@
 -- The computed forms of the checks agree with their meaning.
 use mathlib.Core.Path.{_≡_, refl, sym, subst, _∙_}
-use mathlib.Core.Logic.{⊎-elim}
+use mathlib.Core.Logic.{_↔_, _⊎_, inl, inr, ⊎-elim}
 use mathlib.Core.Bool.{Bool, true, false, not, _&&_, _||_, false≢true}
 use mathlib.Core.List.{List}
-use Prim.Native.Nat.{ℕ, _+_, _-_}
+use Prim.Native.Nat.{ℕ, _+_, _-_, _≤_, _<_}
 use native.Mathlib.Omega.{arith}
-use lib.Dec.{eqb, leb}
-use borrow.Author.Tests.{leb-true, leb-false, le-leb, eqb-true, eq-eqb, not-true}
-use Rattle.relation.proofs.ListLaws.{or-cases, or-left, or-right, and-left, and-right, and-intro, allBelow-true, allBelow-intro, all-true, all-intro}
+use lib.Dec.{eqb, leb, ltb}
+use lib.ListN.{length, replicate, length-replicate, getD-replicate}
+use borrow.Author.Tests.{leb-true, le-leb, ltb-true, ltb-false, lt-ltb, eqb-true, eq-eqb, not-true}
+use Rattle.relation.proofs.ListLaws.{untrue, or-cases, or-left, or-right, or-none-left, or-none-right, and-left, and-right, and-intro, allBelow-true, allBelow-intro, all-true, all-intro}
 use Rattle.relation.proofs.MaskLaws.{implies, implied}
 use Rattle.model.specs.declared.Check.{Check}
 use Rattle.model.specs.declared.Check.the-variants.{Range, Pair, Pointer}
 use Rattle.model.specs.Disk.{empty, secondOf, blockAt}
-use Rattle.model.specs.Check.{RangeHolds, Holds, Consistent, rangeHolds, holds, consistent}
+use Rattle.model.specs.Check.{RangeHolds, Damaged, Holds, Consistent, damaged, rangeHolds, holds, consistent}
 
 not-false-intro : (b : Bool) → b ≡ false → not b ≡ true
 not-false-intro b e = rw e
 
+-- ---- head and tail
+
+pub damaged-true : (head tail : ℕ) → damaged head tail ≡ true → Damaged head tail
+unfolding damaged Damaged
+damaged-true head tail e = ⊎-elim
+    (λ a. inl (ltb-true tail head a))
+    (λ b. inr (ltb-true head tail (and-left (ltb head tail) _ b), ltb-true 256 tail (and-right (ltb head tail) _ b)))
+    (or-cases (ltb tail head) _ e)
+
+pub true-damaged : (head tail : ℕ) → Damaged head tail → damaged head tail ≡ true
+unfolding damaged Damaged
+true-damaged head tail d = ⊎-elim
+    (λ a. or-left (ltb tail head) _ (lt-ltb tail head a))
+    (λ b. or-right (ltb tail head) _ (and-intro (ltb head tail) _ (lt-ltb head tail (b .0)) (lt-ltb 256 tail (b .1))))
+    d
+
+-- those that are not damaged
+pub undamaged : (head tail : ℕ) → damaged head tail ≡ false → (head ≤ tail) × (head < tail → tail ≤ 256)
+unfolding damaged
+undamaged head tail e = (
+  ltb-false tail head (or-none-left (ltb tail head) _ e),
+  λ h. ltb-false 256 tail (rw (lt-ltb head tail h) at (or-none-right (ltb tail head) (ltb head tail && ltb 256 tail) e)),
+)
+
+pub undamaged-ordered : (head tail : ℕ) → damaged head tail ≡ false → head ≤ tail
+undamaged-ordered head tail e = undamaged head tail e .0
+
+-- their blocks are on the disk
+pub undamaged-inside : (head tail k : ℕ) → damaged head tail ≡ false → head ≤ k → k < tail → k < 256
+undamaged-inside head tail k e h l = let m = undamaged head tail e .1 (omega arith) in omega arith
+
+pub never-damaged : (head tail : ℕ) → head ≤ tail → (head < tail → tail ≤ 256) → Damaged head tail → ⊥
+unfolding Damaged
+never-damaged head tail l m d = ⊎-elim (λ a. absurd (omega arith)) (λ b. let h = m (b .0) in let g = b .1 in absurd (omega arith)) d
+
+pub not-damaged : (head tail : ℕ) → head ≤ tail → (head < tail → tail ≤ 256) → damaged head tail ≡ false
+not-damaged head tail l m = untrue (damaged head tail) (λ e. never-damaged head tail l m (damaged-true head tail e))
+
+-- with any others the range holds of a full disk
+pub damage-exactly : (head tail : ℕ) → Damaged head tail ↔ ((disk : List ℕ) → length disk ≡ 256 → RangeHolds disk head tail → ⊥)
+unfolding RangeHolds
+damage-exactly head tail = (
+  (λ d disk n r. never-damaged head tail (r .0) (r .1) d),
+  λ none. go none (damaged head tail) refl,
+)
+  where
+    go : ((disk : List ℕ) → length disk ≡ 256 → RangeHolds disk head tail → ⊥) → (b : Bool) → damaged head tail ≡ b → Damaged head tail
+    go none true e = damaged-true head tail e
+    go none false e =
+        let u = undamaged head tail e in
+        absurd (none (replicate 256 1) (length-replicate {A = ℕ} 256 1) (u .0, u .1, λ k h j. let m = u .1 (omega arith) in unfold empty in rw (getD-replicate {A = ℕ} 256 k 1 0 (omega arith))))
+
 module _ (disk : List ℕ) where
   range-true : (head tail : ℕ) → rangeHolds disk head tail ≡ true → RangeHolds disk head tail
   unfolding rangeHolds RangeHolds
-  range-true head tail e = ⊎-elim
-      (λ a. let l = leb-true tail head a in ((λ k h j. absurd (omega arith)), λ h. absurd (omega arith)))
-      (λ b. (
-        (λ k h j. let q : head + (k - head) ≡ k = omega arith in
-            not-true _ (subst (λ (x : ℕ). not (empty (blockAt disk x)) ≡ true) q (allBelow-true _ (tail - head) (and-right (leb tail 256) _ b) (k - head) (omega arith)))),
-        λ h. leb-true tail 256 (and-left (leb tail 256) _ b),
-      ))
-      (or-cases (leb tail head) _ e)
+  range-true head tail e =
+      let u = undamaged head tail (not-true _ (and-left (not (damaged head tail)) _ e)) in
+      let full = and-right (not (damaged head tail)) _ e in (
+        u .0,
+        u .1,
+        λ k h j. let q : head + (k - head) ≡ k = omega arith in
+            not-true _ (subst (λ (x : ℕ). not (empty (blockAt disk x)) ≡ true) q (allBelow-true _ (tail - head) full (k - head) (omega arith))),
+      )
 
   true-range : (head tail : ℕ) → RangeHolds disk head tail → rangeHolds disk head tail ≡ true
   unfolding rangeHolds RangeHolds
-  true-range head tail r = go (leb tail head) refl
-    where
-      go : (b : Bool) → leb tail head ≡ b → rangeHolds disk head tail ≡ true
-      go true e = or-left (leb tail head) _ e
-      go false e =
-          let l = leb-false tail head e in
-          or-right (leb tail head) _
-          (and-intro (leb tail 256) _ (le-leb tail 256 (r .1 (omega arith)))
-          (allBelow-intro _ (tail - head) (λ k h. not-false-intro _ (r .0 (head + k) (omega arith) (omega arith)))))
+  true-range head tail r =
+      and-intro (not (damaged head tail)) _
+      (not-false-intro _ (not-damaged head tail (r .0) (r .1)))
+      (allBelow-intro _ (tail - head) (λ k h. not-false-intro _ (r .2 (head + k) (omega arith) (omega arith))))
 
   pub holds-true : (c : Check) → holds disk c ≡ true → Holds disk c
   unfolding holds Holds

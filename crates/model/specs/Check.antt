@@ -1,17 +1,22 @@
 -- The three checks of a disk.
 use Prim.Native.Nat.{ℕ, _+_, _-_, _≤_, _<_}
 use mathlib.Core.Path.{_≡_}
+use mathlib.Core.Logic.{_⊎_}
 use mathlib.Core.Bool.{Bool, false, not, _&&_, _||_}
 use mathlib.Core.List.{List, List·Memᴰ}
-use lib.Dec.{eqb, leb}
+use lib.Dec.{eqb, leb, ltb}
 use Rattle.relation.specs.Lists.{all, allBelow}
 use Rattle.model.specs.declared.Check.{Check}
 use Rattle.model.specs.declared.Check.the-variants.{Range, Pair, Pointer}
 use Rattle.model.specs.Disk.{empty, firstOf, secondOf, blockAt}
 
--- *range*: every block from head up to tail - 1 is non-empty; if head < tail and tail > 256 it fails
+-- *range*: whenever head exceeds tail it fails (02, [6]); if head < tail and tail > 256 it fails; every block from head up to tail - 1 is non-empty
 unfoldable pub RangeHolds : List ℕ → ℕ → ℕ → Type 0
-RangeHolds disk head tail = ((k : ℕ) → head ≤ k → k < tail → empty (blockAt disk k) ≡ false) × (head < tail → tail ≤ 256)
+RangeHolds disk head tail = (head ≤ tail) × (head < tail → tail ≤ 256) × ((k : ℕ) → head ≤ k → k < tail → empty (blockAt disk k) ≡ false)
+
+-- *damage* (02, [6]): head and tail with which the range fails whatever the disk holds
+unfoldable pub Damaged : ℕ → ℕ → Type 0
+Damaged head tail = (tail < head) ⊎ ((head < tail) × (256 < tail))
 
 -- a check holds of a disk.
 -- *range* at a: of block a = (head, tail). *pair*: if block a equals v, block b equals w.
@@ -28,8 +33,11 @@ Consistent checks disk = (c : Check) → List·Memᴰ c checks → Holds disk c
 
 -- ---- the same, computed
 
+unfoldable pub damaged : ℕ → ℕ → Bool
+damaged head tail = ltb tail head || ltb head tail && ltb 256 tail
+
 unfoldable pub rangeHolds : List ℕ → ℕ → ℕ → Bool
-rangeHolds disk head tail = leb tail head || leb tail 256 && allBelow (λ k. not (empty (blockAt disk (head + k)))) (tail - head)
+rangeHolds disk head tail = not (damaged head tail) && allBelow (λ k. not (empty (blockAt disk (head + k)))) (tail - head)
 
 unfoldable pub holds : List ℕ → Check → Bool
 holds disk (Range a) = rangeHolds disk (firstOf (blockAt disk a)) (secondOf (blockAt disk a))

@@ -5,12 +5,13 @@ use mathlib.Core.Path.{_≡_}
 use mathlib.Core.Logic.{_↔_, _⊎_}
 use mathlib.Core.Bool.{true}
 use mathlib.Core.List.{List}
+use lib.ListN.{length}
 use Rattle.model.specs.declared.Write.{Write}
 use Rattle.model.specs.declared.Rule.{Rule}
 use Rattle.model.specs.declared.Check.{Check}
 use Rattle.model.specs.Rules.{Label, DependsOn, dependsOn, Known, known}
 use Rattle.model.specs.Schedule.{Valid, valid}
-use Rattle.model.specs.Check.{Holds, holds, Consistent, consistent}
+use Rattle.model.specs.Check.{RangeHolds, Damaged, damaged, Holds, holds, Consistent, consistent}
 use Rattle.model.specs.Test.{Test, schedules, TestHolds, testHolds, Bad, bad, badCount}
 
 -- a label depends on another
@@ -24,6 +25,11 @@ KnownRules = (rules : List Rule) → Known rules ↔ known rules ≡ true
 -- a schedule is valid
 abbrev pub ValidSchedule : Type 0
 ValidSchedule = (rules : List Rule) (ws : List Write) (s : ℕ) → Valid rules ws s ↔ valid rules ws s ≡ true
+
+-- head and tail are damaged; that is, with them the range fails of every disk of 256 blocks
+abbrev pub DamagedRange : Type 0
+DamagedRange =
+    (head tail : ℕ) → (Damaged head tail ↔ damaged head tail ≡ true) × (Damaged head tail ↔ ((disk : List ℕ) → length disk ≡ 256 → RangeHolds disk head tail → ⊥))
 
 -- a check holds of a disk, and a disk is consistent
 abbrev pub CheckHolds : Type 0

@@ -22,7 +22,7 @@ use Rattle.model.specs.Disk.{block, firstOf, secondOf, empty, emptyDisk}
 use Rattle.model.specs.Rules.{stands, matches, DependsOn, dependsOn, known}
 use Rattle.model.specs.Cyclic.{noRule, leads, has, equalLeads, meets, cyclic}
 use Rattle.model.specs.Schedule.{store, run, written, noWrite, valid, labelAt}
-use Rattle.model.specs.Check.{rangeHolds, holds, consistent, Consistent}
+use Rattle.model.specs.Check.{damaged, rangeHolds, holds, consistent, Consistent}
 use Rattle.model.specs.Test.{Test, test, file, initialDisk, bad, countBelow, badCount, TestHolds}
 use Rattle.model.proofs.RuleLaws.{dependsOn-true, true-dependsOn}
 use Rattle.model.proofs.CheckLaws.{true-consistent}
@@ -84,7 +84,7 @@ safe {bytes} {rules} {disk} {calls} r = demand3 bytes blank disk (file rules [])
 
 -- what the calls give
 unfoldable pub gave : List Rule → List Call → Moment → List (Outcome ℕ)
-unfolding next called ownAfter isRefused noted entered appended stepEntered stepsEntered waitingIn flagging flagAt opened rulesBytes ruleBytes openOf openWith handInOf stepOf stepped drainOf drained stepsOf checked storing late sound layout zeros known cyclic meets equalLeads has leads noRule hasRing loops closed round joined rowsOf related countBelow met needs needsRing readyFrom ready rulesIn writesIn storedIn ruleIn writeIn handed marked storedOn entryBytes writeBytes block valued getOf getFrom keyed valueCode blockIn empty firstOf secondOf isTag isCheck bodyLength ruleOf writeOf countsOf outOfOrder overTest overLimit ruleFault bodyFault faultOf grown finished readFrom nothing readOf half word noWrite dependsOn matches stands bit withBit maskOf allBelow anyBelow any all tabulate blank
+unfolding next called ownAfter isRefused noted entered appended stepEntered stepsEntered waitingIn flagging flagAt opened rulesBytes ruleBytes openOf openWith handInOf stepOf stepped drainOf drained stepsOf checked storing late sound layout zeros known cyclic meets equalLeads has leads noRule hasRing loops closed round joined rowsOf related countBelow met needs needsRing readyFrom ready rulesIn writesIn storedIn ruleIn writeIn handed marked storedOn entryBytes writeBytes block valued getOf damaged getFrom keyed valueCode blockIn empty firstOf secondOf isTag isCheck bodyLength ruleOf writeOf countsOf outOfOrder overTest overLimit ruleFault bodyFault faultOf grown finished readFrom nothing readOf half word noWrite dependsOn matches stands bit withBit maskOf allBelow anyBelow any all tabulate blank
 gave rules [] m = []
 gave rules (c ∷ cs) m = called c (m .held) .outcome ∷ gave rules cs (next rules c m)
 
@@ -191,8 +191,12 @@ unfolding Listed
 get-listed key d = tt
 
 -- block 0 says that the log goes past the disk: (1,257)
-pub damagedDisk : List ℕ
-damagedDisk = 0 ∷ 1 ∷ 1 ∷ 1 ∷ replicate 1020 0
+pub pastDisk : List ℕ
+pastDisk = 0 ∷ 1 ∷ 1 ∷ 1 ∷ replicate 1020 0
+
+-- (6,3): a head past its tail
+pub reversedDisk : List ℕ
+reversedDisk = 0 ∷ 6 ∷ 0 ∷ 3 ∷ replicate 1020 0
 
 -- ---- test K under the log's rules
 
@@ -260,7 +264,7 @@ initial = ap blocksOf twice-stored ∙ initial-blocks
 
 -- what a test computes
 unfoldable bads : List Rule → Test → ℕ
-unfolding badCount countBelow valid bad consistent holds rangeHolds run written store initialDisk emptyDisk noWrite dependsOn matches stands bit allBelow any all empty firstOf secondOf
+unfolding badCount countBelow valid bad consistent holds rangeHolds damaged run written store initialDisk emptyDisk noWrite dependsOn matches stands bit allBelow any all empty firstOf secondOf
 bads rules t = badCount rules t
 
 pub holds-longer : TestHolds rules longer
@@ -281,7 +285,7 @@ handing-listed =
     also unsound-state also get-listed 2 own also log2-listed also superblock2-listed also log3-listed also none
 
 pub calls : List Call
-calls = handing ++ (drain own own ∷ get 2 own ∷ get 2 (other []) ∷ get 2 (other damagedDisk) ∷ step own own ∷ [])
+calls = handing ++ (drain own own ∷ get 2 own ∷ get 2 (other []) ∷ get 2 (other pastDisk) ∷ step own own ∷ [])
 
 pub run-K : Run logBytes rules disk calls
 unfolding disk calls
@@ -290,13 +294,13 @@ run-K =
       reads = log-read;
       opens = log-opens disk;
       size = refl;
-      listed = together handing-listed (drain-listed also get-listed 2 own also get-listed 2 (other []) also get-listed 2 (other damagedDisk) also step-listed also none);
+      listed = together handing-listed (drain-listed also get-listed 2 own also get-listed 2 (other []) also get-listed 2 (other pastDisk) also step-listed also none);
     }
 
 pub gave-K : gave rules calls (start logBytes disk)
     ≡ refused 1 0 ∷ answer 1 ∷ refused 22 0 ∷ refused 8 0 ∷ refused 14 0 ∷ answer 2 ∷ refused 14 0 ∷ refused 15 0 ∷ answer 65536 ∷ answer 3 ∷ answer 4
     ∷ answer 5 ∷ answer 5 ∷ answer 37 ∷ refused 14 0 ∷ refused 21 0 ∷ answer 0 ∷ []
-unfolding gave rules disk calls handing oneByte withTest cyclicRule ones damagedDisk
+unfolding gave rules disk calls handing oneByte withTest cyclicRule ones pastDisk
 gave-K = ap (λ (s : List ℕ). gave rules calls (begun s disk)) (log-state disk)
 
 -- the supply is cut after four of the drain's five steps: two puts are stored, the third's block waits
@@ -358,21 +362,21 @@ consistent-K =
 
 -- refused while block 0 goes past the disk, and not once a superblock is stored
 pub damagedFirst : List Call
-damagedFirst = get 1 own ∷ handIn superblock1 own ∷ get 1 own ∷ step own own ∷ get 1 own ∷ []
+damagedFirst = get 1 own ∷ get 1 (other pastDisk) ∷ handIn superblock1 own ∷ get 1 own ∷ step own own ∷ get 1 own ∷ []
 
-pub run-damaged : Run logBytes rules damagedDisk damagedFirst
-unfolding damagedDisk damagedFirst
+pub run-damaged : Run logBytes rules reversedDisk damagedFirst
+unfolding reversedDisk damagedFirst
 run-damaged =
     record {
       reads = log-read;
-      opens = log-opens damagedDisk;
+      opens = log-opens reversedDisk;
       size = refl;
-      listed = get-listed 1 own also superblock1-listed also get-listed 1 own also step-listed also get-listed 1 own also none;
+      listed = get-listed 1 own also get-listed 1 (other pastDisk) also superblock1-listed also get-listed 1 own also step-listed also get-listed 1 own also none;
     }
 
-pub gave-damaged : gave rules damagedFirst (start logBytes damagedDisk) ≡ refused 21 0 ∷ answer 1 ∷ refused 21 0 ∷ answer 1 ∷ answer 65536 ∷ []
-unfolding gave rules damagedFirst damagedDisk
-gave-damaged = ap (λ (s : List ℕ). gave rules damagedFirst (begun s damagedDisk)) (log-state damagedDisk)
+pub gave-damaged : gave rules damagedFirst (start logBytes reversedDisk) ≡ refused 21 0 ∷ refused 21 0 ∷ answer 1 ∷ refused 21 0 ∷ answer 1 ∷ answer 65536 ∷ []
+unfolding gave rules damagedFirst reversedDisk pastDisk
+gave-damaged = ap (λ (s : List ℕ). gave rules damagedFirst (begun s reversedDisk)) (log-state reversedDisk)
 
 -- ---- K8, K9, K11 of the bench sheet as runs
 

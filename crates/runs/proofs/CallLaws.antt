@@ -2,7 +2,7 @@
 -- was lent, which openings are refused, and that openings and hand-ins take no disk.
 use mathlib.Core.Path.{_≡_, refl, sym, ap, _∙_}
 use mathlib.Core.Logic.{_⊎_, inl, inr, ⊎-elim}
-use mathlib.Core.Bool.{Bool, true, false, cond, not, _&&_, _||_}
+use mathlib.Core.Bool.{Bool, true, false, cond, not, _||_}
 use mathlib.Core.List.{List, [], _∷_, _++_}
 use mathlib.Core.Option.{Option}
 use Prim.{tt}
@@ -15,14 +15,14 @@ use borrow.Author.Tests.{eq-eqb, ne-eqb, lt-ltb, ltb-true}
 use Rattle.relation.proofs.ListLaws.{or-cases, or-left, or-right, untrue}
 use Rattle.model.specs.declared.Write.{Write}
 use Rattle.model.specs.Answer.{Outcome, answer, refused, coded}
-use Rattle.model.specs.Disk.{block, firstOf, secondOf}
+use Rattle.model.specs.Disk.{block}
 use Rattle.model.specs.Cyclic.{cyclic}
 use Rattle.model.specs.Test.{File}
-use Rattle.format.specs.Bytes.{blockIn}
 use Rattle.format.specs.File.{readOf}
 use Rattle.reader.proofs.CallerLaws.{holding-limits}
 use Rattle.cyclelaws.proofs.CyclicLaws.{true-cyclic, cyclic-true}
-use Rattle.log.specs.Get.{LogGets, PastDisk, getFrom, getOf, getCode, getAnswer}
+use Rattle.model.specs.Check.{damaged}
+use Rattle.log.specs.Get.{headOf, tailOf, LogGets, LogDamaged, getFrom, getOf, getCode, getAnswer}
 use Rattle.log.proofs.Theorems.{highest, get-answers, refused-gets}
 use Rattle.cache.specs.Needs.{needsRing}
 use Rattle.cache.specs.State.{stateSize, rulesIn, writesIn, storedIn, acceptedCount, opened}
@@ -110,16 +110,16 @@ get-length d key n = rw (ne-eqb (length d) 1024 n)
 pub get-right : (d : List ℕ) (key : ℕ) → length d ≡ 1024 → (getOf d key ≡ refused 21 0) ⊎ ((v : Option ℕ) × (getOf d key ≡ answer v))
 unfolding getOf
 get-right d key e =
-    let head = firstOf (blockIn d 0) in
-    let tail = secondOf (blockIn d 0) in
-    rw (eq-eqb (length d) 1024 e) (go (ltb head tail && ltb 256 tail) (getFrom d key head (tail - head)))
+    let head = headOf d in
+    let tail = tailOf d in
+    rw (eq-eqb (length d) 1024 e) (go (damaged head tail) (getFrom d key head (tail - head)))
   where
     go : (x : Bool) (v : Option ℕ) → (cond x (refused 21 0) (answer v) ≡ refused 21 0) ⊎ ((u : Option ℕ) × (cond x (refused 21 0) (answer v) ≡ answer u))
     go true v = inl refl
     go false v = inr (v, refl)
 
--- ..: by none where the log's blocks are on the disk, and then it gives the value there is
-pub get-given : (d : List ℕ) (key : ℕ) (v : Option ℕ) → length d ≡ 1024 → (PastDisk d → ⊥) → LogGets d key v → getOf d key ≡ answer v
+-- ..: by none where the superblock is no damage, and then it gives the value there is
+pub get-given : (d : List ℕ) (key : ℕ) (v : Option ℕ) → length d ≡ 1024 → (LogDamaged d → ⊥) → LogGets d key v → getOf d key ≡ answer v
 get-given d key v e n g = ⊎-elim
     (λ (r : getOf d key ≡ refused 21 0). absurd (n (refused-gets d key e .0 r)))
     (λ (u : (x : Option ℕ) × (getOf d key ≡ answer x)). u .1 ∙ ap answer (one (u .0) (u .1)))
@@ -127,8 +127,8 @@ get-given d key v e n g = ⊎-elim
   where
     one : (x : Option ℕ) → getOf d key ≡ answer x → x ≡ v
     one x q =
-        let head = firstOf (blockIn d 0) in
-        let tail = secondOf (blockIn d 0) in
+        let head = headOf d in
+        let tail = tailOf d in
         sym (highest d key head tail x .0 (get-answers d key x q)) ∙ highest d key head tail v .0 g
 
 -- ---- a refused call leaves what it was lent

@@ -24,7 +24,7 @@ use Rattle.format.specs.File.{readOf}
 use Rattle.format.specs.Encode.{WriteFits}
 use Rattle.reader.proofs.CallerLaws.{holding-limits}
 use Rattle.cyclelaws.proofs.CyclicLaws.{true-cyclic}
-use Rattle.log.specs.Get.{PastDisk, getOf, valueCode}
+use Rattle.log.specs.Get.{LogDamaged, getOf, valueCode}
 use Rattle.log.proofs.Theorems.{get-answers, refused-gets}
 use Rattle.cache.specs.Needs.{Needs, NeedsRing, Earliest, needsRing, ready}
 use Rattle.cache.specs.State as State
@@ -399,7 +399,7 @@ module _ (rules : List Rule) (disk : List ℕ) (size : length disk ≡ 1024) whe
       (get-right (lentTo d (applied b disk)) key (right-disk b (get key d) n)))
       (decide-length (get key d))
     where
-      on-disk : (WrongLength (get key d) → ⊥) → (v : Option ℕ) → getOf (lentTo d (applied b disk)) key ≡ answer v → PastDisk (lentTo d (applied b disk)) → ⊥
+      on-disk : (WrongLength (get key d) → ⊥) → (v : Option ℕ) → getOf (lentTo d (applied b disk)) key ≡ answer v → LogDamaged (lentTo d (applied b disk)) → ⊥
       on-disk n v e p =
           let q = refused-gets (lentTo d (applied b disk)) key (right-disk b (get key d) n) .1 p in
           let z : _≡_ {A = ℕ} 0 1 = cc in

@@ -17,7 +17,7 @@ use Rattle.model.specs.Test.{Test, File, initialDisk, TestHolds}
 use Rattle.format.specs.Bytes.{blocksOf}
 use Rattle.format.specs.File.{readOf}
 use Rattle.format.specs.Encode.{WriteFits}
-use Rattle.log.specs.Get.{LogGets, PastDisk, getOf, valueCode, getAnswer}
+use Rattle.log.specs.Get.{LogGets, LogDamaged, getOf, valueCode, getAnswer}
 use Rattle.cache.specs.Needs.{Earliest, NeedsRing}
 use Rattle.cache.specs.State.{stateSize}
 use Rattle.cache.specs.Sound.{Sound}
@@ -66,9 +66,9 @@ pub data Gives (rules : List Rule) (disk : List ℕ) (b : Book) : Call → Outco
       → Gives rules disk b (opening file s) (refused 22 0)
   with-cycle : {file : List ℕ} {s : Lent} {f : File} → (WrongLength (opening file s) → ⊥) → readOf file ≡ answer f → length (f .tests) ≡ 0
       → Cyclic (f .rules) → Gives rules disk b (opening file s) (refused 8 0)
-  damaged : {key : ℕ} {d : Lent} → (WrongLength (get key d) → ⊥) → PastDisk (lentTo d (applied b disk))
+  damaged : {key : ℕ} {d : Lent} → (WrongLength (get key d) → ⊥) → LogDamaged (lentTo d (applied b disk))
       → Gives rules disk b (get key d) (refused 21 0)
-  got : {key : ℕ} {d : Lent} (v : Option ℕ) → (WrongLength (get key d) → ⊥) → (PastDisk (lentTo d (applied b disk)) → ⊥)
+  got : {key : ℕ} {d : Lent} (v : Option ℕ) → (WrongLength (get key d) → ⊥) → (LogDamaged (lentTo d (applied b disk)) → ⊥)
       → LogGets (lentTo d (applied b disk)) key v → Gives rules disk b (get key d) (answer (valueCode v))
 
 -- a call gives one of these, and no other of them applies; if refused it changes nothing, and neither does a get; a step stores the one write

@@ -15,11 +15,10 @@ use Rattle.model.specs.declared.Check.the-variants.{Range}
 use Rattle.model.specs.Answer.{Outcome, answer, refused}
 use Rattle.model.specs.Disk.{block}
 use Rattle.model.specs.Test.{file}
-use Rattle.format.specs.Bytes.{half, word, writeBytes}
+use Rattle.format.specs.Bytes.{Small, half, word, writeBytes}
 use Rattle.format.specs.Encode.{fieldBytes, testBytes, WriteFits, CheckFits, TestFits}
 use Rattle.format.specs.File.{readOf}
 use Rattle.reader.specs.Limits.{TestLimits}
-use Rattle.encoding.specs.Theorem.{Small}
 use Rattle.encoding.proofs.PartLaws.{Bounded}
 use Rattle.encoding.proofs.FitLaws.{bounded}
 use Rattle.encoding.proofs.ReadLaws.{one-test}

@@ -5,8 +5,8 @@ use mathlib.Core.List.{List, [], _∷_}
 use lib.ListN.{take}
 use Rattle.model.specs.Answer.{answer}
 use Rattle.model.specs.Test.{file}
+use Rattle.format.specs.Bytes.{Small}
 use Rattle.format.specs.File.{readOf}
-use Rattle.encoding.specs.Theorem.{Small}
 use Rattle.log.specs.Puts.{putsOf, logTest, traceOf}
 
 -- what trace writes is a file of exactly one test, the test of the puts: those writes and that check

@@ -127,9 +127,12 @@ fn range(at: u8, reached: BTreeSet<usize>) -> String {
         let number = half(a);
         format!("(=> (and (bvule {head} {number}) (bvult {number} {tail})) (not (empty block{a})))")
     };
-    let mut ends = vec![format!("(bvule {tail} {})", half(BLOCKS))];
+    let mut ends = vec![
+        format!("(bvult {head} {tail})"),
+        format!("(bvule {tail} {})", half(BLOCKS)),
+    ];
     ends.extend(reached.into_iter().map(filled));
-    format!("(or (bvuge {head} {tail}) {})", all(&ends))
+    format!("(or (= {head} {tail}) {})", all(&ends))
 }
 
 fn pointer(at: u8, reached: BTreeSet<usize>) -> String {

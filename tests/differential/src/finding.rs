@@ -27,6 +27,7 @@ pub fn suites() -> Vec<Suite> {
         suite("find: the bench sheet", bench_sheet),
         suite("find: few main writes", few_writes),
         suite("find: logs", logs),
+        suite("find: head around tail", heads_around_tails),
         suite("find: up to 16 tests of 12 main writes", many_writes),
         suite("find: 12 main writes, set by set", set_by_set),
         suite("find: many rules", many_rules),
@@ -192,6 +193,17 @@ fn logs(run: &mut Run) -> Outcome {
         answers.count(same_rules(&mut random, &file.to_bytes(), 96, of_reference)?);
     }
     answers.include(run, &["2 rules"])
+}
+
+fn heads_around_tails(run: &mut Run) -> Outcome {
+    let mut answers = Answers::default();
+    for _ in 0..run.times(400) {
+        let mut random = run.next_case();
+        let mut file = crashes::range_file(&mut random);
+        file.rules.clear();
+        answers.count(same_rules(&mut random, &file.to_bytes(), 96, of_reference)?);
+    }
+    answers.include(run, &["0 rules", "1 rules", "refused 13"])
 }
 
 /// Large tests, of which some need many rules, and hopeless ones.

@@ -22,6 +22,7 @@ pub fn suites() -> Vec<Suite> {
         suite("judge: the bench sheet", bench_sheet),
         suite("judge: writes that meet, rules that match", telling_files),
         suite("judge: logs", logs),
+        suite("judge: head around tail", heads_around_tails),
         suite("judge: one bad schedule", chains),
         suite("judge: random files", random_files),
         suite(
@@ -212,6 +213,10 @@ fn logs(run: &mut Run) -> Outcome {
     spread_files(run, 1_000, crashes::log_file)
 }
 
+fn heads_around_tails(run: &mut Run) -> Outcome {
+    spread_files(run, 3_000, crashes::range_file)
+}
+
 fn chains(run: &mut Run) -> Outcome {
     for _ in 0..run.times(500) {
         let mut random = run.next_case();
@@ -242,7 +247,7 @@ fn random_files(run: &mut Run) -> Outcome {
 
 /// Each check form alone, on blocks at the limits of ranges and pointers: one schedule, good or bad.
 fn no_main_writes(run: &mut Run) -> Outcome {
-    const HALVES: [u16; 12] = [0, 1, 2, 3, 5, 254, 255, 256, 257, 300, 511, 65535];
+    const HALVES: [u16; 13] = [0, 1, 2, 3, 5, 254, 255, 256, 257, 300, 511, 65534, 65535];
     for first in HALVES {
         for second in HALVES {
             let block = Block { first, second };
@@ -268,7 +273,7 @@ fn one_check(random: &mut Random, block: Block) -> Test {
         epoch: 0,
         block,
     };
-    let at = random.pick(&[0, 1, 2, 254, 255]);
+    let at = random.pick(&[0, 1, 2, 7, 254, 255]);
     let full = Block {
         first: 0,
         second: 1,

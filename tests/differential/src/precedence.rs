@@ -605,16 +605,17 @@ fn tracing(run: &mut Run) -> Outcome {
 }
 
 fn getting(run: &mut Run) -> Outcome {
-    for [long, past] in combinations() {
+    for [long, past, reversed] in combinations() {
         for other in [4, DISK - 1, DISK + 1] {
             let mut random = run.next_case();
             let mut disk = random.bytes(if long { other } else { DISK });
             let tail = if past { 257u16 } else { 256 };
-            disk[..2].copy_from_slice(&1u16.to_be_bytes());
+            let head = if reversed { tail + 1 } else { 1 };
+            disk[..2].copy_from_slice(&head.to_be_bytes());
             disk[2..4].copy_from_slice(&tail.to_be_bytes());
             let known = first(&[
                 (long, refusal::NOT_1024_BYTES),
-                (past, refusal::LOG_PAST_DISK),
+                (past || reversed, refusal::LOG_DAMAGED),
             ]);
             let lent = Lent::new(&mut random, &disk);
             let reference = log::get(&disk, 7).map(|value| value.map_or(65_536, u64::from));

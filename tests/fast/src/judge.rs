@@ -119,7 +119,8 @@ fn holds(check: &Check, disk: &[u32; 256]) -> bool {
         Check::Range { at } => {
             let block = disk[at as usize];
             let (head, tail) = ((block >> 16) as usize, (block & 0xFFFF) as usize);
-            head >= tail || (tail <= 256 && disk[head..tail].iter().all(|&block| block != 0))
+            let filled = || disk[head..tail].iter().all(|&block| block != 0);
+            head == tail || (head < tail && tail <= 256 && filled())
         }
         Check::Pair { a, v, b, w } => disk[a as usize] != v || disk[b as usize] == w,
         Check::Pointer { at } => {

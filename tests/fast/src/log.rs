@@ -14,10 +14,10 @@ pub fn get(disk: &[u8], key: u16) -> u64 {
     }
     let superblock = word(disk);
     let (head, tail) = ((superblock >> 16) as usize, (superblock & 0xFFFF) as usize);
-    if head >= tail {
+    if head == tail {
         return NONE;
     }
-    if tail > 256 {
+    if head > tail || tail > 256 {
         return refused(21, 0);
     }
     let found = disk[4 * head..4 * tail]

@@ -15,7 +15,7 @@ impl Check {
             Check::Range { at } => {
                 let head = disk[at as usize].first as usize;
                 let tail = disk[at as usize].second as usize;
-                if head < tail && tail > BLOCKS {
+                if head > tail || head < tail && tail > BLOCKS {
                     return false;
                 }
                 (head..tail).all(|a| !disk[a].is_empty())

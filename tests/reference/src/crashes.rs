@@ -138,6 +138,57 @@ pub fn log_file(random: &mut Random) -> File {
     }
 }
 
+/// Rules that are not cyclic and a test of a range: main writes leave heads and tails that are equal
+/// or one apart where a range check looks, and fill blocks between them, or empty them.
+pub fn range_file(random: &mut Random) -> File {
+    const NEAR: [u8; 9] = [1, 2, 3, 4, 5, 252, 253, 254, 255];
+    let at = random.pick(&[0, 7, 255]);
+    let names: Vec<u8> = (1..4).collect();
+    let values = Values {
+        names,
+        addresses: NEAR.iter().copied().filter(|&near| near != at).collect(),
+        halves: vec![0, 1],
+        ..Values::small(random)
+    };
+    let full = Block {
+        first: 0,
+        second: 1,
+    };
+    let mut initial = Vec::new();
+    for &address in &values.addresses {
+        if !random.one_in(12) {
+            let write = generate::write(random, &values);
+            let block = full;
+            initial.push(Write {
+                address,
+                block,
+                ..write
+            });
+        }
+    }
+    let main = (0..random.between(1, 5))
+        .map(|_| {
+            let write = generate::write(random, &values);
+            match random.below(3) {
+                0 => write,
+                _ => Write {
+                    address: at,
+                    block: generate::head_and_tail(random),
+                    ..write
+                },
+            }
+        })
+        .collect();
+    File {
+        rules: acyclic_rules(random, &values, 6),
+        tests: vec![Test {
+            initial,
+            main,
+            checks: vec![Check::Range { at }],
+        }],
+    }
+}
+
 /// Main writes of rising epochs to one address, each depending on those before it, so that the
 /// valid schedules are the starts of the trace; and one of these, the last in half of the cases,
 /// leaves the only block that the check objects to. With it the number of that schedule.

@@ -84,6 +84,22 @@ pub fn block(random: &mut Random, values: &Values) -> Block {
     }
 }
 
+/// A head and a tail that are equal, or one apart in either order; most tails are at the limits of
+/// a disk, of a block's numbers, or small.
+pub fn head_and_tail(random: &mut Random) -> Block {
+    const TAILS: [u16; 12] = [1, 2, 3, 5, 254, 255, 256, 257, 258, 300, 65_534, 65_535];
+    let tail = random.pick(&TAILS);
+    let head = match random.below(3) {
+        0 => tail - 1,
+        1 => tail,
+        _ => tail.saturating_add(1),
+    };
+    Block {
+        first: head,
+        second: tail,
+    }
+}
+
 pub fn write(random: &mut Random, values: &Values) -> Write {
     Write {
         address: random.pick(&values.addresses),

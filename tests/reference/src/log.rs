@@ -92,8 +92,8 @@ pub fn get(disk: &[u8], key: u16) -> Result<Option<u16>, Refusal> {
     }
     let block = |address: usize| Block::from_bytes(&disk[4 * address..4 * address + 4]);
     let (head, tail) = (block(0).first as usize, block(0).second as usize);
-    if head < tail && tail > BLOCKS {
-        return Err(refusal::plain(refusal::LOG_PAST_DISK));
+    if head > tail || head < tail && tail > BLOCKS {
+        return Err(refusal::plain(refusal::LOG_DAMAGED));
     }
     let found = (head..tail)
         .rev()

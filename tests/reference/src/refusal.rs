@@ -20,7 +20,7 @@ pub const LATE: u32 = 17;
 pub const RING_OF_NEEDS: u32 = 18;
 pub const NOT_WHOLE_PUTS: u32 = 19;
 pub const EMPTY_PUT: u32 = 20;
-pub const LOG_PAST_DISK: u32 = 21;
+pub const LOG_DAMAGED: u32 = 21;
 pub const FILE_HAS_TESTS: u32 = 22;
 
 #[derive(Clone, Copy, Debug, PartialEq, Eq)]

@@ -107,6 +107,15 @@ fn worn() -> Test {
     }
 }
 
+/// A log of three readings whose head is moved, so that older readings no longer count.
+fn trimmed(head: u16) -> Test {
+    let readings = [block(0, 830), block(1, 825), block(2, 640)];
+    Test {
+        main: vec![write(0, log::SUPERBLOCK, 3, block(head, 4))],
+        ..log::test_of(&readings, &[])
+    }
+}
+
 fn file(rules: &[Rule], tests: &[Test]) -> Vec<u8> {
     let file = File {
         rules: rules.to_vec(),
@@ -142,6 +151,7 @@ pub fn samples() -> Vec<Sample> {
         sample("pair-no-rules.bin", file(&[], &[setting()])),
         sample("pointer.bin", file(&[directory_rule], &[directory()])),
         sample("pointer-no-rules.bin", file(&[], &[directory()])),
+        sample("trim.bin", file(&both, &[trimmed(4), trimmed(5)])),
         sample("several.bin", file(&all_rules, &all_tests)),
         sample(
             "cyclic.bin",

@@ -1,13 +1,15 @@
 -- `log::find_key` meets its contract. The invariant: what is sought up to tail is what is sought up to a.
 use Prim.Native.Nat.{_-_, _≤_}
 use mathlib.Core.Path.{_≡_}
+use mathlib.Core.Bool.{false}
+use Rattle.model.specs.Check.{damaged}
 use Rattle.log.specs.Get.{getFrom}
 use Rattle.log.proofs.Steps.{gets}
 use Rattle.log.proofs.find_key.Statement.{statement}
 use Rattle.log.proofs.find_key.Tie as tie
 
 abbrev Inv-loop : tie.InvT-loop
-Inv-loop disk key head tail a₀ a = (head ≤ a) × (a ≤ tail) × (getFrom disk key head (a - head) ≡ getFrom disk key head (tail - head))
+Inv-loop disk key head tail a₀ a = (damaged head tail ≡ false) × (head ≤ a) × (a ≤ tail) × (getFrom disk key head (a - head) ≡ getFrom disk key head (tail - head))
 
 abbrev μ-loop : tie.MeasureT-loop
 μ-loop disk key head tail a₀ a = a

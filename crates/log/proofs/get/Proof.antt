@@ -19,20 +19,20 @@ first-of-requires c κs = search needs
 second-of-requires : tie.Need-second-of-requires
 second-of-requires c κs = search needs
 
-returns-2 : tie.Need-returns-2
-returns-2 c = search gets
+is-damaged-requires : tie.Need-is-damaged-requires
+is-damaged-requires c κs = search needs
 
 refuse-requires-2 : tie.Need-refuse-requires-2
 refuse-requires-2 c κs = search needs
 
-returns-3 : tie.Need-returns-3
-returns-3 c = search gets
+returns-2 : tie.Need-returns-2
+returns-2 c = search gets
 
 find-key-requires : tie.Need-find-key-requires
-find-key-requires c κs = search needs
+find-key-requires c κs = search gets
 
-returns-4 : tie.Need-returns-4
-returns-4 c = search gets
+returns-3 : tie.Need-returns-3
+returns-3 c = search gets
 
 pub get-spec : {M : Type 1} → statement M
 get-spec =
@@ -43,8 +43,8 @@ get-spec =
     block-at-requires
     first-of-requires
     second-of-requires
-    returns-2
+    is-damaged-requires
     refuse-requires-2
-    returns-3
+    returns-2
     find-key-requires
-    returns-4)
+    returns-3)

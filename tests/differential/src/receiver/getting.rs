@@ -1,9 +1,11 @@
 // Get: on logs, on any disks, and with superblocks at the limits.
 
 use reference::cache::DISK;
+use reference::checks::Check;
 use reference::generate::{self, Values};
 use reference::log;
 use reference::random::Random;
+use reference::refusal;
 use reference::schedule::disk_of;
 use reference::writes::{disk_to_bytes, Block, EMPTY, EMPTY_DISK};
 
@@ -19,6 +21,7 @@ pub fn suites() -> Vec<Suite> {
         suite("get: logs", logs),
         suite("get: any disks", any_disks),
         suite("get: every kind of head and tail", heads_and_tails),
+        suite("get: 21, exactly where no disk meets the range check", damage),
         suite("get: 14, other lengths", other_lengths),
     ]
 }
@@ -60,7 +63,7 @@ fn logs(run: &mut Run) -> Outcome {
 
 fn any_disks(run: &mut Run) -> Outcome {
     let mut found = 0;
-    for _ in 0..run.times(2_000) {
+    for _ in 0..run.times(3_000) {
         let mut random = run.next_case();
         let values = Values::small(&mut random);
         let keys: Vec<u16> = values.halves.iter().copied().chain([7]).collect();
@@ -78,11 +81,14 @@ fn any_disks(run: &mut Run) -> Outcome {
     require(found > 1_000, "many values", found.to_string())
 }
 
-const HALVES: [u16; 14] = [
-    0, 1, 2, 3, 127, 254, 255, 256, 257, 258, 300, 511, 512, 65_535,
+const HALVES: [u16; 15] = [
+    0, 1, 2, 3, 127, 254, 255, 256, 257, 258, 300, 511, 512, 65_534, 65_535,
 ];
 
 fn superblock(random: &mut Random) -> Block {
+    if random.one_in(2) {
+        return generate::head_and_tail(random);
+    }
     Block {
         first: random.pick(&HALVES),
         second: random.pick(&HALVES),
@@ -116,6 +122,55 @@ fn heads_and_tails(run: &mut Run) -> Outcome {
             }
         }
     }
+    Ok(())
+}
+
+/// Every head and tail up to beyond the disk, and each near the largest: 21 exactly if a disk with that
+/// superblock and no other empty block fails the range check at 0, whatever is on the disk read. Where
+/// it is not 21 on the full disk, none of the keys is there exactly if head and tail are equal.
+fn damage(run: &mut Run) -> Outcome {
+    let refused = answer::of(Err(refusal::plain(refusal::LOG_DAMAGED)));
+    let halves: Vec<u16> = (0..=260).chain([300, 511, 65_534, 65_535]).collect();
+    let mut counts = [0, 0, 0];
+    for &first in &halves {
+        for &second in &halves {
+            let mut random = run.next_case();
+            let mut full = EMPTY_DISK.map(|_| Block {
+                first: 7,
+                second: 9,
+            });
+            full[0] = Block { first, second };
+            let meets = Check::Range { at: 0 }.holds(&full);
+            let mut sparse = full.map(|block| if random.one_in(2) { block } else { EMPTY });
+            sparse[0] = full[0];
+            let sparse = Lent::new(&mut random, &disk_to_bytes(&sparse));
+            let full = Lent::new(&mut random, &disk_to_bytes(&full));
+            for lent in [&sparse, &full] {
+                for key in [7, 8] {
+                    let is_refused = same_value(lent, key)? == refused;
+                    let shown = format!("({first},{second}), key {key}");
+                    require(is_refused != meets, "21 exactly if none meets it", shown)?;
+                }
+            }
+            // The superblock is a block of the log too where head is 0.
+            let has_none = [7, first].iter().all(|&key| calls::get(&full, key) == NONE);
+            let shown = format!("({first},{second})");
+            require(
+                has_none == (first == second),
+                "no value exactly if equal",
+                shown,
+            )?;
+            counts[if !meets {
+                0
+            } else {
+                1 + usize::from(has_none)
+            }] += 1;
+        }
+    }
+    run.note(format!(
+        "{} damaged, {} logs, {} empty",
+        counts[0], counts[1], counts[2]
+    ));
     Ok(())
 }
 

@@ -351,8 +351,9 @@ fn tests_that_hold(run: &mut Run) -> Outcome {
     let mut cuts = 0;
     for _ in 0..run.times(4_000) {
         let mut random = run.next_case();
-        let file = match random.below(3) {
+        let file = match random.below(4) {
             0 => crashes::log_file(&mut random),
+            1 => crashes::range_file(&mut random),
             _ => crashes::file(&mut random),
         };
         let test = &file.tests[0];

@@ -196,7 +196,22 @@ fn k12() {
     };
     assert!(holds(5, 5));
     assert!(!holds(1, 257));
-    assert!(holds(300, 200));
+    // It held in document 01; [6] of document 02 changed that.
+    assert!(!holds(300, 200));
+    // The other lines of [6].
+    assert!(holds(0, 0));
+    assert!(holds(300, 300));
+    assert!(!holds(256, 255));
+}
+
+/// The check is one at any address, not of the log's superblock alone.
+#[test]
+fn head_past_tail_at_any_address() {
+    for at in 0..=255 {
+        let mut disk = EMPTY_DISK;
+        disk[at as usize] = block(6, 5);
+        assert!(!Check::Range { at }.holds(&disk));
+    }
 }
 
 #[test]

@@ -70,7 +70,13 @@ fn refusals_of_get() {
     assert_eq!(get(&with(1, 257), 7), Err(plain(21)));
     assert_eq!(get(&with(256, 257), 7), Err(plain(21)));
     assert_eq!(get(&with(257, 257), 7), Ok(None));
-    assert_eq!(get(&with(300, 200), 7), Ok(None));
+    assert_eq!(get(&with(300, 300), 7), Ok(None));
+    // 02, [6]: head above tail.
+    assert_eq!(get(&with(300, 200), 7), Err(plain(21)));
+    assert_eq!(get(&with(6, 3), 7), Err(plain(21)));
+    assert_eq!(get(&with(256, 255), 7), Err(plain(21)));
+    assert_eq!(get(&with(1, 0), 7), Err(plain(21)));
+    assert_eq!(get(&with(65_535, 65_534), 7), Err(plain(21)));
     assert_eq!(get(&with(1, 256), 7), Ok(Some(9)));
     assert_eq!(get(&with(1, 255), 7), Ok(None));
     // An empty block has no key; the superblock counts where head is 0.

@@ -1,0 +1,16 @@
+-- `checks::is_damaged` meets its contract, one law for each of its returns.
+use Rattle.checks.proofs.CheckSteps.{checking}
+use Rattle.checks.proofs.is_damaged.Statement.{statement}
+use Rattle.checks.proofs.is_damaged.Tie as tie
+
+returns : tie.Need-returns
+returns c = search checking
+
+returns-2 : tie.Need-returns-2
+returns-2 c = search checking
+
+returns-3 : tie.Need-returns-3
+returns-3 c = search checking
+
+pub is-damaged-spec : {M : Type 1} → statement M
+is-damaged-spec = tie.close (tie.spec returns returns-2 returns-3)
