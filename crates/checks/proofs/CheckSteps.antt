@@ -1,40 +1,36 @@
 -- The steps of the checks, in the terms of the code: one block of a range more, one check more.
 use mathlib.Core.Path.{_≡_, refl, sym, ap, _∙_}
-use mathlib.Core.Bool.{Bool, true, false, not, false≢true}
+use mathlib.Core.Bool.{Bool, true, false, not, _&&_, false≢true}
 use mathlib.Core.List.{List, [], _∷_}
-use mir.Syntax.{w64}
-use mir.Val.{Fits}
-use Prim.Native.Nat.{ℕ, suc, _+_, _-_, _*_, _≤_, _<_}
+use Prim.Native.Nat.{ℕ, suc, _+_, _-_, _≤_, _<_}
 use native.Mathlib.Numerals.{add-one}
 use native.Mathlib.Omega.{arith}
-use lib.Dec.{eqb, ltb, lit<}
+use native.Mathlib.Decide.{decLt}
+use lib.Dec.{eqb, ltb}
 use lib.ListN.{length, getD, take}
 use lib.Seq.{getD-take, take-suc, length-take-le}
-use borrow.Author.Needs.{needs, scaled-fits}
+use borrow.Author.Needs.{needs}
 use borrow.Author.Tests.{eq-eqb, ne-eqb, le-leb, lt-leb, le-ltb, lt-ltb, not-true, not-false}
 use Rattle.relation.specs.Lists.{allBelow, all}
-use Rattle.relation.proofs.Cases.{told}
 use Rattle.relation.proofs.ListLaws.{allBelow-true, and-intro, all-true, all-append, index-mem}
 use Rattle.model.specs.declared.Check.{Check}
 use Rattle.model.specs.declared.Check.the-variants.{Range, Pointer}
 use Rattle.model.specs.Disk.{empty, firstOf, secondOf, blockAt}
 use Rattle.model.specs.Check.{damaged, rangeHolds, holds, consistent}
-use Rattle.model.proofs.CheckLaws.{undamaged-ordered, undamaged-inside}
 
 -- ---- head and tail
 
 module _ (head tail : ℕ) where
-  pub damage-none : head ≡ tail → false ≡ damaged head tail
+  pub damage-beyond : head < tail → ltb 256 tail ≡ damaged head tail
   unfolding damaged
-  damage-none e = rw (le-ltb tail head (omega arith), le-ltb head tail (omega arith))
+  damage-beyond h = rw (le-ltb tail head (omega arith), lt-ltb head tail h)
 
-  pub damage-past : tail < head → true ≡ damaged head tail
+  pub damage-past : tail ≤ head → not (eqb head tail) ≡ damaged head tail
   unfolding damaged
-  damage-past h = rw (lt-ltb tail head h)
-
-  pub damage-beyond : (head ≡ tail → ⊥) → head ≤ tail → ltb 256 tail ≡ damaged head tail
-  unfolding damaged
-  damage-beyond n h = let l : head < tail = omega arith in rw (le-ltb tail head h, lt-ltb head tail l)
+  damage-past h = elim (decLt tail head) [
+    | yes lt ↦ rw (lt-ltb tail head lt, ne-eqb head tail (λ e. let z : head ≡ tail = e in omega arith))
+    | no ge ↦ rw (le-ltb tail head (omega arith), le-ltb head tail h, eq-eqb head tail (omega arith))
+  ]
 
 -- ---- a range
 
@@ -50,23 +46,31 @@ not-all p n k h e = go (allBelow p n) refl
     go false q = q
 
 module _ (d : List ℕ) (head tail : ℕ) where
-  pub range-damaged : (b : Bool) → b ≡ damaged head tail → b ≡ true → false ≡ rangeHolds d head tail
+  -- no block: head and tail are equal, or damaged
+  pub range-none : tail ≤ head → eqb head tail ≡ rangeHolds d head tail
+  unfolding rangeHolds allBelow
+  range-none h = let z : tail - head ≡ 0 = omega arith in rw (← damage-past head tail h, z) (same (eqb head tail))
+    where
+      same : (b : Bool) → b ≡ not (not b) && true
+      same true = refl
+      same false = refl
+
+  pub range-past : head < tail → 256 < tail → false ≡ rangeHolds d head tail
   unfolding rangeHolds
-  range-damaged b e q = rw (sym e ∙ q)
+  range-past h l = rw (← damage-beyond head tail h, lt-ltb 256 tail l)
+
+  inside : head < tail → tail ≤ 256 → damaged head tail ≡ false
+  inside h l = sym (damage-beyond head tail h) ∙ le-ltb 256 tail l
 
   pub range-start : Full d head head
   unfolding allBelow
   range-start = let z : head - head ≡ 0 = omega arith in rw z
 
-  -- where a block stands, with four bytes each, is a number of 64 bits
-  pub range-fits : (k : ℕ) → damaged head tail ≡ false → head ≤ k → k < tail → Fits w64 (k * 4)
-  range-fits k u i j = scaled-fits k 256 4 (undamaged-inside head tail k u i j) (lit< tt)
-
-  pub range-gap : (k : ℕ) → damaged head tail ≡ false → head ≤ k → k < tail → getD d k 0 ≡ 0 → false ≡ rangeHolds d head tail
+  pub range-gap : (k : ℕ) → head < tail → tail ≤ 256 → head ≤ k → k < tail → getD d k 0 ≡ 0 → false ≡ rangeHolds d head tail
   unfolding rangeHolds empty
-  range-gap k u i j e =
+  range-gap k h l i j e =
       let z : head + (k - head) ≡ k = omega arith in
-      rw u
+      rw (inside h l)
       (sym (not-all (λ x. not (empty (blockAt d (head + x)))) (tail - head) (k - head) (omega arith) (rw (z, e))))
 
   pub range-more : (k : ℕ) → head ≤ k → Full d head k → (getD d k 0 ≡ 0 → ⊥) → Full d head (k + 1)
@@ -76,11 +80,11 @@ module _ (d : List ℕ) (head tail : ℕ) where
       let y : head + (k - head) ≡ k = omega arith in
       rw z (and-intro _ _ f (rw (y, ne-eqb _ _ e)))
 
-  pub range-full : (k : ℕ) → damaged head tail ≡ false → k ≤ tail → tail ≤ k → Full d head k → true ≡ rangeHolds d head tail
+  pub range-full : (k : ℕ) → head < tail → tail ≤ 256 → k ≤ tail → tail ≤ k → Full d head k → true ≡ rangeHolds d head tail
   unfolding rangeHolds
-  range-full k u i j f =
+  range-full k h l i j f =
       let z : k ≡ tail = omega arith in
-      rw u (sym (rw z at f))
+      rw (inside h l) (sym (rw z at f))
 
 -- ---- a check
 
@@ -134,4 +138,4 @@ module _ (d : List ℕ) (cs : List Check) (z : Check) where
       rw (add-one i, take-suc cs i z size, all-append (holds d) (take i cs) (getD cs i z ∷ []))
       (and-intro (all (holds d) (take i cs)) _ p (unfold all in and-intro (holds d (getD cs i z)) true (sym e ∙ not-false b q) refl))
 
-pub ruleset checking = (needs, damage-none, damage-past, damage-beyond, told, range-damaged, undamaged-ordered, undamaged-inside, range-fits, range-start, range-gap, range-more, range-full, checks-start, checks-stop, checks-more, checks-end, same-check, range-read, pointer-none, pointer-past, pointer-read)
+pub ruleset checking = (needs, damage-beyond, damage-past, range-none, range-past, range-start, range-gap, range-more, range-full, checks-start, checks-stop, checks-more, checks-end, same-check, range-read, pointer-none, pointer-past, pointer-read)

@@ -6,24 +6,26 @@ ghost use lib.ListN.{take};
 ghost use Rattle.model.specs.Disk.{firstOf, secondOf};
 ghost use Rattle.model.specs.Check.{damaged, rangeHolds, holds, consistent};
 
-// Whether a range with this head and tail fails whatever the disk holds: head exceeds tail, or there
-// are blocks in it and some are beyond the disk.
+// Whether a range with this head and tail fails whatever the disk holds: head exceeds tail, or it has
+// blocks and some are beyond the disk.
 pub fn is_damaged(head: usize, tail: usize) -> bool
     ensures { λ r. ⌜ r ≡ damaged head tail ⌝ }
 {
-    if head == tail {
-        return false;
+    if head < tail {
+        return 256 < tail;
     }
-    if tail < head {
-        return true;
-    }
-    256 < tail
+    head != tail
 }
 
+// Whether the blocks from head up to tail - 1 are there. It asks what is_damaged does in the order of
+// its own loop: with a call of it, judging tests of many ranges took a tenth longer.
 fn range_holds(disk: &[u32; 256], head: usize, tail: usize) -> bool
     ensures { λ r. ⌜ r ≡ rangeHolds (now (disk .entry)) head tail ⌝ }
 {
-    if is_damaged(head, tail) {
+    if tail <= head {
+        return head == tail;
+    }
+    if 256 < tail {
         return false;
     }
     let mut k = head;

@@ -9,8 +9,5 @@ returns c = search checking
 returns-2 : tie.Need-returns-2
 returns-2 c = search checking
 
-returns-3 : tie.Need-returns-3
-returns-3 c = search checking
-
 pub is-damaged-spec : {M : Type 1} → statement M
-is-damaged-spec = tie.close (tie.spec returns returns-2 returns-3)
+is-damaged-spec = tie.close (tie.spec returns returns-2)

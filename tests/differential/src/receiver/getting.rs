@@ -21,7 +21,10 @@ pub fn suites() -> Vec<Suite> {
         suite("get: logs", logs),
         suite("get: any disks", any_disks),
         suite("get: every kind of head and tail", heads_and_tails),
-        suite("get: 21, exactly where no disk meets the range check", damage),
+        suite(
+            "get: 21, exactly where no disk meets the range check",
+            damage,
+        ),
         suite("get: 14, other lengths", other_lengths),
     ]
 }
@@ -160,11 +163,7 @@ fn damage(run: &mut Run) -> Outcome {
                 "no value exactly if equal",
                 shown,
             )?;
-            counts[if !meets {
-                0
-            } else {
-                1 + usize::from(has_none)
-            }] += 1;
+            counts[usize::from(meets) + usize::from(has_none)] += 1;
         }
     }
     run.note(format!(
