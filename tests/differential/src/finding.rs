@@ -184,26 +184,30 @@ fn few_writes(run: &mut Run) -> Outcome {
     answers.include(run, &["0 rules", "1 rules", "2 rules", "refused 13"])
 }
 
-fn logs(run: &mut Run) -> Outcome {
+/// Files of one kind, without their rules; each of these answers comes.
+fn without_rules(
+    run: &mut Run,
+    cases: u64,
+    make: fn(&mut Random) -> File,
+    keys: &[&str],
+) -> Outcome {
     let mut answers = Answers::default();
-    for _ in 0..run.times(25) {
+    for _ in 0..run.times(cases) {
         let mut random = run.next_case();
-        let mut file = crashes::log_file(&mut random);
+        let mut file = make(&mut random);
         file.rules.clear();
         answers.count(same_rules(&mut random, &file.to_bytes(), 96, of_reference)?);
     }
-    answers.include(run, &["2 rules"])
+    answers.include(run, keys)
+}
+
+fn logs(run: &mut Run) -> Outcome {
+    without_rules(run, 25, crashes::log_file, &["2 rules"])
 }
 
 fn heads_around_tails(run: &mut Run) -> Outcome {
-    let mut answers = Answers::default();
-    for _ in 0..run.times(400) {
-        let mut random = run.next_case();
-        let mut file = crashes::range_file(&mut random);
-        file.rules.clear();
-        answers.count(same_rules(&mut random, &file.to_bytes(), 96, of_reference)?);
-    }
-    answers.include(run, &["0 rules", "1 rules", "refused 13"])
+    let keys = ["0 rules", "1 rules", "2 rules", "refused 13"];
+    without_rules(run, 400, crashes::range_file, &keys)
 }
 
 /// Large tests, of which some need many rules, and hopeless ones.
