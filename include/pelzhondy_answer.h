@@ -50,7 +50,7 @@ enum {
     PELZHONDY_EMPTY_PUT = 20,      /* a put of (0,0) */
     PELZHONDY_LOG_DAMAGED = 21,    /* the superblock is damage: head > tail, or head < tail and
                                       tail > 256 */
-    PELZHONDY_LOG_PAST_DISK = 21,  /* the name of 21 while head > tail was taken for an empty log */
+    PELZHONDY_LOG_PAST_DISK = 21,  /* the older name of the same number; not both in one switch */
     PELZHONDY_FILE_HAS_TESTS = 22
 };
 

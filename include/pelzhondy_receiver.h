@@ -55,8 +55,15 @@
  *   17, 18: under these rules the write can't be taken in this order of calls, and will be refused
  *       until the next opening. It is the order, or the rules, that has to be mended.
  *   21: the log on the disk is damaged, whatever the key. Show the fitter that: neither a value nor an
- *       empty log. Ask get of any key before the first put after a reset, and hand in no put that goes
- *       by such a head and tail: it would carry the damage on, or hide it.
+ *       empty log. Hand in no put that goes by such a head and tail: after one put (3,2) is (3,3), and
+ *       the damage is shown as an empty log.
+ *
+ * TO APPEND TO THE LOG, firmware looks at head and tail itself: no call looks at those that are handed
+ * in, and what get does not refuse may still be no place for a put. Before the first put after a reset
+ * ask get, of any key. If it gives 21, stop. If block 0 is (0,0), as on an empty disk, begin with head
+ * and tail 1: address 0 is the superblock's own. Else head must be at least 1 and tail at most 255; a
+ * flash erased to ones, (65535,65535), is an empty log to get, and has no place. Then the log block goes
+ * to tail, and the superblock, (head, tail + 1), to 0.
  *
  * AFTER A RESET never use the state again, even if the RAM has kept it: read the disk back from the
  * flash, and open a cache anew on it. The waiting writes are lost. What is said here of cuts holds
@@ -159,12 +166,23 @@ uint64_t pelzhondy_drain(uint8_t *state, size_t state_length,
  * Answers the value, from 0 to 65,535, or PELZHONDY_NO_VALUE. Refused, in this order: 14 if
  * `disk_length` is not 1,024; 21 if head > tail, or if head < tail and tail > 256.
  *
- * 21 is damage: with such a block 0 no disk whatever meets the log's range check, by which the blocks
- * from head to tail - 1 are there. Ask pelzhondy_is_refused first: the low 16 bits of a refusal by 21
- * are 0 and look like a value, and "PELZHONDY_NO_VALUE or more" would show damage as an empty log.
- * The log is empty where head = tail, be it (0,0), as on an empty disk, or (300,300). Where head < tail
- * a log that meets the check has a value for some key. If no key has one there, blocks are missing, and
- * get does not refuse that: 21 goes by block 0 alone.
+ * 21 is damage: with such a block 0 no disk whatever meets the log's range check, that head is at most
+ * tail and the blocks from head to tail - 1 are there. What the fitter is shown:
+ *
+ *     uint64_t answer = pelzhondy_get(disk, sizeof disk, wheel);
+ *     if (pelzhondy_is_refused(answer)) {
+ *         show_damage();
+ *     } else if (answer == PELZHONDY_NO_VALUE) {
+ *         show_no_reading(wheel);
+ *     } else {
+ *         show_reading(wheel, (uint16_t)answer);
+ *     }
+ *
+ * (With a disk of 1,024 bytes no refusal but 21 can come.) In this order: the low 16 bits of a refusal
+ * by 21 are 0 and look like a reading, and a test for PELZHONDY_NO_VALUE or more would show damage as
+ * an empty log. The log is empty where head = tail, be it (0,0), as on an empty disk, or (300,300).
+ * Where head < tail, a log that meets the check has a value for some key. If no key has one there,
+ * blocks are missing; get does not refuse that, since 21 goes by block 0 alone.
  */
 uint64_t pelzhondy_get(const uint8_t *disk, size_t disk_length, uint16_t key);
 

@@ -72,11 +72,15 @@ static void hand_in_ignition(void)
         printf("the log is damaged\n");
         exit(EXIT_FAILURE);
     }
+    /* An empty disk: a log begins with both at 1, behind the superblock. */
+    if (head == 0 && tail == 0) {
+        head = tail = 1;
+    }
     for (wheel = 0; wheel < WHEELS; wheel++) {
         uint32_t epoch = 1u + wheel;
-        /* C would cut an address of 256 to 0, that of the superblock. */
-        if (tail > 255) {
-            printf("the log is full\n");
+        /* At address 0 is the superblock, and C would cut an address of 256 to 0. */
+        if (head == 0 || tail > 255) {
+            printf("the log has no place\n");
             exit(EXIT_FAILURE);
         }
         accepted("hand-in", hand_in((uint8_t)tail, LOG, epoch, wheel, pressure[wheel]));
@@ -199,10 +203,24 @@ static void superblock_too_early(void)
            memcmp(disk + 8, empty, sizeof empty) == 0 ? "empty" : "there");
 }
 
+/* The first ignition of a receiver whose flash is empty. */
+static void first_ignition(void)
+{
+    memset(flash, 0, sizeof flash);
+    start();
+    hand_in_ignition();
+    while (store_one() != 0) {
+    }
+    cut();
+    start();
+    printf("%-32s", "all, on a flash that was empty");
+    print_log();
+}
+
 /* Superblocks as a flash could give them back, each beside the log block of wheel 0. */
 static void read_superblocks(void)
 {
-    static const uint16_t superblocks[][2] = {{1, 2}, {2, 2}, {3, 2}, {1, 257}};
+    static const uint16_t superblocks[][2] = {{0, 0}, {1, 2}, {2, 2}, {3, 2}, {1, 257}};
     size_t i;
     printf("   head  tail  wheel 0    1    2    3\n");
     for (i = 0; i < sizeof superblocks / sizeof superblocks[0]; i++) {
@@ -225,6 +243,7 @@ int main(void)
     for (stores = 0; stores <= WRITES; stores++) {
         ignition_cut_after(stores);
     }
+    first_ignition();
     read_superblocks();
     whole_ignition();
     superblock_too_early();

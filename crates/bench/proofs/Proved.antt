@@ -10,14 +10,13 @@ use lib.Count.{ones, onesIn}
 use lib.Dec.{eqb, ltb, lit<}
 use lib.ListN.{length, drop}
 use lib.Seq.{drop-length}
-use borrow.Author.Tests.{eqb-true, ltb-true, lt-ltb, le-ltb}
+use borrow.Author.Tests.{eqb-true, lt-ltb, le-ltb}
 use Rattle.relation.specs.Bits.{bit, withBit, maskOf}
 use Rattle.relation.specs.Lists.{any, all, anyBelow, allBelow, tabulate}
 use Rattle.relation.specs.Finite.{related, rowsOf, joined, round, closed, loops, hasRing}
-use Rattle.relation.proofs.ListLaws.{allBelow-true, all-true, index-mem}
+use Rattle.relation.proofs.ListLaws.{allBelow-true}
 use Rattle.relation.proofs.MaskLaws.{implies}
 use Rattle.model.specs.declared.Rule.{Rule}
-use Rattle.model.specs.declared.Check.the-variants.{Range}
 use Rattle.model.specs.Answer.{Outcome, answer, refused}
 use Rattle.model.specs.Disk.{block, firstOf, secondOf, empty, emptyDisk}
 use Rattle.model.specs.Rules.{stands, matches, dependsOn, known}
@@ -26,17 +25,16 @@ use Rattle.model.specs.Schedule.{store, run, written, noWrite, valid}
 use Rattle.model.specs.Check.{damaged, rangeHolds, holds, consistent}
 use Rattle.model.specs.Test.{Test, File, file, initialDisk, Bad, bad, testHolds, schedules, countBelow, validCount, badCount}
 use Rattle.model.specs.Find.{before, picked, pairing, inserted, fromWrite, fromTrace, candidatesOf, suffices, preferred, chosenBelow, chosen}
-use Rattle.model.proofs.CheckLaws.{holds-true}
 use Rattle.model.proofs.TestLaws.{bad-true, true-bad, bad-fails, count-holds}
-use Rattle.format.specs.Bytes.{Small, half, word, blockIn, blocksOf, writeBytes, ruleBytes}
+use Rattle.format.specs.Bytes.{half, word, blockIn, writeBytes, ruleBytes}
 use Rattle.format.specs.Encode.{fieldBytes, ruleFields, writeFields, checkFieldBytes, checkFields, testBytes, testsBytes, fileBytes}
 use Rattle.format.specs.File.{isTag, isCheck, bodyLength, ruleOf, writeOf, checkOf, countsOf, outOfOrder, overTest, overLimit, ruleFault, bodyFault, faultOf, grown, finished, readFrom, nothing, readOf}
 use Rattle.cyclelaws.proofs.Examples.{K5-not-cyclic, K6-cyclic}
 use Rattle.judging.specs.Judge.{Case, caseOf, caseIn}
 use Rattle.log.specs.Puts.{start, after, putWrites, writesOf, afterAll, logTest, putsOf, emptyPut, Traced, traced, traceOf}
 use Rattle.log.specs.Get.{keyed, getFrom, getOf}
-use Rattle.log.specs.Theorem.{Meets}
-use Rattle.log.proofs.DamageLaws.{damage-exactly, empty-exactly}
+use Rattle.log.specs.Theorem.{full, Meets}
+use Rattle.log.proofs.DamageLaws.{full-meets, damage-exactly, empty-exactly}
 use Rattle.printing.specs.Decimal.{decimalWith, decimal}
 use Rattle.printing.specs.Lines.{refusedLine, testLine, lines, textOf, programText}
 use Rattle.finding.specs.Finder.{Found, over, wrote, findAmong, findIn, findOf}
@@ -44,7 +42,7 @@ use Rattle.cache.specs.Needs.{needs, needsRing, met, readyFrom, ready}
 use Rattle.cache.specs.State.{ruleIn, writeIn, rulesIn, writesIn, storedIn, rulesBytes, opened, entryBytes, handed, marked, storedOn}
 use Rattle.cache.specs.Calls.{openWith, openOf, late, storing, stepped}
 use Rattle.bench.proofs.CallLaws.{all-called}
-use Rattle.bench.specs.Sheet.{put, K, together, Finding, RangeAt, Call, Gave, gave, blank, Calling, Sheet, K-initial, K-main, Unstarred, full, trimmed, Requested}
+use Rattle.bench.specs.Sheet.{put, K, together, Finding, RangeAt, Call, Gave, gave, blank, Calling, Sheet, K-initial, K-main, Unstarred, trimmed, Requested}
 
 -- ---- what the lines are computed by: to unfold one of these is to unfold all that it unfolds
 
@@ -169,30 +167,23 @@ unstarred =
 
 -- ---- document 02
 
--- gets and range checks of a full disk
-gets : ℕ → ℕ → ℕ → Outcome (Option ℕ)
-unfolding judged getOf getFrom keyed blockIn blocksOf word half tabulate
-gets head tail key = getOf (full head tail) key
+-- gets of a full disk
+gets : ℕ → ℕ → Outcome (Option ℕ)
+unfolding judged getOf getFrom keyed blockIn word half
+gets superblock key = getOf (full superblock) key
 
 -- the trimmed log
 cut-down : ℕ → Test
 unfolding searched trimmed
 cut-down head = trimmed head
 
-small : (s : List ℕ) → all (λ b. ltb b 256) s ≡ true → Small s
-small s e i h = ltb-true _ 256 (all-true (λ b. ltb b 256) e _ (index-mem s i 0 h refl))
-
-full-meets : (head tail : ℕ) → length (full head tail) ≡ 1024 → all (λ b. ltb b 256) (full head tail) ≡ true → blockIn (full head tail) 0 ≡ block head tail
-    → holds (blocksOf (full head tail)) (Range 0) ≡ true → Meets (block head tail) (full head tail)
-full-meets head tail n s b r = record { size = n; bytes = small (full head tail) s; first = b; range = holds-true (blocksOf (full head tail)) (Range 0) r }
-
 unmet : (other : List ℕ) → Meets (block 300 200) other → ⊥
 unfolding gets
-unmet = damage-exactly (full 300 200) 0 refl (small (full 300 200) refl) .0 refl
+unmet = damage-exactly (full (block 300 200)) 0 refl .0 refl
 
-shown : ((key : ℕ) → key < 65536 → getOf (full 1 4) key ≡ answer none) → ⊥
+shown : ((key : ℕ) → key < 65536 → getOf (full (block 1 4)) key ≡ answer none) → ⊥
 unfolding gets
-shown k = let e : _≡_ {A = ℕ} 1 4 = empty-exactly (full 1 4) (full-meets 1 4 refl refl refl refl) .0 k in absurd (omega arith)
+shown k = let e : _≡_ {A = ℕ} 1 4 = empty-exactly (full (block 1 4)) (full-meets (block 1 4) refl) .0 k in absurd (omega arith)
 
 pub requested : Requested
 requested =
@@ -203,10 +194,7 @@ requested =
       get-none = ((λ key. unfold gets in refl), (λ key. unfold gets in refl), λ key. unfold gets in refl);
       get-some = unfold gets in refl;
       none-meets = unmet;
-      some-meet = (
-        full-meets 1 4 refl (unfold gets in refl) (unfold gets in refl) (unfold gets in refl),
-        full-meets 5 5 refl (unfold gets in refl) (unfold gets in refl) (unfold gets in refl),
-      );
+      some-meet = (full-meets (block 1 4) (unfold gets in refl), full-meets (block 5 5) (unfold gets in refl));
       not-empty = shown;
       trimmed-holds = (count-holds [] (trimmed 4) (unfold cut-down in refl), finding _ _ (unfold cut-down in refl) (λ buffer. unfold cut-down in refl));
       trimmed-fails = (bad-true [] (trimmed 5) 1 (unfold cut-down in lit< tt) (unfold cut-down in refl), finding _ _ (unfold cut-down in refl) (λ buffer. unfold cut-down in refl));

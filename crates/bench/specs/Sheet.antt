@@ -17,12 +17,11 @@ use Rattle.model.specs.Cyclic.{Cyclic, cyclic}
 use Rattle.model.specs.Check.{holds}
 use Rattle.model.specs.Test.{Test, test, file, TestHolds, Bad, validCount, badCount}
 use Rattle.cyclelaws.specs.Examples.{rule}
-use Rattle.format.specs.Bytes.{bytes4}
 use Rattle.format.specs.Encode.{ruleFields, testBytes, fileBytes}
 use Rattle.judging.specs.Judge.{caseIn}
 use Rattle.log.specs.Puts.{Put, start, writesOf, logTest, traced, traceOf}
 use Rattle.log.specs.Get.{getOf}
-use Rattle.log.specs.Theorem.{Meets}
+use Rattle.log.specs.Theorem.{full, Meets}
 use Rattle.printing.specs.Lines.{refusedText, failsText, programText}
 use Rattle.finding.specs.Finder.{Found, found, findOf}
 use Rattle.cache.specs.State.{storedOn}
@@ -193,13 +192,9 @@ pub record Unstarred : Type 0 where
 
 -- ---- document 02
 
--- a disk of 1,024 bytes with this superblock, on which no other block is empty: each is (257,257)
-abbrev pub full : ℕ → ℕ → List ℕ
-full head tail = bytes4 (block head tail) ++ replicate 1020 1
-
--- get on it, of any key
+-- get, of any key, on the disk with this superblock on which no other block is empty
 abbrev pub Getting : ℕ → ℕ → Outcome (Option ℕ) → Type 0
-Getting head tail o = (key : ℕ) → getOf (full head tail) key ≡ o
+Getting head tail o = (key : ℕ) → getOf (full (block head tail)) key ≡ o
 
 -- a log of three readings, whose head a main write moves
 unfoldable pub trimmed : ℕ → Test
@@ -208,17 +203,17 @@ trimmed head = test (writesOf start (put 0 830 ∷ put 1 825 ∷ put 2 640 ∷ [
 pub record Requested : Type 0 where
   -- [6] the range check fails whenever head exceeds tail, at any address
   pub fails : RangeAt 6 5 false × RangeAt 256 255 false × RangeAt 65535 65534 false
-  -- (5,5) still holds, and so do
+  -- (0,0) and (300,300) hold, as (5,5) of K12 does
   pub still-holds : RangeAt 0 0 true × RangeAt 300 300 true
   -- get gives 21 for it, and as before for head < tail with tail > 256
   pub get-refused : Getting 300 200 (refused 21 0) × Getting 6 3 (refused 21 0) × Getting 256 255 (refused 21 0) × Getting 1 257 (refused 21 0)
   -- an empty log is one with head = tail
   pub get-none : Getting 5 5 (answer none) × Getting 0 0 (answer none) × Getting 300 300 (answer none)
-  pub get-some : getOf (full 1 4) 257 ≡ answer (some 257)
-  -- no disk with the superblock (300,200) meets the range check at 0; with (1,4) and with (5,5) the full one does, and only the second is shown as empty
+  pub get-some : getOf (full (block 1 4)) 257 ≡ answer (some 257)
+  -- no disk with the superblock (300,200) meets the range check at 0; with (1,4) and with (5,5) that one does, and with (1,4) it is not shown as empty
   pub none-meets : (other : List ℕ) → Meets (block 300 200) other → ⊥
-  pub some-meet : Meets (block 1 4) (full 1 4) × Meets (block 5 5) (full 5 5)
-  pub not-empty : ((key : ℕ) → key < 65536 → getOf (full 1 4) key ≡ answer none) → ⊥
+  pub some-meet : Meets (block 1 4) (full (block 1 4)) × Meets (block 5 5) (full (block 5 5))
+  pub not-empty : ((key : ℕ) → key < 65536 → getOf (full (block 1 4)) key ≡ answer none) → ⊥
   -- the judge and the finder follow: the head moved up to the tail, 4, holds; one block past it, it is bad, and no rules do
   pub trimmed-holds : TestHolds [] (trimmed 4) × Finding (trimmed 4) (λ buffer. found (answer 0) buffer)
   pub trimmed-fails : Bad [] (trimmed 5) 1 × Finding (trimmed 5) (λ buffer. found (refused 13 0) buffer)

@@ -17,8 +17,8 @@ pub fn is_damaged(head: usize, tail: usize) -> bool
     head != tail
 }
 
-// Whether the blocks from head up to tail - 1 are there. It asks what is_damaged does in the order of
-// its own loop: with a call of it, judging tests of many ranges took a tenth longer.
+// Whether head is at most tail and the blocks from head up to tail - 1 are there. It asks what
+// is_damaged does in an order of its own: with a call of it, judging many ranges took a tenth longer.
 fn range_holds(disk: &[u32; 256], head: usize, tail: usize) -> bool
     ensures { λ r. ⌜ r ≡ rangeHolds (now (disk .entry)) head tail ⌝ }
 {

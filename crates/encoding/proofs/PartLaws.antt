@@ -2,7 +2,6 @@
 use mathlib.Core.Path.{_≡_, refl, sym, ap, ap₂, _∙_}
 use mathlib.Core.List.{List, [], _∷_, _++_}
 use Prim.Native.Nat.{ℕ, _+_, _*_, _/_, _%_, _<_}
-use native.Mathlib.Nat.{div-div-eq-div-mul}
 use native.Mathlib.Omega.{arith}
 use lib.ListN.{length}
 use lib.Seq.{ext-getD}
@@ -13,19 +12,12 @@ use Rattle.model.specs.declared.Rule.{Rule}
 use Rattle.model.specs.declared.Check.the-variants.{Pair}
 use Rattle.format.specs.Bytes.{byte, half, word, bytes4, writeBytes, ruleBytes}
 use Rattle.format.specs.File.{writeOf, ruleOf, checkOf}
+use Rattle.format.proofs.ByteLaws.{number}
 use Rattle.format.specs.Encode.{WriteFits, fieldBytes, checkFieldBytes}
 
 -- ---- numbers
 
--- a number is that of its four bytes
-pub number : (n : ℕ) → n < 4294967296 → (n / 16777216 % 256 * 256 + n / 65536 % 256) * 65536 + (n / 256 % 256 * 256 + n % 256) ≡ n
-number n h =
-    let e : n / 65536 ≡ n / 256 / 256 = sym (div-div-eq-div-mul n 256 256) in
-    let d : n / 16777216 ≡ n / 256 / 256 / 256 = sym (div-div-eq-div-mul n 65536 256) ∙ ap (λ (m : ℕ). m / 256) e in
-    let k : n / 256 / 256 / 256 % 256 ≡ n / 256 / 256 / 256 = omega arith in
-    rw (d, e, k) (omega arith)
-
--- and four bytes are those of their number
+-- four bytes are those of their number
 digits : (a b c d : ℕ) → a < 256 → b < 256 → c < 256 → d < 256 → bytes4 ((a * 256 + b) * 65536 + (c * 256 + d)) ≡ a ∷ b ∷ c ∷ d ∷ []
 digits a b c d ha hb hc hd =
     let p : ((a * 256 + b) * 65536 + (c * 256 + d)) / 16777216 % 256 ≡ a = omega arith in

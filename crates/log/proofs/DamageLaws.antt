@@ -1,26 +1,27 @@
--- Damage is what no disk can mend: where head and tail are not damaged, a disk with that superblock whose other blocks are all filled meets the range
--- check. And of a disk that meets it only one with head = tail shows an empty log: of any other the block at head has a key.
+-- With a damaged head and tail no disk meets the range check; with any others the disk does that has this superblock and no other empty block.
+-- And of a disk that meets the check only one with head = tail shows an empty log: of any other the block at head has a key.
 use mathlib.Core.Path.{_≡_, refl, sym, subst, _∙_}
-use mathlib.Core.Bool.{Bool, true, false, cond, false≢true}
+use mathlib.Core.Bool.{Bool, true, false, false≢true}
 use mathlib.Core.List.{List}
 use mathlib.Core.Option.{none}
-use Prim.Native.Nat.{ℕ, _+_, _-_, _*_, _≤_, _<_}
+use Prim.Native.Nat.{ℕ, zero, suc, _+_, _-_, _*_, _≤_, _<_}
 use native.Mathlib.Omega.{arith}
 use native.Mathlib.Decide.{decLt}
-use lib.Dec.{ltb, lit<}
-use lib.ListN.{length}
-use borrow.Author.Tests.{eq-eqb, ne-eqb, lt-ltb, le-ltb}
-use Rattle.relation.specs.Lists.{tabulate}
-use Rattle.relation.proofs.ListLaws.{and-intro, length-tabulate, getD-tabulate}
+use lib.Dec.{lit<}
+use lib.ListN.{length, replicate, length-replicate, getD-replicate}
+use lib.Seq.{getD-append-add}
+use borrow.Author.Tests.{eq-eqb, ne-eqb}
+use Rattle.relation.proofs.ListLaws.{and-intro, getD-tabulate}
 use Rattle.relation.proofs.Cases.{not-no}
 use Rattle.model.specs.declared.Check.the-variants.{Range}
 use Rattle.model.specs.Disk.{empty, firstOf, secondOf, blockAt}
 use Rattle.model.specs.Check.{RangeHolds, Holds, damaged}
 use Rattle.model.proofs.CheckLaws.{damaged-true, undamaged, never-damaged, not-damaged}
-use Rattle.format.specs.Bytes.{byte, Small, half, word, blockIn, blocksOf}
+use Rattle.format.specs.Bytes.{byte, Small, bytes4, half, word, blockIn, blocksOf}
+use Rattle.format.proofs.ByteLaws.{number}
 use Rattle.log.specs.Get.{keyed, Gets, headOf, tailOf, LogDamaged, getFrom, getOf}
-use Rattle.log.specs.Theorem.{Meets, DamageExactly, ShownMeets, EmptyExactly}
-use Rattle.log.proofs.Theorems.{get-answers, refused-gets, answered}
+use Rattle.log.specs.Theorem.{full, Meets, DamageExactly, ShownMeets, EmptyExactly}
+use Rattle.log.proofs.Theorems.{get-answers, refused-gets, answered-undamaged}
 
 -- ---- a disk's blocks
 
@@ -42,68 +43,62 @@ of-range disk h = subst (RangeOf disk) (sym (block-at disk 0 (lit< tt))) h
 
 -- ---- a superblock that is not damaged, and a disk that is full besides
 
-filled : List ℕ → List ℕ
-filled disk = tabulate (λ i. cond (ltb i 4) (byte disk i) 1) 1024
+module _ (superblock : ℕ) where
+  full-rest : (i : ℕ) → 4 ≤ i → i < 1024 → byte (full superblock) i ≡ 1
+  full-rest i h l =
+      let z : i ≡ 4 + (i - 4) = omega arith in
+      rw z (getD-append-add (bytes4 superblock) (replicate 1020 1) (i - 4) 0 ∙ getD-replicate {A = ℕ} 1020 (i - 4) 1 0 (omega arith))
 
-module _ (disk : List ℕ) where
-  filled-byte : (i : ℕ) → i < 1024 → byte (filled disk) i ≡ cond (ltb i 4) (byte disk i) 1
-  unfolding filled
-  filled-byte i h = getD-tabulate (λ k. cond (ltb k 4) (byte disk k) 1) 1024 i 0 h
+  full-size : length (full superblock) ≡ 1024
+  full-size = let n = length-replicate {A = ℕ} 1020 1 in omega arith
 
-  filled-first : (i : ℕ) → i < 4 → byte (filled disk) i ≡ byte disk i
-  filled-first i h = filled-byte i (omega arith) ∙ (rw (lt-ltb i 4 h))
+  full-small : Small (full superblock)
+  full-small zero h = omega arith
+  full-small (suc zero) h = omega arith
+  full-small (suc (suc zero)) h = omega arith
+  full-small (suc (suc (suc zero))) h = omega arith
+  full-small (suc (suc (suc (suc i)))) h = rw (full-rest (suc (suc (suc (suc i)))) (omega arith) (omega (arith, full-size))) (lit< tt)
 
-  filled-rest : (i : ℕ) → 4 ≤ i → i < 1024 → byte (filled disk) i ≡ 1
-  filled-rest i h l = filled-byte i l ∙ (rw (le-ltb i 4 h))
-
-  filled-size : length (filled disk) ≡ 1024
-  unfolding filled
-  filled-size = length-tabulate (λ i. cond (ltb i 4) (byte disk i) 1) 1024
-
-  filled-superblock : blockIn (filled disk) 0 ≡ blockIn disk 0
-  unfolding blockIn word half
-  filled-superblock = rw (filled-first 0 (lit< tt), filled-first 1 (lit< tt), filled-first 2 (lit< tt), filled-first 3 (lit< tt))
-
-  filled-block : (a : ℕ) → 0 < a → a < 256 → empty (blockIn (filled disk) a) ≡ false
+  full-block : (a : ℕ) → 0 < a → a < 256 → empty (blockIn (full superblock) a) ≡ false
   unfolding blockIn word half empty
-  filled-block a h l =
+  full-block a h l =
       rw (
-        filled-rest (4 * a) (omega arith) (omega arith),
-        filled-rest (4 * a + 1) (omega arith) (omega arith),
-        filled-rest (4 * a + 2) (omega arith) (omega arith),
-        filled-rest (4 * a + 2 + 1) (omega arith) (omega arith),
+        full-rest (4 * a) (omega arith) (omega arith),
+        full-rest (4 * a + 1) (omega arith) (omega arith),
+        full-rest (4 * a + 2) (omega arith) (omega arith),
+        full-rest (4 * a + 2 + 1) (omega arith) (omega arith),
       )
 
-  -- a superblock (0, tail) is a block of its own range
-  named : (k : ℕ) → k < tailOf disk → empty (blockIn disk 0) ≡ false
-  unfolding secondOf empty
-  named k h = ne-eqb (blockIn disk 0) 0 (λ e. let z : blockIn disk 0 ≡ 0 = e in absurd (omega arith))
+  module _ (u : damaged (firstOf superblock) (secondOf superblock) ≡ false) where
+    bounds : (firstOf superblock ≤ secondOf superblock) × (firstOf superblock < secondOf superblock → secondOf superblock ≤ 256)
+    bounds = undamaged (firstOf superblock) (secondOf superblock) u
 
-  filled-meets : length disk ≡ 1024 → Small disk → damaged (headOf disk) (tailOf disk) ≡ false → Meets (blockIn disk 0) (filled disk)
-  filled-meets n s u =
-      record {
-        size = filled-size;
-        bytes = small;
-        first = filled-superblock;
-        range = of-range (filled disk) (subst (RangeOf (filled disk)) (sym filled-superblock) (unfold RangeHolds in (bounds .0, bounds .1, there)));
-      }
-    where
-      bounds : (headOf disk ≤ tailOf disk) × (headOf disk < tailOf disk → tailOf disk ≤ 256)
-      bounds = undamaged (headOf disk) (tailOf disk) u
+    -- head is at most tail, so that head has 16 bits too
+    full-superblock : blockIn (full superblock) 0 ≡ superblock
+    unfolding blockIn word half firstOf secondOf
+    full-superblock = let l = bounds .0 in number superblock (omega arith)
 
-      small : Small (filled disk)
-      small i h = elim (decLt i 4) [
-        | yes l ↦ rw (filled-first i l) (s i (omega arith))
-        | no l ↦ rw (filled-rest i (omega arith) (omega (arith, filled-size))) (lit< tt)
-      ]
+    -- a superblock (0, tail) is a block of its own range
+    superblock-there : (k : ℕ) → k < secondOf superblock → empty superblock ≡ false
+    unfolding secondOf empty
+    superblock-there k h = ne-eqb superblock 0 (λ e. let z : superblock ≡ 0 = e in absurd (omega arith))
 
-      there : (k : ℕ) → headOf disk ≤ k → k < tailOf disk → empty (blockAt (blocksOf (filled disk)) k) ≡ false
-      there k h l =
-          let m = bounds .1 (omega arith) in
-          rw (block-at (filled disk) k (omega arith)) (elim (decLt 0 k) [
-            | yes p ↦ filled-block k p (omega arith)
-            | no p ↦ (let z : k ≡ 0 = omega arith in rw (z, filled-superblock) (named k l))
-          ])
+    there : (k : ℕ) → firstOf superblock ≤ k → k < secondOf superblock → empty (blockAt (blocksOf (full superblock)) k) ≡ false
+    there k h l =
+        let m = bounds .1 (omega arith) in
+        rw (block-at (full superblock) k (omega arith)) (elim (decLt 0 k) [
+          | yes p ↦ full-block k p (omega arith)
+          | no p ↦ (let z : k ≡ 0 = omega arith in rw (z, full-superblock) (superblock-there k l))
+        ])
+
+    pub full-meets : Meets superblock (full superblock)
+    full-meets =
+        record {
+          size = full-size;
+          bytes = full-small;
+          block-0 = full-superblock;
+          range = of-range (full superblock) (subst (RangeOf (full superblock)) (sym full-superblock) (unfold RangeHolds in (bounds .0, bounds .1, there)));
+        }
 
 -- ---- the theorems
 
@@ -111,23 +106,21 @@ module _ (disk : List ℕ) where
 meets-undamaged : (disk other : List ℕ) → Meets (blockIn disk 0) other → LogDamaged disk → ⊥
 unfolding RangeHolds
 meets-undamaged disk other m d =
-    let r = subst (RangeOf other) (m .first) (range-of other (m .range)) in
+    let r = subst (RangeOf other) (m .block-0) (range-of other (m .range)) in
     never-damaged (headOf disk) (tailOf disk) (r .0) (r .1) d
 
 pub damage-exactly : DamageExactly
-damage-exactly disk key n s = (
+damage-exactly disk key n = (
   (λ e other m. meets-undamaged disk other m (refused-gets disk key n .0 e)),
   λ f. refused-gets disk key n .1 (go f (damaged (headOf disk) (tailOf disk)) refl),
 )
   where
     go : ((other : List ℕ) → Meets (blockIn disk 0) other → ⊥) → (b : Bool) → damaged (headOf disk) (tailOf disk) ≡ b → LogDamaged disk
     go f true e = damaged-true (headOf disk) (tailOf disk) e
-    go f false e = absurd (f (filled disk) (filled-meets disk n s e))
+    go f false e = absurd (f (full (blockIn disk 0)) (full-meets (blockIn disk 0) e))
 
 pub shown-meets : ShownMeets
-shown-meets disk key v s e =
-    let n = answered disk key v e in
-    (filled disk, filled-meets disk (n .0) s (n .1))
+shown-meets disk key v e = (full (blockIn disk 0), full-meets (blockIn disk 0) (answered-undamaged disk key v e))
 
 -- the key of a block has 16 bits
 key-small : (disk : List ℕ) (a : ℕ) → length disk ≡ 1024 → Small disk → a < 256 → firstOf (blockIn disk a) < 65536

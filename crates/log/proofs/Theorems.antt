@@ -8,7 +8,7 @@ use native.Mathlib.Omega.{arith}
 use native.Mathlib.Decide.{decLt}
 use lib.Dec.{eqb}
 use lib.ListN.{length}
-use borrow.Author.Tests.{eq-eqb, eqb-true}
+use borrow.Author.Tests.{eq-eqb}
 use Rattle.model.specs.Answer.{Outcome, answer, refused}
 use Rattle.model.specs.Check.{damaged}
 use Rattle.model.proofs.CheckLaws.{damaged-true, true-damaged}
@@ -37,31 +37,23 @@ unfoldable valueIn : Outcome (Option ℕ) → Option ℕ
 valueIn (answer v) = v
 valueIn (refused number place) = none
 
-behind : (b c : Bool) (n m : ℕ) (u v : Option ℕ) → cond b (refused n 0) (cond c (refused m 0) (answer u)) ≡ answer v → u ≡ v
+behind : (b c : Bool) (n m : ℕ) (u v : Option ℕ) → cond b (refused n 0) (cond c (refused m 0) (answer u)) ≡ answer v → (c ≡ false) × (u ≡ v)
 unfolding isAnswer valueIn
 behind true c n m u v e = absurd (false≢true (ap isAnswer e))
 behind false true n m u v e = absurd (false≢true (ap isAnswer e))
-behind false false n m u v e = ap valueIn e
+behind false false n m u v e = (refl, ap valueIn e)
 
--- what an answer tells of the disk
-pub answered : (disk : List ℕ) (key : ℕ) (v : Option ℕ) → getOf disk key ≡ answer v
-    → (length disk ≡ 1024) × (damaged (headOf disk) (tailOf disk) ≡ false)
-unfolding getOf isAnswer
-answered disk key v e = go (eqb (length disk) 1024) refl (damaged (headOf disk) (tailOf disk)) refl _ e
-  where
-    go : (a : Bool) → eqb (length disk) 1024 ≡ a → (b : Bool) → damaged (headOf disk) (tailOf disk) ≡ b
-        → (u : Option ℕ) → cond (not a) (refused 14 0) (cond b (refused 21 0) (answer u)) ≡ answer v
-        → (length disk ≡ 1024) × (damaged (headOf disk) (tailOf disk) ≡ false)
-    go true p false q u e = (eqb-true (length disk) 1024 p, q)
-    go true p true q u e = absurd (false≢true (ap isAnswer e))
-    go false p b q u e = absurd (false≢true (ap isAnswer e))
+-- what an answer tells
+answered : (disk : List ℕ) (key : ℕ) (v : Option ℕ) → getOf disk key ≡ answer v
+    → (damaged (headOf disk) (tailOf disk) ≡ false) × (getFrom disk key (headOf disk) (tailOf disk - headOf disk) ≡ v)
+unfolding getOf
+answered disk key v e = behind (not (eqb (length disk) 1024)) (damaged (headOf disk) (tailOf disk)) 14 21 (getFrom disk key (headOf disk) (tailOf disk - headOf disk)) v e
+
+pub answered-undamaged : (disk : List ℕ) (key : ℕ) (v : Option ℕ) → getOf disk key ≡ answer v → damaged (headOf disk) (tailOf disk) ≡ false
+answered-undamaged disk key v e = answered disk key v e .0
 
 pub get-answers : GetAnswers
-unfolding getOf
-get-answers disk key v e =
-    let head = headOf disk in
-    let tail = tailOf disk in
-    highest disk key head tail v .1 (behind (not (eqb (length disk) 1024)) (damaged head tail) 14 21 _ v e)
+get-answers disk key v e = highest disk key (headOf disk) (tailOf disk) v .1 (answered disk key v e .1)
 
 pub refused-gets : RefusedGets
 unfolding getOf

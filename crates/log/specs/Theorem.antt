@@ -2,13 +2,13 @@
 use Prim.Native.Nat.{ℕ, _-_, _<_}
 use mathlib.Core.Path.{_≡_}
 use mathlib.Core.Logic.{_↔_}
-use mathlib.Core.List.{List}
+use mathlib.Core.List.{List, _++_}
 use mathlib.Core.Option.{Option, none}
-use lib.ListN.{length}
+use lib.ListN.{length, replicate}
 use Rattle.model.specs.declared.Check.the-variants.{Range}
 use Rattle.model.specs.Answer.{answer, refused}
 use Rattle.model.specs.Check.{Holds}
-use Rattle.format.specs.Bytes.{Small, blockIn, blocksOf}
+use Rattle.format.specs.Bytes.{Small, bytes4, blockIn, blocksOf}
 use Rattle.log.specs.Get.{Gets, headOf, tailOf, LogGets, LogDamaged, getFrom, getOf}
 
 -- `getFrom` computes the value at the highest address, and there is no other
@@ -25,24 +25,27 @@ RefusedGets = (disk : List ℕ) (key : ℕ) → length disk ≡ 1024 → getOf d
 
 -- ---- damage and the range check (02, [6])
 
+-- the disk of 1,024 bytes with this superblock on which every other block is (257,257)
+abbrev pub full : ℕ → List ℕ
+full superblock = bytes4 superblock ++ replicate 1020 1
+
 -- a disk of 1,024 bytes with this block 0 that meets the range check at 0
 pub record Meets (superblock : ℕ) (disk : List ℕ) : Type 0 where
   pub size : length disk ≡ 1024
   pub bytes : Small disk
-  pub first : blockIn disk 0 ≡ superblock
+  pub block-0 : blockIn disk 0 ≡ superblock
   pub range : Holds (blocksOf disk) (Range 0)
 
 -- on a disk of 1,024 bytes get gives 21, whatever the key, exactly if no disk with that block 0 meets the range check at 0
 abbrev pub DamageExactly : Type 0
 DamageExactly =
-    (disk : List ℕ) (key : ℕ) → length disk ≡ 1024 → Small disk
-    → getOf disk key ≡ refused 21 0 ↔ ((other : List ℕ) → Meets (blockIn disk 0) other → ⊥)
+    (disk : List ℕ) (key : ℕ) → length disk ≡ 1024 → getOf disk key ≡ refused 21 0 ↔ ((other : List ℕ) → Meets (blockIn disk 0) other → ⊥)
 
--- so no damaged head and tail is shown as a log, empty or not: where get answers, be it that there is no value, some disk with that block 0 meets it
+-- so no damaged head and tail is shown as a log, empty or not: where get answers, be it that there is no value, some disk with that block 0 meets the check
 abbrev pub ShownMeets : Type 0
-ShownMeets = (disk : List ℕ) (key : ℕ) (v : Option ℕ) → Small disk → getOf disk key ≡ answer v → (other : List ℕ) × Meets (blockIn disk 0) other
+ShownMeets = (disk : List ℕ) (key : ℕ) (v : Option ℕ) → getOf disk key ≡ answer v → (other : List ℕ) × Meets (blockIn disk 0) other
 
--- and of a disk that meets it an empty log, one without a value for any key, is shown exactly if head and tail are equal
+-- and of a disk that meets the check an empty log, one without a value for any key, is shown exactly if head and tail are equal
 abbrev pub EmptyExactly : Type 0
 EmptyExactly =
     (disk : List ℕ) → Meets (blockIn disk 0) disk

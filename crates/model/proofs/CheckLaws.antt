@@ -57,9 +57,9 @@ pub not-damaged : (head tail : ℕ) → head ≤ tail → (head < tail → tail 
 not-damaged head tail l m = untrue (damaged head tail) (λ e. never-damaged head tail l m (damaged-true head tail e))
 
 -- with any others the range holds of a full disk
-pub damage-exactly : (head tail : ℕ) → Damaged head tail ↔ ((disk : List ℕ) → length disk ≡ 256 → RangeHolds disk head tail → ⊥)
+pub damaged-fails-all : (head tail : ℕ) → Damaged head tail ↔ ((disk : List ℕ) → length disk ≡ 256 → RangeHolds disk head tail → ⊥)
 unfolding RangeHolds
-damage-exactly head tail = (
+damaged-fails-all head tail = (
   (λ d disk n r. never-damaged head tail (r .0) (r .1) d),
   λ none. go none (damaged head tail) refl,
 )

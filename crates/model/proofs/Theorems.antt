@@ -2,7 +2,7 @@
 use Rattle.model.specs.Theorem.{Depends, KnownRules, ValidSchedule, DamagedRange, CheckHolds, ConsistentDisk, BadSchedule, HoldingTest, Decided}
 use Rattle.model.proofs.RuleLaws.{dependsOn-true, true-dependsOn, known-true, true-known}
 use Rattle.model.proofs.ScheduleLaws.{valid-true, true-valid}
-use Rattle.model.proofs.CheckLaws.{damaged-true, true-damaged, damage-exactly, holds-true, true-holds, consistent-true, true-consistent}
+use Rattle.model.proofs.CheckLaws.{damaged-true, true-damaged, damaged-fails-all, holds-true, true-holds, consistent-true, true-consistent}
 use Rattle.model.proofs.TestLaws.{bad-true, true-bad, testHolds-true, true-testHolds, count-holds, holds-count, holds-or-bad, bad-fails}
 
 pub depends : Depends
@@ -15,7 +15,7 @@ pub valid-schedule : ValidSchedule
 valid-schedule rules ws s = (true-valid rules ws s, valid-true rules ws s)
 
 pub damaged-range : DamagedRange
-damaged-range head tail = ((true-damaged head tail, damaged-true head tail), damage-exactly head tail)
+damaged-range head tail = ((true-damaged head tail, damaged-true head tail), damaged-fails-all head tail)
 
 pub check-holds : CheckHolds
 check-holds disk c = (true-holds disk c, holds-true disk c)

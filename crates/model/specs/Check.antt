@@ -14,7 +14,7 @@ use Rattle.model.specs.Disk.{empty, firstOf, secondOf, blockAt}
 unfoldable pub RangeHolds : List ℕ → ℕ → ℕ → Type 0
 RangeHolds disk head tail = (head ≤ tail) × (head < tail → tail ≤ 256) × ((k : ℕ) → head ≤ k → k < tail → empty (blockAt disk k) ≡ false)
 
--- *damage* (02, [6]): head and tail with which the range fails whatever the disk holds
+-- *damage* (02, [6]): head exceeds tail, or head < tail and tail > 256; those with which the range fails of every disk, by `Theorem.antt: DamagedRange`
 unfoldable pub Damaged : ℕ → ℕ → Type 0
 Damaged head tail = (tail < head) ⊎ ((head < tail) × (256 < tail))
 

@@ -190,7 +190,7 @@ pub get-listed : (key : ℕ) (d : Lent) → Listed (get key d)
 unfolding Listed
 get-listed key d = tt
 
--- block 0 says that the log goes past the disk: (1,257)
+-- (1,257): the log goes past the disk
 pub pastDisk : List ℕ
 pastDisk = 0 ∷ 1 ∷ 1 ∷ 1 ∷ replicate 1020 0
 
@@ -360,7 +360,7 @@ consistent-K =
 
 -- ---- a get of the run's own disk
 
--- refused while block 0 goes past the disk, and not once a superblock is stored
+-- refused while block 0 has a head past its tail, and not once a superblock is stored; refused too on another disk that goes past its end
 pub damagedFirst : List Call
 damagedFirst = get 1 own ∷ get 1 (other pastDisk) ∷ handIn superblock1 own ∷ get 1 own ∷ step own own ∷ get 1 own ∷ []
 

@@ -25,7 +25,7 @@ use Rattle.model.specs.Test.{Test, initialDisk, diskAfter, TestHolds}
 use Rattle.model.specs.Schedule.{noWrite, writeAt, labelAt, store, run, Valid}
 use Rattle.format.specs.Bytes.{byte, half, word, bytes4, blockIn, blocksOf}
 use Rattle.format.specs.Encode.{WriteFits}
-use Rattle.encoding.proofs.PartLaws.{number}
+use Rattle.format.proofs.ByteLaws.{number}
 use Rattle.cache.specs.State.{storedOn}
 use Rattle.soundlaws.proofs.GeneralLaws.{sets-out, sets-in}
 use Rattle.soundlaws.proofs.KeepLaws.{length-stored}

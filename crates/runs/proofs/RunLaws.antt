@@ -35,7 +35,7 @@ use Rattle.cache.proofs.NeedsLaws.{late-true, true-late, needsRing-true, true-n
 use Rattle.soundness.proofs.SoundLaws.{true-sound}
 use Rattle.runs.specs.Book.{Book, accepted, flagAt, waitingIn, appended, flagging, stepEntered, stepsEntered, applied, entered, noted}
 use Rattle.runs.specs.Run.{Call, opening, handIn, step, drain, get, Lent, own, other, WrongLength, UnsoundLent, Unusable, OpensNone, Listed, lentTo, valued, stateLent, diskLent, called, ownAfter, isRefused, next, steps, within, Moment, moments}
-use Rattle.runs.specs.Theorem.{Safe, Gives, wrong-length, unsound, full, too-late, ring, taken, stored, idle, emptied, unread, with-tests, with-cycle, damaged, got, Answers, Made, now, later, inside, begun, Demand3}
+use Rattle.runs.specs.Theorem.{Safe, Gives, wrong-length, unsound, full, too-late, ring, taken, stored, idle, emptied, unread, with-tests, with-cycle, log-damaged, got, Answers, Made, now, later, inside, begun, Demand3}
 use Rattle.soundlaws.proofs.GeneralLaws.{count-one-more}
 use Rattle.soundlaws.proofs.ReadyLaws.{needs-left, ready-earliest, none-ready}
 use Rattle.runs.proofs.LayoutLaws.{stateOf, length-state, state-rules, state-writes, state-accepted, state-flags, handed-state, opened-state, length-flagging, flag-here, flag-else}
@@ -181,7 +181,7 @@ module _ (rules : List Rule) (disk : List ℕ) (size : length disk ≡ 1024) whe
       go c o (unread {file} {s} n e) = open-so file s o n (rw e (unfold openWith in refl))
       go c o (with-tests {file} {s} {f = g} n e h) = open-so file s o n (rw e (unfold openWith in rw (lt-ltb 0 (length (g .tests)) h)))
       go c o (with-cycle {file} {s} {f = g} n e h k) = open-so file s o n (rw e (unfold openWith in rw (le-ltb 0 (length (g .tests)) (omega arith), true-cyclic (g .rules) k)))
-      go c o (damaged {key} {d} n p) = unfold called valued in rw (refused-gets (lentTo d (applied b disk)) key (right-disk b (get key d) n) .1 p)
+      go c o (log-damaged {key} {d} n p) = unfold called valued in rw (refused-gets (lentTo d (applied b disk)) key (right-disk b (get key d) n) .1 p)
       go c o (got {key} {d} v n p g) = unfold called valued in rw (get-given (lentTo d (applied b disk)) key v (right-disk b (get key d) n) p g)
 
   -- ---- a step of the run's own
@@ -390,7 +390,7 @@ module _ (rules : List Rule) (disk : List ℕ) (size : length disk ≡ 1024) whe
   get-goes key d b f = ⊎-elim
       (λ w. refuses (get key d) b 14 0 f (wrong-length w))
       (λ n. ⊎-elim
-      (λ e. refuses (get key d) b 21 0 f (damaged n (refused-gets (lentTo d (applied b disk)) key (right-disk b (get key d) n) .0 e)))
+      (λ e. refuses (get key d) b 21 0 f (log-damaged n (refused-gets (lentTo d (applied b disk)) key (right-disk b (get key d) n) .0 e)))
       (λ v. goes (get key d) b b (answer (valueCode (v .0))) f (got (v .0) n (on-disk n (v .0) (v .1)) (get-answers (lentTo d (applied b disk)) key (v .0) (v .1))) (get-stays key d b) f
       (λ m p q. refl)
       (λ k l c. refl)

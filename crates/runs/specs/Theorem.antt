@@ -66,7 +66,7 @@ pub data Gives (rules : List Rule) (disk : List ℕ) (b : Book) : Call → Outco
       → Gives rules disk b (opening file s) (refused 22 0)
   with-cycle : {file : List ℕ} {s : Lent} {f : File} → (WrongLength (opening file s) → ⊥) → readOf file ≡ answer f → length (f .tests) ≡ 0
       → Cyclic (f .rules) → Gives rules disk b (opening file s) (refused 8 0)
-  damaged : {key : ℕ} {d : Lent} → (WrongLength (get key d) → ⊥) → LogDamaged (lentTo d (applied b disk))
+  log-damaged : {key : ℕ} {d : Lent} → (WrongLength (get key d) → ⊥) → LogDamaged (lentTo d (applied b disk))
       → Gives rules disk b (get key d) (refused 21 0)
   got : {key : ℕ} {d : Lent} (v : Option ℕ) → (WrongLength (get key d) → ⊥) → (LogDamaged (lentTo d (applied b disk)) → ⊥)
       → LogGets (lentTo d (applied b disk)) key v → Gives rules disk b (get key d) (answer (valueCode v))

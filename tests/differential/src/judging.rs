@@ -158,6 +158,42 @@ fn bench_sheet(run: &mut Run) -> Outcome {
         require(found == known, &format!("{known:?}"), format!("{found:?}"))?;
         same_on_file(&mut random, &file)?;
     }
+    // K12, as [6] of document 02 has it, and the other lines of that, at any address.
+    for (first, second, holds) in [
+        (5, 5, true),
+        (1, 257, false),
+        (300, 200, false),
+        (0, 0, true),
+        (300, 300, true),
+        (6, 5, false),
+        (256, 255, false),
+    ] {
+        for at in 0..=255 {
+            let mut random = run.next_case();
+            let file = File {
+                rules: vec![],
+                tests: vec![Test {
+                    main: vec![Write {
+                        address: at,
+                        name: 2,
+                        epoch: 0,
+                        block: Block { first, second },
+                    }],
+                    checks: vec![Check::Range { at }],
+                    ..Test::default()
+                }],
+            };
+            let lent = Lent::new(&mut random, &file.to_bytes());
+            let expected = if holds { 0 } else { 1 + 1 };
+            same_answer(
+                "verdict",
+                lent.content(),
+                expected,
+                calls::verdict(&lent, 1),
+            )?;
+            same_on_file(&mut random, &file)?;
+        }
+    }
     Ok(())
 }
 
@@ -251,9 +287,9 @@ fn no_main_writes(run: &mut Run) -> Outcome {
     for first in HALVES {
         for second in HALVES {
             let block = Block { first, second };
-            for _ in 0..run.times(3) {
+            for form in 0..run.times(3) {
                 let mut random = run.next_case();
-                let test = one_check(&mut random, block);
+                let test = one_check(&mut random, block, form % 3);
                 let file = File {
                     rules: vec![],
                     tests: vec![test],
@@ -265,8 +301,9 @@ fn no_main_writes(run: &mut Run) -> Outcome {
     Ok(())
 }
 
-/// A test with this block at some address and most of the disk filled, and one check on it.
-fn one_check(random: &mut Random, block: Block) -> Test {
+/// A test with this block at some address and most of the disk filled, and one check on it, of each
+/// form in turn.
+fn one_check(random: &mut Random, block: Block, form: u64) -> Test {
     let write = |address, block| Write {
         address,
         name: 0,
@@ -287,7 +324,7 @@ fn one_check(random: &mut Random, block: Block) -> Test {
     }
     let other = random.pick(&[at, 0, 5, 255]);
     let same = random.pick(&[block, full]);
-    let check = match random.below(3) {
+    let check = match form {
         0 => Check::Range { at },
         1 => Check::Pointer { at },
         _ => Check::Pair {
