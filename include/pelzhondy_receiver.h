@@ -55,15 +55,17 @@
  *   17, 18: under these rules the write can't be taken in this order of calls, and will be refused
  *       until the next opening. It is the order, or the rules, that has to be mended.
  *   21: the log on the disk is damaged, whatever the key. Show the fitter that: neither a value nor an
- *       empty log. Hand in no put that goes by such a head and tail: after one put (3,2) is (3,3), and
- *       the damage is shown as an empty log.
+ *       empty log. Hand in no put that goes by such a head and tail: it can hide the damage. After one
+ *       put (3,2) is (3,3), which is shown as an empty log.
  *
- * TO APPEND TO THE LOG, firmware looks at head and tail itself: no call looks at those that are handed
- * in, and what get does not refuse may still be no place for a put. Before the first put after a reset
- * ask get, of any key. If it gives 21, stop. If block 0 is (0,0), as on an empty disk, begin with head
- * and tail 1: address 0 is the superblock's own. Else head must be at least 1 and tail at most 255; a
- * flash erased to ones, (65535,65535), is an empty log to get, and has no place. Then the log block goes
- * to tail, and the superblock, (head, tail + 1), to 0.
+ * TO APPEND TO THE LOG, firmware looks at head and tail itself: no call looks at those of a superblock
+ * that is handed in, and what get does not refuse may still be no place for a put. After a reset ask
+ * get, of any key. If it gives 21, stop. If block 0 is (0,0), as on an empty disk, begin with head and
+ * tail 1: address 0 is the superblock's own. Else head must be at least 1. Before every put: tail must
+ * be at most 255 (a flash erased to ones, (65535,65535), is an empty log to get, and has no place), and
+ * the put must not be (0,0), an empty block, with which the log would not meet its check. The log block
+ * goes to tail, and the superblock, (head, tail + 1), to 0. The next put goes by that head and tail:
+ * block 0 of the disk is behind while the superblock waits.
  *
  * AFTER A RESET never use the state again, even if the RAM has kept it: read the disk back from the
  * flash, and open a cache anew on it. The waiting writes are lost. What is said here of cuts holds
@@ -182,7 +184,8 @@ uint64_t pelzhondy_drain(uint8_t *state, size_t state_length,
  * by 21 are 0 and look like a reading, and a test for PELZHONDY_NO_VALUE or more would show damage as
  * an empty log. The log is empty where head = tail, be it (0,0), as on an empty disk, or (300,300).
  * Where head < tail, a log that meets the check has a value for some key. If no key has one there,
- * blocks are missing; get does not refuse that, since 21 goes by block 0 alone.
+ * blocks are missing; get does not refuse that, since 21 goes by block 0 alone. Nor does it refuse
+ * (0,0) where other blocks are there: a disk whose first put was cut looks the same.
  */
 uint64_t pelzhondy_get(const uint8_t *disk, size_t disk_length, uint16_t key);
 

@@ -1,8 +1,9 @@
 /*
  * A receiver's host in small. It logs one ignition through the cache and brings each block that is
  * stored to flash; the supply is cut after every one of these in turn, and each time the host starts
- * again from what the flash holds and reads the log back as the fitter would find it. From the
- * repository's root, after 'rt staticlib receiver':
+ * again from what the flash holds and reads the log back as the fitter would find it. Then it begins a
+ * log on an empty flash, reads superblocks as a damaged flash could give them back, and shows what goes
+ * wrong in another order of calls. From the repository's root, after 'rt staticlib receiver':
  *
  *     cc -std=c99 -Iinclude examples/receiver/host.c target/staticlib/libreceiver.a -o target/host
  *     target/host
@@ -18,12 +19,18 @@ enum { LOG = 1, SUPERBLOCK = 2, WHEELS = 4, WRITES = 2 * WHEELS };
 /* The log's rules: a superblock waits for the log block of its epoch, and for earlier superblocks. */
 static const uint8_t rules[] = {3, 0, 3, SUPERBLOCK, 0, LOG, 3, 0, 3, SUPERBLOCK, 1, SUPERBLOCK};
 
-/* The pressure of each wheel, in kPa. */
+/* The pressure of each wheel, in kPa. (Wheel 0 at 0 kPa would be a put of (0,0), an empty block.) */
 static const uint16_t pressure[WHEELS] = {830, 825, 640, 905};
 
-/* RAM: a reset forgets both. */
+/* RAM: a reset forgets all of it. */
 static uint8_t state[PELZHONDY_STATE_BYTES];
 static uint8_t disk[PELZHONDY_DISK_BYTES];
+
+/* What the next put goes by. Block 0 of the disk is behind while a superblock waits. */
+static uint16_t head, tail;
+
+/* What is against a put, or a null pointer. */
+static const char *hindrance;
 
 /* Stands for the flash: it keeps what it holds, and takes a block whole or not at all. */
 static uint8_t flash[PELZHONDY_DISK_BYTES];
@@ -47,11 +54,37 @@ static int is_damaged(uint64_t answer)
 
 /* ---- the firmware */
 
+/* Looks at the log on the disk, and whether an ignition can be appended to it. */
+static void find_log(void)
+{
+    head = (uint16_t)(disk[0] << 8 | disk[1]);
+    tail = (uint16_t)(disk[2] << 8 | disk[3]);
+    /* An empty disk: a log begins with both at 1, behind the superblock. */
+    if (head == 0 && tail == 0) {
+        head = tail = 1;
+    }
+    if (is_damaged(pelzhondy_get(disk, sizeof disk, 0))) {
+        hindrance = "damaged";
+    } else if (head == 0 || tail > 256 - WHEELS) {
+        /* Address 0 is the superblock's, and C would cut an address of 256 to it. */
+        hindrance = "no place";
+    } else {
+        hindrance = NULL;
+    }
+}
+
+/* Opens a cache on the disk. */
+static void open_on_disk(void)
+{
+    accepted("open", pelzhondy_open(state, sizeof state, rules, sizeof rules));
+    find_log();
+}
+
 /* After every reset: the disk is what the flash holds, and a cache is opened anew on it. */
 static void start(void)
 {
     memcpy(disk, flash, sizeof disk);
-    accepted("open", pelzhondy_open(state, sizeof state, rules, sizeof rules));
+    open_on_disk();
 }
 
 static uint64_t hand_in(uint8_t address, uint8_t name, uint32_t epoch, uint16_t first, uint16_t second)
@@ -67,22 +100,13 @@ static uint64_t hand_in(uint8_t address, uint8_t name, uint32_t epoch, uint16_t 
  */
 static void hand_in_ignition(void)
 {
-    uint16_t head = (uint16_t)(disk[0] << 8 | disk[1]), tail = (uint16_t)(disk[2] << 8 | disk[3]), wheel;
-    if (is_damaged(pelzhondy_get(disk, sizeof disk, 0))) {
-        printf("the log is damaged\n");
+    uint16_t wheel;
+    if (hindrance != NULL) {
+        printf("no ignition is logged: %s\n", hindrance);
         exit(EXIT_FAILURE);
-    }
-    /* An empty disk: a log begins with both at 1, behind the superblock. */
-    if (head == 0 && tail == 0) {
-        head = tail = 1;
     }
     for (wheel = 0; wheel < WHEELS; wheel++) {
         uint32_t epoch = 1u + wheel;
-        /* At address 0 is the superblock, and C would cut an address of 256 to 0. */
-        if (head == 0 || tail > 255) {
-            printf("the log has no place\n");
-            exit(EXIT_FAILURE);
-        }
         accepted("hand-in", hand_in((uint8_t)tail, LOG, epoch, wheel, pressure[wheel]));
         accepted("hand-in", hand_in(0, SUPERBLOCK, epoch, head, (uint16_t)(tail + 1)));
         tail++;
@@ -115,6 +139,8 @@ static void cut(void)
 {
     memset(state, 0xA5, sizeof state);
     memset(disk, 0xA5, sizeof disk);
+    head = tail = 0xA5A5;
+    hindrance = "not started";
 }
 
 /* What the fitter reads. Damage is shown as damage, and not as a log without readings. */
@@ -122,7 +148,7 @@ static void print_log(void)
 {
     uint16_t wheel;
     if (is_damaged(pelzhondy_get(disk, sizeof disk, 0))) {
-        printf(" the log is damaged\n");
+        printf("  the log is damaged");
         return;
     }
     for (wheel = 0; wheel < WHEELS; wheel++) {
@@ -133,7 +159,6 @@ static void print_log(void)
             printf(" %4u", (unsigned)value);
         }
     }
-    printf("\n");
 }
 
 static void print_answer(const char *call, uint64_t answer)
@@ -167,6 +192,7 @@ static void ignition_cut_after(unsigned stores)
     start();
     printf("%6u  %-13s  %5u    ", stores, written(place), (unsigned)place);
     print_log();
+    printf("\n");
 }
 
 /* A whole ignition: what comes after it, and the same one by a drain. */
@@ -182,7 +208,7 @@ static void whole_ignition(void)
 
     /* In one go: for a disk that stays in RAM. Flash is fed block by block, as above. */
     set_log_before(disk);
-    accepted("open", pelzhondy_open(state, sizeof state, rules, sizeof rules));
+    open_on_disk();
     hand_in_ignition();
     print_answer("a drain", pelzhondy_drain(state, sizeof state, disk, sizeof disk));
     printf("the same disk: %s\n", memcmp(disk, flash, sizeof disk) == 0 ? "yes" : "no");
@@ -215,24 +241,27 @@ static void first_ignition(void)
     start();
     printf("%-32s", "all, on a flash that was empty");
     print_log();
+    printf("\n");
 }
 
 /* Superblocks as a flash could give them back, each beside the log block of wheel 0. */
 static void read_superblocks(void)
 {
-    static const uint16_t superblocks[][2] = {{0, 0}, {1, 2}, {2, 2}, {3, 2}, {1, 257}};
+    static const uint16_t superblocks[][2] = {{0, 0}, {1, 2},   {2, 2},   {3, 2},
+                                              {0, 2}, {1, 253}, {1, 257}, {65535, 65535}};
     size_t i;
-    printf("   head  tail  wheel 0    1    2    3\n");
+    printf("   head  tail  wheel 0    1    2    3  puts\n");
     for (i = 0; i < sizeof superblocks / sizeof superblocks[0]; i++) {
-        uint16_t head = superblocks[i][0], tail = superblocks[i][1];
+        uint16_t first = superblocks[i][0], second = superblocks[i][1];
         set_log_before(flash);
-        flash[0] = (uint8_t)(head >> 8);
-        flash[1] = (uint8_t)(head & 0xFF);
-        flash[2] = (uint8_t)(tail >> 8);
-        flash[3] = (uint8_t)(tail & 0xFF);
+        flash[0] = (uint8_t)(first >> 8);
+        flash[1] = (uint8_t)(first & 0xFF);
+        flash[2] = (uint8_t)(second >> 8);
+        flash[3] = (uint8_t)(second & 0xFF);
         start();
-        printf("%7u %5u    ", head, tail);
+        printf("%7u %5u    ", first, second);
         print_log();
+        printf("  %s\n", hindrance == NULL ? "taken" : hindrance);
     }
 }
 

@@ -2,9 +2,9 @@
 use mathlib.Core.Path.{_≡_, refl, sym, ap, _∙_}
 use mathlib.Core.Bool.{Bool, true, cond, not, _||_}
 use mathlib.Core.List.{List, [], _∷_, _++_, append-nil}
-use mathlib.Core.Option.{Option, none}
+use mathlib.Core.Option.{Option}
 use Prim.{tt}
-use Prim.Native.Nat.{ℕ, _<_}
+use Prim.Native.Nat.{ℕ}
 use native.Mathlib.Omega.{arith}
 use lib.Count.{ones, onesIn}
 use lib.Dec.{eqb, ltb, lit<}
@@ -33,8 +33,8 @@ use Rattle.cyclelaws.proofs.Examples.{K5-not-cyclic, K6-cyclic}
 use Rattle.judging.specs.Judge.{Case, caseOf, caseIn}
 use Rattle.log.specs.Puts.{start, after, putWrites, writesOf, afterAll, logTest, putsOf, emptyPut, Traced, traced, traceOf}
 use Rattle.log.specs.Get.{keyed, getFrom, getOf}
-use Rattle.log.specs.Theorem.{full, Meets}
-use Rattle.log.proofs.DamageLaws.{full-meets, damage-exactly, empty-exactly}
+use Rattle.log.specs.Theorem.{filled, Meets}
+use Rattle.log.proofs.DamageLaws.{filled-meets, damage-exactly}
 use Rattle.printing.specs.Decimal.{decimalWith, decimal}
 use Rattle.printing.specs.Lines.{refusedLine, testLine, lines, textOf, programText}
 use Rattle.finding.specs.Finder.{Found, over, wrote, findAmong, findIn, findOf}
@@ -167,23 +167,20 @@ unstarred =
 
 -- ---- document 02
 
--- gets of a full disk
+-- gets of a filled disk
 gets : ℕ → ℕ → Outcome (Option ℕ)
 unfolding judged getOf getFrom keyed blockIn word half
-gets superblock key = getOf (full superblock) key
+gets superblock key = getOf (filled superblock) key
 
 -- the trimmed log
-cut-down : ℕ → Test
+trims : ℕ → Test
 unfolding searched trimmed
-cut-down head = trimmed head
+trims head = trimmed head
 
+-- by the theorem: get gives 21
 unmet : (other : List ℕ) → Meets (block 300 200) other → ⊥
 unfolding gets
-unmet = damage-exactly (full (block 300 200)) 0 refl .0 refl
-
-shown : ((key : ℕ) → key < 65536 → getOf (full (block 1 4)) key ≡ answer none) → ⊥
-unfolding gets
-shown k = let e : _≡_ {A = ℕ} 1 4 = empty-exactly (full (block 1 4)) (full-meets (block 1 4) refl) .0 k in absurd (omega arith)
+unmet = damage-exactly (filled (block 300 200)) 0 refl .0 refl
 
 pub requested : Requested
 requested =
@@ -194,8 +191,7 @@ requested =
       get-none = ((λ key. unfold gets in refl), (λ key. unfold gets in refl), λ key. unfold gets in refl);
       get-some = unfold gets in refl;
       none-meets = unmet;
-      some-meet = (full-meets (block 1 4) (unfold gets in refl), full-meets (block 5 5) (unfold gets in refl));
-      not-empty = shown;
-      trimmed-holds = (count-holds [] (trimmed 4) (unfold cut-down in refl), finding _ _ (unfold cut-down in refl) (λ buffer. unfold cut-down in refl));
-      trimmed-fails = (bad-true [] (trimmed 5) 1 (unfold cut-down in lit< tt) (unfold cut-down in refl), finding _ _ (unfold cut-down in refl) (λ buffer. unfold cut-down in refl));
+      some-meet = (filled-meets (block 1 4) (unfold gets in refl), filled-meets (block 5 5) (unfold gets in refl));
+      trimmed-holds = (count-holds [] (trimmed 4) (unfold trims in refl), finding _ _ (unfold trims in refl) (λ buffer. unfold trims in refl));
+      trimmed-fails = (bad-true [] (trimmed 5) 1 (unfold trims in lit< tt) (unfold trims in refl), finding _ _ (unfold trims in refl) (λ buffer. unfold trims in refl));
     }

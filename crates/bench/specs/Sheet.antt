@@ -2,7 +2,7 @@
 -- `Sheet` is the table, one field a line; `proofs/Proved.antt: sheet` is the theorem over it. `Unstarred` has the lines that need no proof, and
 -- what the judging program prints; `proofs/Proved.antt: unstarred` proves them all the same. `Requested` has worked lines of document 02, and
 -- `proofs/Proved.antt: requested` proves these.
-use Prim.Native.Nat.{ℕ, _≤_, _<_}
+use Prim.Native.Nat.{ℕ, _≤_}
 use mathlib.Core.Path.{_≡_}
 use mathlib.Core.Bool.{Bool, true, false}
 use mathlib.Core.List.{List, [], _∷_, _++_}
@@ -21,7 +21,7 @@ use Rattle.format.specs.Encode.{ruleFields, testBytes, fileBytes}
 use Rattle.judging.specs.Judge.{caseIn}
 use Rattle.log.specs.Puts.{Put, start, writesOf, logTest, traced, traceOf}
 use Rattle.log.specs.Get.{getOf}
-use Rattle.log.specs.Theorem.{full, Meets}
+use Rattle.log.specs.Theorem.{filled, Meets}
 use Rattle.printing.specs.Lines.{refusedText, failsText, programText}
 use Rattle.finding.specs.Finder.{Found, found, findOf}
 use Rattle.cache.specs.State.{storedOn}
@@ -162,7 +162,7 @@ pub record Sheet : Type 0 where
       (opening K10-rules ∷ handIn (named1 5 1) ∷ handIn (named1 6 2) ∷ step ∷ [])
       (answer 0 ∷ answer 1 ∷ answer 2 ∷ answer 2 ∷ [])
       (storedOn blank (named1 6 2))
-  -- range block (5,5) holds, (1,257) fails, (300,200) holds; of the last [6] of document 02 says that it doesn't
+  -- range block (5,5) holds, (1,257) fails; (300,200), which holds in document 01, fails since [6] of document 02
   pub K12 : RangeAt 5 5 true × RangeAt 1 257 false × RangeAt 300 200 false
 
 -- ---- the lines without a star, and the program's
@@ -194,14 +194,14 @@ pub record Unstarred : Type 0 where
 
 -- get, of any key, on the disk with this superblock on which no other block is empty
 abbrev pub Getting : ℕ → ℕ → Outcome (Option ℕ) → Type 0
-Getting head tail o = (key : ℕ) → getOf (full (block head tail)) key ≡ o
+Getting head tail o = (key : ℕ) → getOf (filled (block head tail)) key ≡ o
 
 -- a log of three readings, whose head a main write moves
 unfoldable pub trimmed : ℕ → Test
 trimmed head = test (writesOf start (put 0 830 ∷ put 1 825 ∷ put 2 640 ∷ [])) (given 0 2 3 head 4 ∷ []) (Range 0 ∷ [])
 
 pub record Requested : Type 0 where
-  -- [6] the range check fails whenever head exceeds tail, at any address
+  -- [6] the range check fails whenever head exceeds tail: three such blocks, at any address
   pub fails : RangeAt 6 5 false × RangeAt 256 255 false × RangeAt 65535 65534 false
   -- (0,0) and (300,300) hold, as (5,5) of K12 does
   pub still-holds : RangeAt 0 0 true × RangeAt 300 300 true
@@ -209,11 +209,11 @@ pub record Requested : Type 0 where
   pub get-refused : Getting 300 200 (refused 21 0) × Getting 6 3 (refused 21 0) × Getting 256 255 (refused 21 0) × Getting 1 257 (refused 21 0)
   -- an empty log is one with head = tail
   pub get-none : Getting 5 5 (answer none) × Getting 0 0 (answer none) × Getting 300 300 (answer none)
-  pub get-some : getOf (full (block 1 4)) 257 ≡ answer (some 257)
-  -- no disk with the superblock (300,200) meets the range check at 0; with (1,4) and with (5,5) that one does, and with (1,4) it is not shown as empty
+  -- (1,4) has readings
+  pub get-some : getOf (filled (block 1 4)) 257 ≡ answer (some 257)
+  -- no disk with the superblock (300,200) meets the range check at 0; with (1,4) and with (5,5) the disk that is filled besides does
   pub none-meets : (other : List ℕ) → Meets (block 300 200) other → ⊥
-  pub some-meet : Meets (block 1 4) (full (block 1 4)) × Meets (block 5 5) (full (block 5 5))
-  pub not-empty : ((key : ℕ) → key < 65536 → getOf (full (block 1 4)) key ≡ answer none) → ⊥
+  pub some-meet : Meets (block 1 4) (filled (block 1 4)) × Meets (block 5 5) (filled (block 5 5))
   -- the judge and the finder follow: the head moved up to the tail, 4, holds; one block past it, it is bad, and no rules do
   pub trimmed-holds : TestHolds [] (trimmed 4) × Finding (trimmed 4) (λ buffer. found (answer 0) buffer)
   pub trimmed-fails : Bad [] (trimmed 5) 1 × Finding (trimmed 5) (λ buffer. found (refused 13 0) buffer)

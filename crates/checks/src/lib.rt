@@ -18,7 +18,7 @@ pub fn is_damaged(head: usize, tail: usize) -> bool
 }
 
 // Whether head is at most tail and the blocks from head up to tail - 1 are there. It asks what
-// is_damaged does in an order of its own: with a call of it, judging many ranges took a tenth longer.
+// is_damaged does in an order of its own: with a call of it judging took longer (docs/LANDINGS.md, [6]).
 fn range_holds(disk: &[u32; 256], head: usize, tail: usize) -> bool
     ensures { λ r. ⌜ r ≡ rangeHolds (now (disk .entry)) head tail ⌝ }
 {

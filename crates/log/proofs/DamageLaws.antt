@@ -20,7 +20,7 @@ use Rattle.model.proofs.CheckLaws.{damaged-true, undamaged, never-damaged, not-
 use Rattle.format.specs.Bytes.{byte, Small, bytes4, half, word, blockIn, blocksOf}
 use Rattle.format.proofs.ByteLaws.{number}
 use Rattle.log.specs.Get.{keyed, Gets, headOf, tailOf, LogDamaged, getFrom, getOf}
-use Rattle.log.specs.Theorem.{full, Meets, DamageExactly, ShownMeets, EmptyExactly}
+use Rattle.log.specs.Theorem.{filled, Meets, DamageExactly, ShownMeets, EmptyExactly}
 use Rattle.log.proofs.Theorems.{get-answers, refused-gets, answered-undamaged}
 
 -- ---- a disk's blocks
@@ -41,32 +41,39 @@ of-range : (disk : List ℕ) → RangeOf disk (blockIn disk 0) → Holds (blocks
 unfolding Holds
 of-range disk h = subst (RangeOf disk) (sym (block-at disk 0 (lit< tt))) h
 
--- ---- a superblock that is not damaged, and a disk that is full besides
+-- no disk that meets the check has a damaged superblock
+meets-undamaged : (disk other : List ℕ) → Meets (blockIn disk 0) other → LogDamaged disk → ⊥
+unfolding RangeHolds
+meets-undamaged disk other m d =
+    let r = subst (RangeOf other) (m .block-0) (range-of other (m .range)) in
+    never-damaged (headOf disk) (tailOf disk) (r .0) (r .1) d
+
+-- ---- a superblock that is not damaged, and a disk that is filled besides
 
 module _ (superblock : ℕ) where
-  full-rest : (i : ℕ) → 4 ≤ i → i < 1024 → byte (full superblock) i ≡ 1
-  full-rest i h l =
+  filled-rest : (i : ℕ) → 4 ≤ i → i < 1024 → byte (filled superblock) i ≡ 1
+  filled-rest i h l =
       let z : i ≡ 4 + (i - 4) = omega arith in
       rw z (getD-append-add (bytes4 superblock) (replicate 1020 1) (i - 4) 0 ∙ getD-replicate {A = ℕ} 1020 (i - 4) 1 0 (omega arith))
 
-  full-size : length (full superblock) ≡ 1024
-  full-size = let n = length-replicate {A = ℕ} 1020 1 in omega arith
+  filled-size : length (filled superblock) ≡ 1024
+  filled-size = let n = length-replicate {A = ℕ} 1020 1 in omega arith
 
-  full-small : Small (full superblock)
-  full-small zero h = omega arith
-  full-small (suc zero) h = omega arith
-  full-small (suc (suc zero)) h = omega arith
-  full-small (suc (suc (suc zero))) h = omega arith
-  full-small (suc (suc (suc (suc i)))) h = rw (full-rest (suc (suc (suc (suc i)))) (omega arith) (omega (arith, full-size))) (lit< tt)
+  filled-small : Small (filled superblock)
+  filled-small zero h = omega arith
+  filled-small (suc zero) h = omega arith
+  filled-small (suc (suc zero)) h = omega arith
+  filled-small (suc (suc (suc zero))) h = omega arith
+  filled-small (suc (suc (suc (suc i)))) h = rw (filled-rest (suc (suc (suc (suc i)))) (omega arith) (omega (arith, filled-size))) (lit< tt)
 
-  full-block : (a : ℕ) → 0 < a → a < 256 → empty (blockIn (full superblock) a) ≡ false
+  filled-block : (a : ℕ) → 0 < a → a < 256 → empty (blockIn (filled superblock) a) ≡ false
   unfolding blockIn word half empty
-  full-block a h l =
+  filled-block a h l =
       rw (
-        full-rest (4 * a) (omega arith) (omega arith),
-        full-rest (4 * a + 1) (omega arith) (omega arith),
-        full-rest (4 * a + 2) (omega arith) (omega arith),
-        full-rest (4 * a + 2 + 1) (omega arith) (omega arith),
+        filled-rest (4 * a) (omega arith) (omega arith),
+        filled-rest (4 * a + 1) (omega arith) (omega arith),
+        filled-rest (4 * a + 2) (omega arith) (omega arith),
+        filled-rest (4 * a + 2 + 1) (omega arith) (omega arith),
       )
 
   module _ (u : damaged (firstOf superblock) (secondOf superblock) ≡ false) where
@@ -74,40 +81,33 @@ module _ (superblock : ℕ) where
     bounds = undamaged (firstOf superblock) (secondOf superblock) u
 
     -- head is at most tail, so that head has 16 bits too
-    full-superblock : blockIn (full superblock) 0 ≡ superblock
+    filled-superblock : blockIn (filled superblock) 0 ≡ superblock
     unfolding blockIn word half firstOf secondOf
-    full-superblock = let l = bounds .0 in number superblock (omega arith)
+    filled-superblock = let l = bounds .0 in number superblock (omega arith)
 
     -- a superblock (0, tail) is a block of its own range
     superblock-there : (k : ℕ) → k < secondOf superblock → empty superblock ≡ false
     unfolding secondOf empty
     superblock-there k h = ne-eqb superblock 0 (λ e. let z : superblock ≡ 0 = e in absurd (omega arith))
 
-    there : (k : ℕ) → firstOf superblock ≤ k → k < secondOf superblock → empty (blockAt (blocksOf (full superblock)) k) ≡ false
+    there : (k : ℕ) → firstOf superblock ≤ k → k < secondOf superblock → empty (blockAt (blocksOf (filled superblock)) k) ≡ false
     there k h l =
         let m = bounds .1 (omega arith) in
-        rw (block-at (full superblock) k (omega arith)) (elim (decLt 0 k) [
-          | yes p ↦ full-block k p (omega arith)
-          | no p ↦ (let z : k ≡ 0 = omega arith in rw (z, full-superblock) (superblock-there k l))
+        rw (block-at (filled superblock) k (omega arith)) (elim (decLt 0 k) [
+          | yes p ↦ filled-block k p (omega arith)
+          | no p ↦ (let z : k ≡ 0 = omega arith in rw (z, filled-superblock) (superblock-there k l))
         ])
 
-    pub full-meets : Meets superblock (full superblock)
-    full-meets =
+    pub filled-meets : Meets superblock (filled superblock)
+    filled-meets =
         record {
-          size = full-size;
-          bytes = full-small;
-          block-0 = full-superblock;
-          range = of-range (full superblock) (subst (RangeOf (full superblock)) (sym full-superblock) (unfold RangeHolds in (bounds .0, bounds .1, there)));
+          size = filled-size;
+          bytes = filled-small;
+          block-0 = filled-superblock;
+          range = of-range (filled superblock) (subst (RangeOf (filled superblock)) (sym filled-superblock) (unfold RangeHolds in (bounds .0, bounds .1, there)));
         }
 
 -- ---- the theorems
-
--- no disk that meets the check has a damaged superblock
-meets-undamaged : (disk other : List ℕ) → Meets (blockIn disk 0) other → LogDamaged disk → ⊥
-unfolding RangeHolds
-meets-undamaged disk other m d =
-    let r = subst (RangeOf other) (m .block-0) (range-of other (m .range)) in
-    never-damaged (headOf disk) (tailOf disk) (r .0) (r .1) d
 
 pub damage-exactly : DamageExactly
 damage-exactly disk key n = (
@@ -117,10 +117,10 @@ damage-exactly disk key n = (
   where
     go : ((other : List ℕ) → Meets (blockIn disk 0) other → ⊥) → (b : Bool) → damaged (headOf disk) (tailOf disk) ≡ b → LogDamaged disk
     go f true e = damaged-true (headOf disk) (tailOf disk) e
-    go f false e = absurd (f (full (blockIn disk 0)) (full-meets (blockIn disk 0) e))
+    go f false e = absurd (f (filled (blockIn disk 0)) (filled-meets (blockIn disk 0) e))
 
 pub shown-meets : ShownMeets
-shown-meets disk key v e = (full (blockIn disk 0), full-meets (blockIn disk 0) (answered-undamaged disk key v e))
+shown-meets disk key v e = (filled (blockIn disk 0), filled-meets (blockIn disk 0) (answered-undamaged disk key v e))
 
 -- the key of a block has 16 bits
 key-small : (disk : List ℕ) (a : ℕ) → length disk ≡ 1024 → Small disk → a < 256 → firstOf (blockIn disk a) < 65536

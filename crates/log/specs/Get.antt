@@ -29,6 +29,7 @@ headOf disk = firstOf (blockIn disk 0)
 abbrev pub tailOf : List ℕ → ℕ
 tailOf disk = secondOf (blockIn disk 0)
 
+-- what get gives: the value from the one up to the other
 abbrev pub LogGets : List ℕ → ℕ → Option ℕ → Type 0
 LogGets disk key v = Gets disk key (headOf disk) (tailOf disk) v
 

@@ -1,4 +1,4 @@
--- The theorems of get: what is computed is what the definition with quantifiers says.
+-- The theorems of get: what is computed is what the definition with quantifiers says; and 21 is for the superblocks with which no disk meets the range check.
 use Prim.Native.Nat.{ℕ, _-_, _<_}
 use mathlib.Core.Path.{_≡_}
 use mathlib.Core.Logic.{_↔_}
@@ -25,9 +25,9 @@ RefusedGets = (disk : List ℕ) (key : ℕ) → length disk ≡ 1024 → getOf d
 
 -- ---- damage and the range check (02, [6])
 
--- the disk of 1,024 bytes with this superblock on which every other block is (257,257)
-abbrev pub full : ℕ → List ℕ
-full superblock = bytes4 superblock ++ replicate 1020 1
+-- the disk of 1,024 bytes with this superblock, a number of 32 bits, on which every other block is (257,257)
+abbrev pub filled : ℕ → List ℕ
+filled superblock = bytes4 superblock ++ replicate 1020 1
 
 -- a disk of 1,024 bytes with this block 0 that meets the range check at 0
 pub record Meets (superblock : ℕ) (disk : List ℕ) : Type 0 where

@@ -1,4 +1,5 @@
--- The computed forms of the checks agree with their meaning.
+-- The computed forms of the checks agree with their meaning; and damaged are those heads and tails with which the range fails of every disk: with any
+-- others it holds of a full one.
 use mathlib.Core.Path.{_≡_, refl, sym, subst, _∙_}
 use mathlib.Core.Logic.{_↔_, _⊎_, inl, inr, ⊎-elim}
 use mathlib.Core.Bool.{Bool, true, false, not, _&&_, _||_, false≢true}
@@ -20,19 +21,19 @@ not-false-intro b e = rw e
 
 -- ---- head and tail
 
-pub damaged-true : (head tail : ℕ) → damaged head tail ≡ true → Damaged head tail
-unfolding damaged Damaged
-damaged-true head tail e = ⊎-elim
-    (λ a. inl (ltb-true tail head a))
-    (λ b. inr (ltb-true head tail (and-left (ltb head tail) _ b), ltb-true 256 tail (and-right (ltb head tail) _ b)))
-    (or-cases (ltb tail head) _ e)
-
 pub true-damaged : (head tail : ℕ) → Damaged head tail → damaged head tail ≡ true
 unfolding damaged Damaged
 true-damaged head tail d = ⊎-elim
     (λ a. or-left (ltb tail head) _ (lt-ltb tail head a))
     (λ b. or-right (ltb tail head) _ (and-intro (ltb head tail) _ (lt-ltb head tail (b .0)) (lt-ltb 256 tail (b .1))))
     d
+
+pub damaged-true : (head tail : ℕ) → damaged head tail ≡ true → Damaged head tail
+unfolding damaged Damaged
+damaged-true head tail e = ⊎-elim
+    (λ a. inl (ltb-true tail head a))
+    (λ b. inr (ltb-true head tail (and-left (ltb head tail) _ b), ltb-true 256 tail (and-right (ltb head tail) _ b)))
+    (or-cases (ltb tail head) _ e)
 
 -- those that are not damaged
 pub undamaged : (head tail : ℕ) → damaged head tail ≡ false → (head ≤ tail) × (head < tail → tail ≤ 256)

@@ -360,7 +360,7 @@ consistent-K =
 
 -- ---- a get of the run's own disk
 
--- refused while block 0 has a head past its tail, and not once a superblock is stored; refused too on another disk that goes past its end
+-- refused while block 0 has a head past its tail, and not once a superblock is stored; refused too on another disk, whose log goes past its end
 pub damagedFirst : List Call
 damagedFirst = get 1 own ∷ get 1 (other pastDisk) ∷ handIn superblock1 own ∷ get 1 own ∷ step own own ∷ get 1 own ∷ []
 
