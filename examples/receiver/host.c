@@ -28,9 +28,7 @@ static uint8_t disk[PELZHONDY_DISK_BYTES];
 
 /* What the next put goes by. Block 0 of the disk is behind while a superblock waits. */
 static uint16_t head, tail;
-
-/* What is against a put, or a null pointer. */
-static const char *hindrance;
+static int log_is_damaged;
 
 /* Stands for the flash: it keeps what it holds, and takes a block whole or not at all. */
 static uint8_t flash[PELZHONDY_DISK_BYTES];
@@ -54,30 +52,27 @@ static int is_damaged(uint64_t answer)
 
 /* ---- the firmware */
 
-/* Looks at the log on the disk, and whether an ignition can be appended to it. */
-static void find_log(void)
+/* Opens a cache on the disk, and looks at the log there. */
+static void open_on_disk(void)
 {
+    accepted("open", pelzhondy_open(state, sizeof state, rules, sizeof rules));
+    log_is_damaged = is_damaged(pelzhondy_get(disk, sizeof disk, 0));
     head = (uint16_t)(disk[0] << 8 | disk[1]);
     tail = (uint16_t)(disk[2] << 8 | disk[3]);
     /* An empty disk: a log begins with both at 1, behind the superblock. */
     if (head == 0 && tail == 0) {
         head = tail = 1;
     }
-    if (is_damaged(pelzhondy_get(disk, sizeof disk, 0))) {
-        hindrance = "damaged";
-    } else if (head == 0 || tail > 256 - WHEELS) {
-        /* Address 0 is the superblock's, and C would cut an address of 256 to it. */
-        hindrance = "no place";
-    } else {
-        hindrance = NULL;
-    }
 }
 
-/* Opens a cache on the disk. */
-static void open_on_disk(void)
+/* What is against another ignition in the log, or a null pointer. */
+static const char *hindrance(void)
 {
-    accepted("open", pelzhondy_open(state, sizeof state, rules, sizeof rules));
-    find_log();
+    if (log_is_damaged) {
+        return "damaged";
+    }
+    /* Address 0 is the superblock's, and C would cut an address of 256 to it. */
+    return head == 0 || tail > 256 - WHEELS ? "no place" : NULL;
 }
 
 /* After every reset: the disk is what the flash holds, and a cache is opened anew on it. */
@@ -101,8 +96,8 @@ static uint64_t hand_in(uint8_t address, uint8_t name, uint32_t epoch, uint16_t 
 static void hand_in_ignition(void)
 {
     uint16_t wheel;
-    if (hindrance != NULL) {
-        printf("no ignition is logged: %s\n", hindrance);
+    if (hindrance() != NULL) {
+        printf("no ignition is logged: %s\n", hindrance());
         exit(EXIT_FAILURE);
     }
     for (wheel = 0; wheel < WHEELS; wheel++) {
@@ -140,7 +135,6 @@ static void cut(void)
     memset(state, 0xA5, sizeof state);
     memset(disk, 0xA5, sizeof disk);
     head = tail = 0xA5A5;
-    hindrance = "not started";
 }
 
 /* What the fitter reads. Damage is shown as damage, and not as a log without readings. */
@@ -261,7 +255,7 @@ static void read_superblocks(void)
         start();
         printf("%7u %5u    ", first, second);
         print_log();
-        printf("  %s\n", hindrance == NULL ? "taken" : hindrance);
+        printf("  %s\n", hindrance() == NULL ? "taken" : hindrance());
     }
 }
 

@@ -29,15 +29,15 @@ headOf disk = firstOf (blockIn disk 0)
 abbrev pub tailOf : List ℕ → ℕ
 tailOf disk = secondOf (blockIn disk 0)
 
--- what get gives: the value from the one up to the other
+-- what get gives: the value from head to tail - 1
 abbrev pub LogGets : List ℕ → ℕ → Option ℕ → Type 0
 LogGets disk key v = Gets disk key (headOf disk) (tailOf disk) v
 
--- it is damage: head exceeds tail, or head < tail and tail > 256
+-- the superblock is damage: head exceeds tail, or head < tail and tail > 256
 abbrev pub LogDamaged : List ℕ → Type 0
 LogDamaged disk = Damaged (headOf disk) (tailOf disk)
 
--- the same, computed: the n addresses below head + n, from the highest down
+-- the value, computed: the n addresses below head + n, from the highest down
 unfoldable pub getFrom : List ℕ → ℕ → ℕ → ℕ → Option ℕ
 getFrom disk key head zero = none
 getFrom disk key head (suc n) = cond (keyed disk key (head + n)) (some (secondOf (blockIn disk (head + n)))) (getFrom disk key head n)
