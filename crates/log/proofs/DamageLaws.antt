@@ -16,7 +16,7 @@ use Rattle.relation.proofs.Cases.{not-no}
 use Rattle.model.specs.declared.Check.the-variants.{Range}
 use Rattle.model.specs.Disk.{empty, firstOf, secondOf, blockAt}
 use Rattle.model.specs.Check.{RangeHolds, Holds, damaged}
-use Rattle.model.proofs.CheckLaws.{damaged-true, undamaged, never-damaged, not-damaged}
+use Rattle.model.proofs.CheckLaws.{damaged-true, undamaged, damaged-fails, not-damaged}
 use Rattle.format.specs.Bytes.{byte, Small, bytes4, half, word, blockIn, blocksOf}
 use Rattle.format.proofs.ByteLaws.{number}
 use Rattle.log.specs.Get.{keyed, Gets, headOf, tailOf, LogDamaged, getFrom, getOf}
@@ -43,10 +43,7 @@ of-range disk h = subst (RangeOf disk) (sym (block-at disk 0 (lit< tt))) h
 
 -- no disk that meets the check has a damaged superblock
 meets-undamaged : (disk other : List ℕ) → Meets (blockIn disk 0) other → LogDamaged disk → ⊥
-unfolding RangeHolds
-meets-undamaged disk other m d =
-    let r = subst (RangeOf other) (m .block-0) (range-of other (m .range)) in
-    never-damaged (headOf disk) (tailOf disk) (r .0) (r .1) d
+meets-undamaged disk other m d = damaged-fails (blocksOf other) (headOf disk) (tailOf disk) (subst (RangeOf other) (m .block-0) (range-of other (m .range))) d
 
 -- ---- a superblock that is not damaged, and a disk that is filled besides
 

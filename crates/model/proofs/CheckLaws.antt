@@ -57,11 +57,16 @@ never-damaged head tail l m d = ⊎-elim (λ a. absurd (omega arith)) (λ b. let
 pub not-damaged : (head tail : ℕ) → head ≤ tail → (head < tail → tail ≤ 256) → damaged head tail ≡ false
 not-damaged head tail l m = untrue (damaged head tail) (λ e. never-damaged head tail l m (damaged-true head tail e))
 
--- with any others the range holds of a full disk
+-- with a damaged head and tail the range fails ..
+pub damaged-fails : (disk : List ℕ) (head tail : ℕ) → RangeHolds disk head tail → Damaged head tail → ⊥
+unfolding RangeHolds
+damaged-fails disk head tail r d = never-damaged head tail (r .0) (r .1) d
+
+-- .., and with any others it holds of a full disk
 pub damaged-fails-all : (head tail : ℕ) → Damaged head tail ↔ ((disk : List ℕ) → length disk ≡ 256 → RangeHolds disk head tail → ⊥)
 unfolding RangeHolds
 damaged-fails-all head tail = (
-  (λ d disk n r. never-damaged head tail (r .0) (r .1) d),
+  (λ d disk n r. damaged-fails disk head tail r d),
   λ none. go none (damaged head tail) refl,
 )
   where
