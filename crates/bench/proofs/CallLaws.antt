@@ -5,10 +5,10 @@ use mathlib.Core.Bool.{Bool}
 use mathlib.Core.List.{List, [], _∷_}
 use Prim.Native.Nat.{ℕ, _-_}
 use Rattle.model.specs.declared.Write.{Write}
-use Rattle.format.specs.Encode.{ruleFields}
-use Rattle.cache.specs.State.{ruleBase, ruleCount, writeBase, acceptedCount}
-use Rattle.cache.specs.Sound.{layout, sound}
-use Rattle.cache.specs.Calls.{Left, openOf, handInOf, checked, stepOf}
+use Rattle.file_format.specs.Encode.{ruleFields}
+use Rattle.cache_model.specs.State.{ruleBase, ruleCount, writeBase, acceptedCount}
+use Rattle.cache_model.specs.Sound.{layout, sound}
+use Rattle.cache_model.specs.Calls.{Left, openOf, handInOf, checked, stepOf}
 use Rattle.bench.specs.Sheet.{Call, opening, handIn, step, call, Gave, gave, calls}
 use Rattle.bench.proofs.ZerosLaws.{zeros-pass}
 

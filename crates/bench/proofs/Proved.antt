@@ -26,21 +26,21 @@ use Rattle.model.specs.Check.{damaged, rangeHolds, holds, consistent}
 use Rattle.model.specs.Test.{Test, File, file, initialDisk, Bad, bad, testHolds, schedules, countBelow, validCount, badCount}
 use Rattle.model.specs.Find.{before, picked, pairing, inserted, fromWrite, fromTrace, candidatesOf, suffices, preferred, chosenBelow, chosen}
 use Rattle.model.proofs.TestLaws.{bad-true, true-bad, bad-fails, count-holds}
-use Rattle.format.specs.Bytes.{half, word, blockIn, writeBytes, ruleBytes}
-use Rattle.format.specs.Encode.{fieldBytes, ruleFields, writeFields, checkFieldBytes, checkFields, testBytes, testsBytes, fileBytes}
-use Rattle.format.specs.File.{isTag, isCheck, bodyLength, ruleOf, writeOf, checkOf, countsOf, outOfOrder, overTest, overLimit, ruleFault, bodyFault, faultOf, grown, finished, readFrom, nothing, readOf}
-use Rattle.cyclelaws.proofs.Examples.{K5-not-cyclic, K6-cyclic}
-use Rattle.judging.specs.Judge.{Case, caseOf, caseIn}
-use Rattle.log.specs.Puts.{start, after, putWrites, writesOf, afterAll, logTest, putsOf, emptyPut, Traced, traced, traceOf}
-use Rattle.log.specs.Get.{keyed, getFrom, getOf}
-use Rattle.log.specs.Theorem.{filled, Meets}
-use Rattle.log.proofs.DamageLaws.{filled-meets, damage-exactly}
-use Rattle.printing.specs.Decimal.{decimalWith, decimal}
-use Rattle.printing.specs.Lines.{refusedLine, testLine, lines, textOf, programText}
-use Rattle.finding.specs.Finder.{Found, over, wrote, findAmong, findIn, findOf}
-use Rattle.cache.specs.Needs.{needs, needsRing, met, readyFrom, ready}
-use Rattle.cache.specs.State.{ruleIn, writeIn, rulesIn, writesIn, storedIn, rulesBytes, opened, entryBytes, handed, marked, storedOn}
-use Rattle.cache.specs.Calls.{openWith, openOf, late, storing, stepped}
+use Rattle.file_format.specs.Bytes.{half, word, blockIn, writeBytes, ruleBytes}
+use Rattle.file_format.specs.Encode.{fieldBytes, ruleFields, writeFields, checkFieldBytes, checkFields, testBytes, testsBytes, fileBytes}
+use Rattle.file_format.specs.File.{isTag, isCheck, bodyLength, ruleOf, writeOf, checkOf, countsOf, outOfOrder, overTest, overLimit, ruleFault, bodyFault, faultOf, grown, finished, readFrom, nothing, readOf}
+use Rattle.rule_cyclelaws.proofs.Examples.{K5-not-cyclic, K6-cyclic}
+use Rattle.judge_cases.specs.Judge.{Case, caseOf, caseIn}
+use Rattle.log_get.specs.Puts.{start, after, putWrites, writesOf, afterAll, logTest, putsOf, emptyPut, Traced, traced, traceOf}
+use Rattle.log_get.specs.Get.{keyed, getFrom, getOf}
+use Rattle.log_get.specs.Theorem.{filled, Meets}
+use Rattle.log_get.proofs.DamageLaws.{filled-meets, damage-exactly}
+use Rattle.judge_text.specs.Decimal.{decimalWith, decimal}
+use Rattle.judge_text.specs.Lines.{refusedLine, testLine, lines, textOf, programText}
+use Rattle.find_call.specs.Finder.{Found, over, wrote, findAmong, findIn, findOf}
+use Rattle.cache_model.specs.Needs.{needs, needsRing, met, readyFrom, ready}
+use Rattle.cache_model.specs.State.{ruleIn, writeIn, rulesIn, writesIn, storedIn, rulesBytes, opened, entryBytes, handed, marked, storedOn}
+use Rattle.cache_model.specs.Calls.{openWith, openOf, late, storing, stepped}
 use Rattle.bench.proofs.CallLaws.{all-called}
 use Rattle.bench.specs.Sheet.{put, K, together, Finding, RangeAt, Call, Gave, gave, blank, Calling, Sheet, K-initial, K-main, Unstarred, trimmed, Requested}
 

@@ -8,7 +8,7 @@ use lib.ListN.{getD, take, drop}
 use lib.Seq.{getD-drop}
 use Rattle.relation.specs.Lists.{all, allBelow}
 use Rattle.relation.proofs.ListLaws.{allBelow-intro, allBelow-ext}
-use Rattle.cache.specs.Sound.{zeros}
+use Rattle.cache_model.specs.Sound.{zeros}
 
 and-assoc : (a b c : Bool) → (a && b) && c ≡ a && (b && c)
 and-assoc true b c = refl

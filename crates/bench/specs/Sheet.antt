@@ -16,16 +16,16 @@ use Rattle.model.specs.Disk.{block, blockAt}
 use Rattle.model.specs.Cyclic.{Cyclic, cyclic}
 use Rattle.model.specs.Check.{holds}
 use Rattle.model.specs.Test.{Test, test, file, TestHolds, Bad, validCount, badCount}
-use Rattle.cyclelaws.specs.Examples.{rule}
-use Rattle.format.specs.Encode.{ruleFields, testBytes, fileBytes}
-use Rattle.judging.specs.Judge.{caseIn}
-use Rattle.log.specs.Puts.{Put, start, writesOf, logTest, traced, traceOf}
-use Rattle.log.specs.Get.{getOf}
-use Rattle.log.specs.Theorem.{filled, Meets}
-use Rattle.printing.specs.Lines.{refusedText, failsText, programText}
-use Rattle.finding.specs.Finder.{Found, found, findOf}
-use Rattle.cache.specs.State.{storedOn}
-use Rattle.cache.specs.Calls.{Left, openOf, handInOf, stepOf, given}
+use Rattle.rule_cyclelaws.specs.Examples.{rule}
+use Rattle.file_format.specs.Encode.{ruleFields, testBytes, fileBytes}
+use Rattle.judge_cases.specs.Judge.{caseIn}
+use Rattle.log_get.specs.Puts.{Put, start, writesOf, logTest, traced, traceOf}
+use Rattle.log_get.specs.Get.{getOf}
+use Rattle.log_get.specs.Theorem.{filled, Meets}
+use Rattle.judge_text.specs.Lines.{refusedText, failsText, programText}
+use Rattle.find_call.specs.Finder.{Found, found, findOf}
+use Rattle.cache_model.specs.State.{storedOn}
+use Rattle.cache_model.specs.Calls.{Left, openOf, handInOf, stepOf, given}
 
 -- ---- the inputs
 

@@ -21,37 +21,37 @@ use Rattle.model.specs.Find.{candidatesOf, chosen, picked}
 use Rattle.model.specs.Schedule.{valid}
 use Rattle.model.specs.Test.{Test, File, schedules, Bad, bad, validCount, badCount}
 use Rattle.model.proofs.TestLaws.{count-most}
-use Rattle.format.specs.Bytes.{blockIn}
-use Rattle.format.specs.File.{readOf}
-use Rattle.format.specs.Held.{noTest, testOf}
-use Rattle.format.specs.Scan.{scanOf}
-use Rattle.format.specs.declared.Scan.{Scan}
-use Rattle.format.specs.declared.Scan.the-variants.{Accepted, Refused}
-use Rattle.reader.specs.Limits.{TestLimits}
-use Rattle.reader.proofs.CallerLaws.{holding-limits, refused-limits}
-use Rattle.reader.proofs.TellsLaws.{tells}
-use Rattle.counting.specs.declared.Verdict.{Verdict}
-use Rattle.counting.specs.declared.Verdict.the-variants.{Holds, Fails}
-use Rattle.judging.specs.Judge.{Case, caseOf, caseIn, Decides}
-use Rattle.answers.specs.Judged.{judgementCode, verdictCode, JudgeAnswer, VerdictAnswer}
-use Rattle.asking.specs.File.{sizes, readAnswer, located, locateAnswer, cyclicIn, cyclicAnswer}
-use Rattle.asking.proofs.FileLaws.{packed}
-use Rattle.printing.specs.Decimal.{decimal}
-use Rattle.printing.specs.Lines.{refusedLine, testLine, lines, textOf, programText, holdsText, failsText}
-use Rattle.printing.proofs.WriteLaws.{decimal-most}
-use Rattle.finding.specs.Finder.{Found, wrote, findAmong, findIn, findOf}
+use Rattle.file_format.specs.Bytes.{blockIn}
+use Rattle.file_format.specs.File.{readOf}
+use Rattle.file_format.specs.Held.{noTest, testOf}
+use Rattle.file_format.specs.Scan.{scanOf}
+use Rattle.file_format.specs.declared.Scan.{Scan}
+use Rattle.file_format.specs.declared.Scan.the-variants.{Accepted, Refused}
+use Rattle.file_reader.specs.Limits.{TestLimits}
+use Rattle.file_reader.proofs.CallerLaws.{holding-limits, refused-limits}
+use Rattle.file_reader.proofs.TellsLaws.{tells}
+use Rattle.judge_counting.specs.declared.Verdict.{Verdict}
+use Rattle.judge_counting.specs.declared.Verdict.the-variants.{Holds, Fails}
+use Rattle.judge_cases.specs.Judge.{Case, caseOf, caseIn, Decides}
+use Rattle.judge_answers.specs.Judged.{judgementCode, verdictCode, JudgeAnswer, VerdictAnswer}
+use Rattle.file_calls.specs.File.{sizes, readAnswer, located, locateAnswer, cyclicIn, cyclicAnswer}
+use Rattle.file_calls.proofs.FileLaws.{packed}
+use Rattle.judge_text.specs.Decimal.{decimal}
+use Rattle.judge_text.specs.Lines.{refusedLine, testLine, lines, textOf, programText, holdsText, failsText}
+use Rattle.judge_text.proofs.WriteLaws.{decimal-most}
+use Rattle.find_call.specs.Finder.{Found, wrote, findAmong, findIn, findOf}
 use Rattle.model.specs.Check.{damaged}
-use Rattle.log.specs.Get.{keyed, headOf, tailOf, getFrom, getOf, valueCode}
-use Rattle.format.specs.Encode.{testBytes}
-use Rattle.log.specs.Puts.{Put, Traced, traced, putsOf, logTest, emptyPut, traceOf}
+use Rattle.log_get.specs.Get.{keyed, headOf, tailOf, getFrom, getOf, valueCode}
+use Rattle.file_format.specs.Encode.{testBytes}
+use Rattle.log_get.specs.Puts.{Put, Traced, traced, putsOf, logTest, emptyPut, traceOf}
 use Rattle.workbench.specs.Printed.{printedOf}
-use Rattle.cache.specs.Needs.{needsRing, ready}
-use Rattle.cache.specs.State.{stateSize, acceptedCount, rulesIn, writesIn, storedIn}
-use Rattle.cache.specs.Sound.{sound}
-use Rattle.cache.specs.Calls.{Left, late, storing, checked, stepped, drained, openWith, openOf, handInOf, stepOf, drainOf}
-use Rattle.soundness.proofs.SoundLaws.{sound-true}
-use Rattle.soundlaws.proofs.ReadyLaws.{ready-earliest}
-use Rattle.contents.proofs.ContentSteps.{writes-length}
+use Rattle.cache_model.specs.Needs.{needsRing, ready}
+use Rattle.cache_model.specs.State.{stateSize, acceptedCount, rulesIn, writesIn, storedIn}
+use Rattle.cache_model.specs.Sound.{sound}
+use Rattle.cache_model.specs.Calls.{Left, late, storing, checked, stepped, drained, openWith, openOf, handInOf, stepOf, drainOf}
+use Rattle.cache_soundness.proofs.SoundLaws.{sound-true}
+use Rattle.cache_soundlaws.proofs.ReadyLaws.{ready-earliest}
+use Rattle.cache_contents.proofs.ContentSteps.{writes-length}
 use Rattle.exports.specs.Theorem.{bit63, ToldApart, NoneReachesBit63}
 
 -- ---- outcomes by cases

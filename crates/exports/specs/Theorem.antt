@@ -6,13 +6,13 @@ use mathlib.Core.Option.{Option}
 use lib.ListN.{length}
 use Rattle.model.specs.declared.Write.{Write}
 use Rattle.model.specs.Answer.{Outcome, answer, refused, refusal}
-use Rattle.cache.specs.Calls.{openOf, handInOf, stepOf, drainOf}
-use Rattle.log.specs.Get.{getOf, valueCode}
-use Rattle.log.specs.Puts.{traceOf}
-use Rattle.judging.specs.Judge.{Case, caseIn}
-use Rattle.answers.specs.Judged.{JudgeAnswer, VerdictAnswer}
-use Rattle.asking.specs.File.{readAnswer, locateAnswer, cyclicAnswer}
-use Rattle.finding.specs.Finder.{findOf}
+use Rattle.cache_model.specs.Calls.{openOf, handInOf, stepOf, drainOf}
+use Rattle.log_get.specs.Get.{getOf, valueCode}
+use Rattle.log_get.specs.Puts.{traceOf}
+use Rattle.judge_cases.specs.Judge.{Case, caseIn}
+use Rattle.judge_answers.specs.Judged.{JudgeAnswer, VerdictAnswer}
+use Rattle.file_calls.specs.File.{readAnswer, locateAnswer, cyclicAnswer}
+use Rattle.find_call.specs.Finder.{findOf}
 use Rattle.workbench.specs.Printed.{printedOf}
 
 -- 2 to the power 63

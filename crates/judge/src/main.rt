@@ -3,9 +3,9 @@
 ghost use mathlib.Core.List.{List};
 ghost use Prim.Native.Nat.{ℕ, _+_, _≤_};
 ghost use lib.ListN.{length};
-ghost use Rattle.printing.specs.Lines.{programText};
-ghost use Rattle.printing.specs.Theorem.{enough, Read};
-ghost use Rattle.writing.specs.Writing.{Wrote};
+ghost use Rattle.judge_text.specs.Lines.{programText};
+ghost use Rattle.judge_text.specs.Theorem.{enough, Read};
+ghost use Rattle.file_writing.specs.Writing.{Wrote};
 
 // Reads until the buffer is full or the input ends, and answers how many bytes it read; one more
 // than the buffer's length if a read fails.
@@ -33,7 +33,7 @@ fn render(buffer: &[u8], n: usize, out: &mut [u8]) -> usize
     requires { ⌜ (enough ≤ length (now buffer)) × ((n ≤ length (now buffer)) × (400 ≤ length (now out))) ⌝ }
     ensures { λ r. ⌜ ((input : List ℕ) → Read input (now (buffer .entry)) n → Wrote (now (out .entry)) 0 (programText input) (now (out .exit)) r) × (r ≤ 400) ⌝ }
 {
-    printing::judge_lines(&buffer[..n], out)
+    judge_text::judge_lines(&buffer[..n], out)
 }
 
 // Judges what was read into `buffer`, n bytes, by way of `out`.

@@ -1,11 +1,11 @@
 // The write-back cache for the receiver's C host: a state of 1,024 lent bytes, a disk of 1,024 lent
 // bytes. Every refusal is `refusal number place` and leaves all bytes.
 ghost use mathlib.Core.List.{[]};
-use format::Scan;
+use file_format::Scan;
 ghost use mathlib.Core.Path.{_≡_};
-ghost use Rattle.cache.specs.Calls.{openOf, handInOf, given, stepOf, drainOf};
-ghost use Rattle.log.specs.Get.{getAnswer};
-ghost use Rattle.storing.specs.Given.{callLeaves, codedLeft, callLeavesState, codedKept};
+ghost use Rattle.cache_model.specs.Calls.{openOf, handInOf, given, stepOf, drainOf};
+ghost use Rattle.log_get.specs.Get.{getAnswer};
+ghost use Rattle.cache_steps.specs.Given.{callLeaves, codedLeft, callLeavesState, codedKept};
 
 // Stores the earliest waiting write whose needs are all stored, and answers its place from 1; or 0.
 #[no_mangle]
@@ -13,12 +13,12 @@ pub extern "C" fn pelzhondy_step(state: &mut [u8], disk: &mut [u8]) -> u64
     ensures { λ r. ⌜ callLeaves r (now (state .exit)) (now (disk .exit)) ≡ codedLeft (stepOf (now (state .entry)) (now (disk .entry))) ⌝ }
 {
     let mut rows = [0u64; 64];
-    let number = storing::fault(&mut rows, state, disk);
+    let number = cache_steps::fault(&mut rows, state, disk);
     if number != 0 {
         return model::refuse(number, 0);
     }
-    let mask = layout::stored_mask(state);
-    storing::step_sound(state, disk, &rows, mask)
+    let mask = cache_layout::stored_mask(state);
+    cache_steps::step_sound(state, disk, &rows, mask)
 }
 
 // As many steps as there are waiting writes, and how many.
@@ -27,12 +27,12 @@ pub extern "C" fn pelzhondy_drain(state: &mut [u8], disk: &mut [u8]) -> u64
     ensures { λ r. ⌜ callLeaves r (now (state .exit)) (now (disk .exit)) ≡ codedLeft (drainOf (now (state .entry)) (now (disk .entry))) ⌝ }
 {
     let mut rows = [0u64; 64];
-    let number = storing::fault(&mut rows, state, disk);
+    let number = cache_steps::fault(&mut rows, state, disk);
     if number != 0 {
         return model::refuse(number, 0);
     }
-    let mask = layout::stored_mask(state);
-    storing::drain_sound(state, disk, &rows, mask)
+    let mask = cache_layout::stored_mask(state);
+    cache_steps::drain_sound(state, disk, &rows, mask)
 }
 
 // Takes a write in, and answers its place from 1.
@@ -47,12 +47,12 @@ pub extern "C" fn pelzhondy_hand_in(
 ) -> u64
     ensures { λ r. ⌜ callLeavesState r (now (state .exit)) ≡ codedKept (handInOf (given address name epoch first second) (now (state .entry)) []) ⌝ }
 {
-    let w = appending::given(address, name, epoch, first, second);
-    let number = handing::hand_fault(state, w);
+    let w = cache_appending::given(address, name, epoch, first, second);
+    let number = cache_handin::hand_fault(state, w);
     if number != 0 {
         return model::refuse(number, 0);
     }
-    appending::append(state, w)
+    cache_appending::append(state, w)
 }
 
 // Starts a state with a file's rules and no writes. Answers 0.
@@ -63,7 +63,7 @@ pub extern "C" fn pelzhondy_open(state: &mut [u8], file: &[u8]) -> u64
     if state.len() != 1024 {
         return model::refuse(14, 0);
     }
-    match reader::read(file, 0) {
+    match file_reader::read(file, 0) {
         Scan::Accepted {
             rules,
             tests,
@@ -72,7 +72,7 @@ pub extern "C" fn pelzhondy_open(state: &mut [u8], file: &[u8]) -> u64
             if 0 < tests {
                 return model::refuse(22, 0);
             }
-            opening::open_with(state, loading::file_rules(file, rules))
+            cache_opening::open_with(state, file_loading::file_rules(file, rules))
         }
         Scan::Refused { number, place } => model::refuse(number as u64, place as u64),
     }
@@ -84,5 +84,5 @@ pub extern "C" fn pelzhondy_open(state: &mut [u8], file: &[u8]) -> u64
 pub extern "C" fn pelzhondy_get(disk: &[u8], key: u16) -> u64
     ensures { λ r. ⌜ r ≡ getAnswer (now (disk .entry)) key ⌝ }
 {
-    log::get(disk, key)
+    log_get::get(disk, key)
 }

@@ -2,7 +2,7 @@ pub mod ListLaws
 pub mod BitLaws
 pub mod TransitiveLaws
 pub mod FiniteLaws
-pub mod Steps
+pub mod ClosureSteps
 pub mod Cases
 pub mod MaskLaws
 pub mod UnionLaws

@@ -7,8 +7,8 @@ use lib.ListN.{length}
 use borrow.Author.Needs.{needs}
 use borrow.Author.Tests.{lt-ltb, le-ltb}
 use Rattle.model.specs.Answer.{refusal}
-use Rattle.writing.specs.Writing.{Wrote}
-use Rattle.printing.specs.Lines.{programText}
+use Rattle.file_writing.specs.Writing.{Wrote}
+use Rattle.judge_text.specs.Lines.{programText}
 use Rattle.workbench.specs.Printed.{printed, printedOf}
 
 pub print-short : (s out : List ℕ) (r : ℕ) → length out < 400 → r ≡ refusal 12 0 → printed r out ≡ printedOf s out

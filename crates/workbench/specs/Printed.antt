@@ -6,7 +6,7 @@ use lib.Dec.{ltb}
 use lib.ListN.{length}
 use lib.Seq.{sets}
 use Rattle.model.specs.Answer.{refusal}
-use Rattle.printing.specs.Lines.{programText}
+use Rattle.judge_text.specs.Lines.{programText}
 
 -- what a call leaves: its answer and the buffer
 pub record Printed : Type 0 where

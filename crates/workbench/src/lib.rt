@@ -1,21 +1,21 @@
 // The tester's interface: numbers and byte slices. Every refusal is `refusal number place`.
-use judging::Decided;
-use judging::Judged;
+use judge_cases::Decided;
+use judge_cases::Judged;
 ghost use mathlib.Core.Path.{_≡_};
 ghost use Rattle.model.specs.Answer.{coded};
-ghost use Rattle.judging.specs.Judge.{caseIn};
-ghost use Rattle.finding.specs.Finder.{findLeaves, foundCoded, findOf};
-ghost use Rattle.tracing.specs.Traced.{traceOut, traceAnswer};
+ghost use Rattle.judge_cases.specs.Judge.{caseIn};
+ghost use Rattle.find_call.specs.Finder.{findLeaves, foundCoded, findOf};
+ghost use Rattle.log_trace.specs.Traced.{traceOut, traceAnswer};
 ghost use Rattle.workbench.specs.Printed.{printed, printedOf};
-ghost use Rattle.answers.specs.Judged.{JudgeAnswer, VerdictAnswer};
-ghost use Rattle.asking.specs.File.{readAnswer, locateAnswer, cyclicAnswer};
+ghost use Rattle.judge_answers.specs.Judged.{JudgeAnswer, VerdictAnswer};
+ghost use Rattle.file_calls.specs.File.{readAnswer, locateAnswer, cyclicAnswer};
 
 // How many rules, and 256 times how many tests, a file holds.
 #[no_mangle]
 pub extern "C" fn pelzhondy_read(file: &[u8]) -> u64
     ensures { λ r. ⌜ r ≡ coded (readAnswer (now (file .entry))) ⌝ }
 {
-    asking::read_counts(file)
+    file_calls::read_counts(file)
 }
 
 // Where test `test`, counted from 1, stands: the offset of its first field, and from bits 16, 24
@@ -24,7 +24,7 @@ pub extern "C" fn pelzhondy_read(file: &[u8]) -> u64
 pub extern "C" fn pelzhondy_locate(file: &[u8], test: u64) -> u64
     ensures { λ r. ⌜ r ≡ coded (locateAnswer (now (file .entry)) test) ⌝ }
 {
-    asking::locate_test(file, test)
+    file_calls::locate_test(file, test)
 }
 
 // Whether the rules of a file are cyclic: 1, or 0.
@@ -32,7 +32,7 @@ pub extern "C" fn pelzhondy_locate(file: &[u8], test: u64) -> u64
 pub extern "C" fn pelzhondy_cyclic(file: &[u8]) -> u64
     ensures { λ r. ⌜ r ≡ coded (cyclicAnswer (now (file .entry))) ⌝ }
 {
-    asking::cyclic_rules(file)
+    file_calls::cyclic_rules(file)
 }
 
 // Judges test `test`, counted from 1: how many schedules are valid, from bit 21 on how many of these
@@ -41,8 +41,8 @@ pub extern "C" fn pelzhondy_cyclic(file: &[u8]) -> u64
 pub extern "C" fn pelzhondy_judge(file: &[u8], test: u64) -> u64
     ensures { λ r. ⌜ JudgeAnswer (caseIn (now (file .entry)) test) r ⌝ }
 {
-    match judging::judge(file, test) {
-        Judged::Counts(j) => answers::code_of(j),
+    match judge_cases::judge(file, test) {
+        Judged::Counts(j) => judge_answers::code_of(j),
         Judged::Refused { number, place } => model::refuse(number as u64, place as u64),
     }
 }
@@ -53,8 +53,8 @@ pub extern "C" fn pelzhondy_judge(file: &[u8], test: u64) -> u64
 pub extern "C" fn pelzhondy_verdict(file: &[u8], test: u64) -> u64
     ensures { λ r. ⌜ VerdictAnswer (caseIn (now (file .entry)) test) r ⌝ }
 {
-    match judging::decide(file, test) {
-        Decided::As(v) => answers::code_of_verdict(v),
+    match judge_cases::decide(file, test) {
+        Decided::As(v) => judge_answers::code_of_verdict(v),
         Decided::Refused { number, place } => model::refuse(number as u64, place as u64),
     }
 }
@@ -68,7 +68,7 @@ pub extern "C" fn pelzhondy_judge_lines(file: &[u8], out: &mut [u8]) -> u64
     if out.len() < 400 {
         return model::refuse(12, 0);
     }
-    printing::judge_lines(file, out) as u64
+    judge_text::judge_lines(file, out) as u64
 }
 
 // The smallest rule set under which all tests of a file hold: its rules as fields at the front of
@@ -77,7 +77,7 @@ pub extern "C" fn pelzhondy_judge_lines(file: &[u8], out: &mut [u8]) -> u64
 pub extern "C" fn pelzhondy_find(file: &[u8], buffer: &mut [u8]) -> u64
     ensures { λ r. ⌜ findLeaves r (now (buffer .exit)) ≡ foundCoded (findOf (now (file .entry)) (now (buffer .entry))) ⌝ }
 {
-    finding::find(file, buffer)
+    find_call::find(file, buffer)
 }
 
 // The test of two programs of puts, 4 bytes each (key 2, value 2), with a range check at 0, at the
@@ -86,5 +86,5 @@ pub extern "C" fn pelzhondy_find(file: &[u8], buffer: &mut [u8]) -> u64
 pub extern "C" fn pelzhondy_trace(initial: &[u8], main: &[u8], buffer: &mut [u8]) -> u64
     ensures { λ r. ⌜ traceOut r (now (buffer .exit)) ≡ traceAnswer (now (initial .entry)) (now (main .entry)) (now (buffer .entry)) ⌝ }
 {
-    tracing::trace(initial, main, buffer)
+    log_trace::trace(initial, main, buffer)
 }

@@ -13,7 +13,7 @@ use reference::writes::Rule;
 use crate::inputs;
 use crate::measure::{medians, Call};
 
-/// `schedules::is_valid`, with the same words; a test of the documents compares them.
+/// `judge_schedules::is_valid`, with the same words; a test of the documents compares them.
 fn is_valid(
     low: &impl Index<usize, Output = u64>,
     high: &impl Index<usize, Output = u64>,
@@ -27,7 +27,7 @@ fn is_valid(
     next & s == next
 }
 
-/// `schedules::past_invalid`, likewise: what the verdict asks before.
+/// `judge_schedules::past_invalid`, likewise: what the verdict asks before.
 fn past_invalid(high: &impl Index<usize, Output = u64>, s: u64, total: u64) -> u64 {
     if s & 63 != 0 {
         return s;

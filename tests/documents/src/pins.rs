@@ -152,7 +152,7 @@ impl Sources {
         let is = |path: &&String| {
             path.ends_with("/specs/Theorem.antt")
                 || *path == "bench/specs/Sheet.antt"
-                || *path == "judging/specs/Examples.antt"
+                || *path == "judge_cases/specs/Examples.antt"
         };
         self.0.keys().filter(is).collect()
     }

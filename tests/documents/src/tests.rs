@@ -250,7 +250,7 @@ fn another_statement_is_noticed() {
     let expected = names.iter().map(|name| format!("{} changed: ", name));
     assert_eq!(found.len(), names.len());
     assert!(expected.zip(&found).all(|(start, line)| line.starts_with(&start)), "{:?}", found);
-    let path = "runs/specs/Theorem.antt";
+    let path = "run_laws/specs/Theorem.antt";
     let other = sources.get(path).replace("Schedule.{labelAt, Valid}", "Elsewhere.{labelAt, Valid}");
     let found = THEOREMS.differences(&sources.with(path, other));
     assert!(found.iter().any(|line| line.starts_with(&format!("{} Safe changed", path))), "{:?}", found);
@@ -299,17 +299,17 @@ fn every_theorem_is_proved() {
 const DISK_PASSED_ON: [(&str, &str, &[&str]); 6] = [
     ("receiver", "pelzhondy_step", &["fault", "step_sound"]),
     ("receiver", "pelzhondy_drain", &["fault", "drain_sound"]),
-    ("stores", "store_block", &["put_word"]),
-    ("storing", "store_write", &["store_block"]),
-    ("storing", "step_sound", &["store_write"]),
-    ("storing", "drain_sound", &["step_sound"]),
+    ("cache_stores", "store_block", &["put_word"]),
+    ("cache_steps", "store_write", &["store_block"]),
+    ("cache_steps", "step_sound", &["store_write"]),
+    ("cache_steps", "drain_sound", &["step_sound"]),
 ];
 
 /// Who calls what leads to a store.
 const CALLERS: [(&str, &[(&str, &str)]); 4] = [
-    ("store_block", &[("storing", "store_write")]),
-    ("store_write", &[("storing", "step_sound")]),
-    ("step_sound", &[("receiver", "pelzhondy_step"), ("storing", "drain_sound")]),
+    ("store_block", &[("cache_steps", "store_write")]),
+    ("store_write", &[("cache_steps", "step_sound")]),
+    ("step_sound", &[("receiver", "pelzhondy_step"), ("cache_steps", "drain_sound")]),
     ("drain_sound", &[("receiver", "pelzhondy_drain")]),
 ];
 
@@ -365,7 +365,7 @@ fn stores_elsewhere(sources: &Sources) -> Vec<String> {
 #[test]
 fn the_turns_counted_are_those_of_the_code() {
     let copies = functions(&text(&target("tests/benchmark/src/turns.rs")));
-    let code = functions(&text(&target("schedules/src/lib.rt")));
+    let code = functions(&text(&target("judge_schedules/src/lib.rt")));
     for name in ["is_valid", "past_invalid"] {
         let body = |functions: &[code::Function]| {
             let found = functions.iter().find(|function| function.name == name);
@@ -374,11 +374,11 @@ fn the_turns_counted_are_those_of_the_code() {
         assert_eq!(body(&copies), body(&code), "{}", name);
     }
     // The verdict asks both in turn, as the copy's step does, and neither anywhere else.
-    let all = functions(&text(&target("counting/src/lib.rt")));
+    let all = functions(&text(&target("judge_counting/src/lib.rt")));
     let search = all.iter().find(|function| function.name == "first_bad").expect("first_bad");
-    let asked = "let from = schedules::past_invalid(high, s, total); \
+    let asked = "let from = judge_schedules::past_invalid(high, s, total); \
                  if from != s { s = from; continue 'search; } \
-                 if !schedules::is_valid(low, high, s) { s += 1; continue 'search; }";
+                 if !judge_schedules::is_valid(low, high, s) { s += 1; continue 'search; }";
     assert!(search.body.contains(asked), "{}", search.body);
     assert_eq!((uses(&search.body, "is_valid"), uses(&search.body, "past_invalid")), (1, 1));
 }
@@ -393,14 +393,14 @@ fn only_steps_store() {
 fn another_store_is_noticed() {
     let sources = Sources::load();
     for (path, old, new) in [
-        ("storing/src/lib.rt", "= step_sound(", "= store_write("),
-        ("storing/src/lib.rt", "    store_write(", "    // store_write("),
-        ("storing/src/lib.rt", "    store_write(", "    store_write(state, disk, 0);\n    store_write("),
-        ("storing/src/lib.rt", "    store_write(", "    disk[0] = 0;\n    store_write("),
-        ("storing/src/lib.rt", "    store_write(", "    let d = disk;\n    store_write("),
-        ("storing/src/lib.rt", "disk: &[u8]", "disk: &mut [u8]"),
-        ("receiver/src/lib.rt", "    appending::append(", "    stores::store_block(state, w);\n    appending::append("),
-        ("appending/src/lib.rt", "pub fn append(", "pub fn append(disk: &mut [u8], "),
+        ("cache_steps/src/lib.rt", "= step_sound(", "= store_write("),
+        ("cache_steps/src/lib.rt", "    store_write(", "    // store_write("),
+        ("cache_steps/src/lib.rt", "    store_write(", "    store_write(state, disk, 0);\n    store_write("),
+        ("cache_steps/src/lib.rt", "    store_write(", "    disk[0] = 0;\n    store_write("),
+        ("cache_steps/src/lib.rt", "    store_write(", "    let d = disk;\n    store_write("),
+        ("cache_steps/src/lib.rt", "disk: &[u8]", "disk: &mut [u8]"),
+        ("receiver/src/lib.rt", "    cache_appending::append(", "    cache_stores::store_block(state, w);\n    cache_appending::append("),
+        ("cache_appending/src/lib.rt", "pub fn append(", "pub fn append(disk: &mut [u8], "),
     ] {
         let changed = sources.get(path).replacen(old, new, 1);
         assert_ne!(changed, sources.get(path), "{} has no {}", path, old);

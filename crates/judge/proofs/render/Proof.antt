@@ -3,7 +3,7 @@ use mathlib.Core.Path.{sym}
 use native.Mathlib.Omega.{arith}
 use lib.Seq.{length-take-le}
 use borrow.Author.Needs.{needs}
-use Rattle.printing.proofs.PrefixLaws.{whole-text}
+use Rattle.judge_text.proofs.PrefixLaws.{whole-text}
 use Rattle.judge.proofs.render.Statement.{statement}
 use Rattle.judge.proofs.render.Tie as tie
 

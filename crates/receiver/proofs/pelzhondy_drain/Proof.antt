@@ -1,6 +1,6 @@
 -- `receiver::pelzhondy_drain` meets its contract: a refusal, or the drain of a sound state.
-use Rattle.cache.specs.Calls.{drainOf}
-use Rattle.storing.proofs.Steps.{calling, clean-few, cleared}
+use Rattle.cache_model.specs.Calls.{drainOf}
+use Rattle.cache_steps.proofs.StepLaws.{calling, clean-few, cleared}
 use Rattle.receiver.proofs.pelzhondy_drain.Statement.{statement}
 use Rattle.receiver.proofs.pelzhondy_drain.Tie as tie
 

@@ -1,5 +1,5 @@
 -- `receiver::pelzhondy_hand_in` meets its contract: a refusal, or the write appended.
-use Rattle.handing.proofs.Steps.{handing, hand-room}
+use Rattle.cache_handin.proofs.HandInSteps.{handing, hand-room}
 use Rattle.receiver.proofs.pelzhondy_hand_in.Statement.{statement}
 use Rattle.receiver.proofs.pelzhondy_hand_in.Tie as tie
 

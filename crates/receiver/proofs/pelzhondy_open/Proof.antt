@@ -1,6 +1,6 @@
 -- `receiver::pelzhondy_open` meets its contract: one law for each of its returns.
 use native.Mathlib.Omega.{arith}
-use Rattle.opening.proofs.Steps.{opening, open-fits, refusal-fits}
+use Rattle.cache_opening.proofs.OpenSteps.{opening, open-fits, refusal-fits}
 use Rattle.receiver.proofs.pelzhondy_open.Statement.{statement}
 use Rattle.receiver.proofs.pelzhondy_open.Tie as tie
 

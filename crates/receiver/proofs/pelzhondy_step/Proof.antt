@@ -1,6 +1,6 @@
 -- `receiver::pelzhondy_step` meets its contract: a refusal, or the step of a sound state.
-use Rattle.cache.specs.Calls.{stepOf}
-use Rattle.storing.proofs.Steps.{calling, clean-few, cleared}
+use Rattle.cache_model.specs.Calls.{stepOf}
+use Rattle.cache_steps.proofs.StepLaws.{calling, clean-few, cleared}
 use Rattle.receiver.proofs.pelzhondy_step.Statement.{statement}
 use Rattle.receiver.proofs.pelzhondy_step.Tie as tie
 

@@ -2,7 +2,7 @@
 use mathlib.Core.Path.{_≡_}
 use Prim.Native.Nat.{_≤_, _-_}
 use Rattle.relation.specs.Finite.{closed}
-use Rattle.relation.proofs.Steps.{steps}
+use Rattle.relation.proofs.ClosureSteps.{steps}
 use Rattle.relation.proofs.close.Statement.{statement}
 use Rattle.relation.proofs.close.Tie as tie
 

@@ -1,5 +1,5 @@
 -- `relation::has_bit` meets its contract: the lowest bit of the shifted mask is the bit that is asked for (`test-bit`).
-use Rattle.relation.proofs.Steps.{steps}
+use Rattle.relation.proofs.ClosureSteps.{steps}
 use Rattle.relation.proofs.has_bit.Statement.{statement}
 use Rattle.relation.proofs.has_bit.Tie as tie
 

@@ -3,7 +3,7 @@ use mathlib.Core.Path.{_≡_}
 use mathlib.Core.Bool.{false}
 use Prim.Native.Nat.{_≤_, _-_}
 use Rattle.relation.specs.Finite.{loops}
-use Rattle.relation.proofs.Steps.{steps}
+use Rattle.relation.proofs.ClosureSteps.{steps}
 use Rattle.relation.proofs.has_loop.Statement.{statement}
 use Rattle.relation.proofs.has_loop.Tie as tie
 

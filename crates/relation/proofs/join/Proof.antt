@@ -1,5 +1,5 @@
 -- `relation::join` meets its contract: one law for each of its two returns.
-use Rattle.relation.proofs.Steps.{steps}
+use Rattle.relation.proofs.ClosureSteps.{steps}
 use Rattle.relation.proofs.join.Statement.{statement}
 use Rattle.relation.proofs.join.Tie as tie
 

@@ -3,7 +3,7 @@ use mathlib.Core.Path.{_≡_}
 use Prim.Native.Nat.{_≤_, _-_}
 use lib.ListN.{length}
 use Rattle.relation.specs.Finite.{joined}
-use Rattle.relation.proofs.Steps.{steps, mapped}
+use Rattle.relation.proofs.ClosureSteps.{steps, mapped}
 use Rattle.relation.proofs.join_all.Statement.{statement}
 use Rattle.relation.proofs.join_all.Tie as tie
 

@@ -1,5 +1,5 @@
 -- `relation::with_bit` meets its contract: to join a power of two is to set its bit (`set-bit`).
-use Rattle.relation.proofs.Steps.{steps}
+use Rattle.relation.proofs.ClosureSteps.{steps}
 use Rattle.relation.proofs.with_bit.Statement.{statement}
 use Rattle.relation.proofs.with_bit.Tie as tie
 

@@ -1,5 +1,5 @@
 -- `workbench::pelzhondy_judge` meets its contract: the judge's refusal, or its numbers as one.
-use Rattle.answers.proofs.JudgedLaws.{judged, counts-few, refused-fits}
+use Rattle.judge_answers.proofs.JudgedLaws.{judged, counts-few, refused-fits}
 use borrow.Author.Needs.{needs}
 use Rattle.workbench.proofs.pelzhondy_judge.Statement.{statement}
 use Rattle.workbench.proofs.pelzhondy_judge.Tie as tie

@@ -1,5 +1,5 @@
 -- `workbench::pelzhondy_verdict` meets its contract: the verdict's refusal, or the verdict as one number.
-use Rattle.answers.proofs.JudgedLaws.{judged, decided-fits}
+use Rattle.judge_answers.proofs.JudgedLaws.{judged, decided-fits}
 use borrow.Author.Needs.{needs}
 use Rattle.workbench.proofs.pelzhondy_verdict.Statement.{statement}
 use Rattle.workbench.proofs.pelzhondy_verdict.Tie as tie

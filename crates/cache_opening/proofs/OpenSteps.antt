@@ -1,0 +1,157 @@
+-- The steps of opening: one law for each return and each turn of a loop, whose premises are what is known at that place.
+use mathlib.Core.Path.{_≡_, refl, sym, ap, _∙_}
+use mathlib.Core.Bool.{Bool, true, false, cond}
+use mathlib.Core.List.{List, [], _∷_, _++_, append-assoc, append-nil}
+use Prim.Native.Nat.{ℕ, suc, _+_, _*_, _≤_, _<_}
+use native.Mathlib.Numerals.{add-one}
+use native.Mathlib.Omega.{arith}
+use lib.ListN.{length, take, set, replicate, length-replicate, replicate-append-replicate}
+use lib.Seq.{sets, take-suc, take-suc-set, take-all, length-take-le}
+use borrow.Author.Needs.{needs}
+use borrow.Author.Tests.{eq-eqb, ne-eqb, lt-ltb, le-ltb}
+use Rattle.model.specs.declared.Rule.{Rule}
+use Rattle.model.specs.Answer.{answer, refused, refusal, coded}
+use Rattle.model.specs.Cyclic.{cyclic}
+use Rattle.file_format.specs.declared.Extent.{Extent}
+use Rattle.file_format.specs.declared.Scan.{Scan}
+use Rattle.file_format.specs.declared.Scan.the-variants.{Accepted, Refused}
+use Rattle.file_format.specs.Bytes.{ruleBytes}
+use Rattle.file_format.specs.File.{readOf}
+use Rattle.file_format.specs.Scan.{rulesAt}
+use Rattle.file_format.specs.Held.{Tells}
+use Rattle.file_reader.proofs.CallerLaws.{refused-read, refused-most, accepted-read, accepted-tests, accepted-most, accepted-at, accepted-long}
+use Rattle.rule_match.specs.declared.Rules.{Rules}
+use Rattle.rule_match.specs.Held.{rulesOf}
+use Rattle.rule_match.proofs.MatchSteps.{length-mapped}
+use Rattle.rule_match.specs.Held.{itemAt}
+use Rattle.cache_model.specs.State.{rulesBytes, opened}
+use Rattle.cache_model.specs.Calls.{left, openWith, openOf}
+use Rattle.cache_steps.specs.Given.{callLeavesState, codedKept, openedBy}
+use Rattle.cache_stores.proofs.StoreSteps.{inside}
+use Rattle.cache_appending.proofs.AppendSteps.{sets-append}
+
+-- ---- clear
+
+pub clear-begun : (l : List ℕ) → take 0 l ≡ replicate 0 0
+clear-begun l = refl
+
+pub clear-more : (l : List ℕ) (i : ℕ) → length l ≡ 1024 → i < 1024 → take i l ≡ replicate i 0 → take (i + 1) (set l i 0) ≡ replicate (i + 1) 0
+clear-more l i h b e =
+    let one : i + 1 ≡ suc i = omega arith in
+    let last : take (i + 1) (set l i 0) ≡ take i l ++ (0 ∷ []) = rw one (take-suc-set l i 0 (omega arith)) in
+    last ∙ ap (λ (x : List ℕ). x ++ (0 ∷ [])) e ∙ replicate-append-replicate {A = ℕ} i 1 0
+
+pub clear-done : (l : List ℕ) (i : ℕ) → length l ≡ 1024 → i ≤ 1024 → 1024 ≤ i → take i l ≡ replicate i 0 → l ≡ replicate 1024 0
+clear-done l i h a b e =
+    let q : i ≡ 1024 = omega arith in
+    sym (take-all 1024 l (omega arith)) ∙ (rw q at e)
+
+pub ruleset clearing = (needs, clear-begun, clear-more, clear-done)
+
+-- ---- put_rule, put_rules
+
+pub rule-put : (l : List ℕ) (at : ℕ) (r : Rule) → set (set (set l at (r .first)) (at + 1) (r .predicate)) (at + 2) (r .second) ≡ sets l at (ruleBytes r)
+unfolding ruleBytes
+rule-put l at r =
+    let one : at + 1 ≡ suc at = omega arith in
+    let two : at + 2 ≡ suc (suc at) = omega arith in
+    rw (one, two)
+
+-- a state with a count and the rules so far
+abbrev pub written : ℕ → List Rule → List ℕ
+written n rules = sets (replicate 1024 0) 0 (n ∷ 0 ∷ 0 ∷ 0 ∷ rulesBytes rules)
+
+bytes-append : (rs : List Rule) (r : Rule) → rulesBytes (rs ++ (r ∷ [])) ≡ rulesBytes rs ++ ruleBytes r
+unfolding rulesBytes
+bytes-append [] r = append-nil (ruleBytes r)
+bytes-append (q ∷ rs) r = rw (bytes-append rs r) (sym (append-assoc (ruleBytes q) (rulesBytes rs) (ruleBytes r)))
+
+bytes-length : (rs : List Rule) → length (rulesBytes rs) ≡ 3 * length rs
+unfolding rulesBytes ruleBytes
+bytes-length [] = refl
+bytes-length (q ∷ rs) = let h = bytes-length rs in omega arith
+
+pub rules-begun : (s : List ℕ) (rules : Rules) → s ≡ replicate 1024 0 → set s 0 (rules .count) ≡ written (rules .count) (take 0 (rules .items))
+unfolding rulesBytes
+rules-begun s rules e = rw e
+
+pub rules-more : (rules : Rules) (s s′ : List ℕ) (i : ℕ) → length (rules .items) ≡ 32 → rules .count ≤ 32 → i < rules .count
+    → s ≡ written (rules .count) (take i (rules .items)) → s′ ≡ sets s (4 + 3 * i) (ruleBytes (itemAt rules i)) → s′ ≡ written (rules .count) (take (i + 1) (rules .items))
+rules-more rules s s′ i size few h e q =
+    let inside : i < length (rules .items) = omega arith in
+    let n : length (rulesBytes (take i (rules .items))) ≡ 3 * i = bytes-length (take i (rules .items)) ∙ ap (λ (k : ℕ). 3 * k) (length-take-le i (rules .items) (omega arith)) in
+    let place : 0 + suc (suc (suc (suc (length (rulesBytes (take i (rules .items))))))) ≡ 4 + 3 * i = omega arith in
+    q ∙ rw (add-one i, take-suc (rules .items) i (record { first = 0; predicate = 0; second = 0 }) inside, bytes-append (take i (rules .items)) (itemAt rules i), e, ← place)
+    (sym (sets-append (replicate 1024 0) 0 (rules .count ∷ 0 ∷ 0 ∷ 0 ∷ rulesBytes (take i (rules .items))) (ruleBytes (itemAt rules i))))
+
+pub rules-done : (rules : Rules) (s : List ℕ) (i : ℕ) → length (rules .items) ≡ 32 → rules .count ≤ 32 → i ≤ rules .count → rules .count ≤ i
+    → s ≡ written (rules .count) (take i (rules .items)) → s ≡ opened (rulesOf rules)
+unfolding opened
+rules-done rules s i size few a b e =
+    let q : i ≡ rules .count = omega arith in
+    (rw q at e) ∙ rw (length-take-le (rules .count) (rules .items) (omega arith))
+
+pub cleared-size : (s : List ℕ) → s ≡ replicate 1024 0 → length s ≡ 1024
+cleared-size s e = ap length e ∙ length-replicate {A = ℕ} 1024 0
+
+pub ruleset putting = (needs, length-mapped, inside, rule-put, rules-begun, rules-more, rules-done, cleared-size)
+
+-- ---- open_with
+
+module _ (rules : List Rule) (s : List ℕ) (b : Bool) (e : b ≡ cyclic rules) where
+  pub open-cyclic : (r : ℕ) → b ≡ true → r ≡ refusal 8 0 → callLeavesState r s ≡ openedBy rules s
+  unfolding openedBy
+  open-cyclic r t q = rw (← e, t, q)
+
+  pub open-started : (s′ : List ℕ) → b ≡ false → s′ ≡ opened rules → callLeavesState 0 s′ ≡ openedBy rules s
+  unfolding openedBy
+  open-started s′ f q = rw (← e, f, q)
+
+pub ruleset beginning = (needs, open-cyclic, open-started)
+
+-- ---- pelzhondy_open
+
+module _ (file s : List ℕ) where
+  pub open-short : (r : ℕ) → (length s ≡ 1024 → ⊥) → r ≡ refusal 14 0 → callLeavesState r s ≡ codedKept (openOf file s [])
+  unfolding openOf codedKept coded
+  open-short r h q = rw (ne-eqb _ _ h, q)
+
+  module _ (x : Scan) (hs : length s ≡ 1024) (t : Tells file 0 (readOf file) x) where
+    pub open-refused : (number place r : ℕ) → x ≡ Refused number place → r ≡ refusal number place → callLeavesState r s ≡ codedKept (openOf file s [])
+    unfolding openOf openWith codedKept coded
+    open-refused number place r e q = rw (eq-eqb _ _ hs, refused-read file 0 number place (rw e at t), q)
+
+    module _ (rules tests : ℕ) (found : Extent) (e : x ≡ Accepted rules tests found) where
+      pub open-tests : (r : ℕ) → 0 < tests → r ≡ refusal 22 0 → callLeavesState r s ≡ codedKept (openOf file s [])
+      unfolding openOf openWith codedKept coded
+      open-tests r h q =
+          let k = rw e at t in
+          rw (eq-eqb _ _ hs, accepted-read file 0 rules tests found k, accepted-tests file 0 rules tests found k, lt-ltb 0 tests h, q)
+
+      pub open-made : (held : Rules) (r : ℕ) (s′ : List ℕ) → tests ≤ 0 → rulesOf held ≡ rulesAt file rules → callLeavesState r s′ ≡ openedBy (rulesOf held) s
+          → callLeavesState r s′ ≡ codedKept (openOf file s [])
+      unfolding openOf openWith codedKept coded openedBy
+      open-made held r s′ h i q =
+          let k = rw e at t in
+          q ∙ rw (eq-eqb _ _ hs, accepted-read file 0 rules tests found k, accepted-tests file 0 rules tests found k, le-ltb 0 tests h, accepted-at file 0 rules tests found k, i)
+          (go (cyclic (rulesAt file rules)))
+        where
+          go : (b : Bool) → cond b (callLeavesState (refusal 8 0) s) (callLeavesState 0 (opened (rulesAt file rules)))
+              ≡ codedKept (cond b (left (refused 8 0) s []) (left (answer 0) (opened (rulesAt file rules)) []))
+          go true = refl
+          go false = refl
+
+-- what the answer's numbers fit
+module _ (file : List ℕ) (x : Scan) (t : Tells file 0 (readOf file) x) where
+  pub open-fits : (rules tests : ℕ) (found : Extent) → x ≡ Accepted rules tests found → (rules ≤ 32) × (6 * rules ≤ length file)
+  open-fits rules tests found e =
+      let k = rw e at t in
+      (accepted-most file 0 rules tests found k .0, accepted-long file 0 rules tests found k)
+
+  pub refusal-fits : (number place : ℕ) → x ≡ Refused number place → (number < 256) × (place < 4294967296)
+  refusal-fits number place e =
+      let l = refused-most file 0 number place (rw e at t) in
+      let a = l .0 in let b = l .1 in
+      (omega arith, omega arith)
+
+pub ruleset opening = (needs, open-short, open-refused, open-tests, open-made)

@@ -1,0 +1,59 @@
+// An opening of the cache: a cleared state with a file's rules.
+use model::Rule;
+use rule_match::Rules;
+ghost use mathlib.Core.Path.{_≡_};
+ghost use Prim.Native.Nat.{_+_, _≤_};
+ghost use lib.ListN.{length, replicate};
+ghost use lib.Seq.{sets};
+ghost use Rattle.file_format.specs.Bytes.{ruleBytes};
+ghost use Rattle.rule_match.specs.Held.{rulesOf};
+ghost use Rattle.cache_model.specs.State.{opened};
+ghost use Rattle.cache_steps.specs.Given.{callLeavesState, openedBy};
+
+// All bytes are zero.
+fn clear(state: &mut [u8])
+    requires { ⌜ length (now state) ≡ 1024 ⌝ }
+    ensures { λ _. ⌜ now (state .exit) ≡ replicate 1024 0 ⌝ }
+{
+    let mut i: usize = 0;
+    while i < 1024 {
+        state[i] = 0;
+        i += 1;
+    }
+}
+
+// A rule's three bytes.
+fn put_rule(state: &mut [u8], at: usize, rule: Rule)
+    requires { ⌜ at + 3 ≤ length (now state) ⌝ }
+    ensures { λ _. ⌜ now (state .exit) ≡ sets (now (state .entry)) at (ruleBytes rule) ⌝ }
+{
+    state[at] = rule.first;
+    state[at + 1] = rule.predicate;
+    state[at + 2] = rule.second;
+}
+
+// The count of the rules, and the rules.
+fn put_rules(state: &mut [u8], rules: Rules)
+    requires { ⌜ (rules .count ≤ 32) × (now state ≡ replicate 1024 0) ⌝ }
+    ensures { λ _. ⌜ now (state .exit) ≡ opened (rulesOf rules) ⌝ }
+{
+    state[0] = rules.count as u8;
+    let mut i: usize = 0;
+    while i < rules.count {
+        put_rule(state, 4 + 3 * i, rules.items[i]);
+        i += 1;
+    }
+}
+
+// A state with these rules and no writes, unless they are cyclic.
+pub fn open_with(state: &mut [u8], rules: Rules) -> u64
+    requires { ⌜ (length (now state) ≡ 1024) × (rules .count ≤ 32) ⌝ }
+    ensures { λ r. ⌜ callLeavesState r (now (state .exit)) ≡ openedBy (rulesOf rules) (now (state .entry)) ⌝ }
+{
+    if rule_cycles::is_cyclic(rules) {
+        return model::refuse(8, 0);
+    }
+    clear(state);
+    put_rules(state, rules);
+    0
+}

@@ -1,0 +1,41 @@
+-- `storing::step_sound` meets its contract: one law for each of its returns.
+use Rattle.cache_steps.proofs.StepLaws.{stepping}
+use Rattle.cache_steps.proofs.step_sound.Statement.{statement}
+use Rattle.cache_steps.proofs.step_sound.Tie as tie
+
+ready-requires : tie.Need-ready-requires
+ready-requires c κs = search stepping
+
+same-length : tie.Need-same-length
+same-length c = search stepping
+
+returns : tie.Need-returns
+returns c = search stepping
+
+sub-store-write : tie.Need-sub-store-write
+sub-store-write c = search stepping
+
+store-write-requires : tie.Need-store-write-requires
+store-write-requires c κs = search stepping
+
+same-length-2 : tie.Need-same-length-2
+same-length-2 c = search stepping
+
+same-length-3 : tie.Need-same-length-3
+same-length-3 c = search stepping
+
+returns-2 : tie.Need-returns-2
+returns-2 c = search stepping
+
+pub step-sound-spec : {M : Type 1} → statement M
+step-sound-spec =
+    tie.close
+    (tie.spec
+    ready-requires
+    same-length
+    returns
+    sub-store-write
+    store-write-requires
+    same-length-2
+    same-length-3
+    returns-2)

@@ -1,0 +1,23 @@
+-- `stores::store_block` meets its contract: block a stands at 4a.
+use Rattle.cache_stores.proofs.StoreSteps.{storing-steps}
+use Rattle.cache_stores.proofs.store_block.Statement.{statement}
+use Rattle.cache_stores.proofs.store_block.Tie as tie
+
+wide-requires : tie.Need-wide-requires
+wide-requires c κs = search storing-steps
+
+mul-put-word : tie.Need-mul-put-word
+mul-put-word c = search storing-steps
+
+put-word-requires : tie.Need-put-word-requires
+put-word-requires c κs = search storing-steps
+
+same-length : tie.Need-same-length
+same-length c = search storing-steps
+
+returns : tie.Need-returns
+returns c = search storing-steps
+
+pub store-block-spec : {M : Type 1} → statement M
+store-block-spec =
+    tie.close (tie.spec wide-requires mul-put-word put-word-requires same-length returns)

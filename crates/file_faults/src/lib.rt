@@ -1,0 +1,124 @@
+// What is wrong with a field, by its refusal's number: unknown tags, order, limits, lengths, predicates.
+use file_format::Counts;
+ghost use mathlib.Core.Path.{_≡_};
+ghost use Prim.Native.Nat.{_<_};
+ghost use lib.ListN.{length};
+ghost use Rattle.file_format.specs.File.{isTag, isCheck, bodyLength, outOfOrder, overLimit, overTest, ruleFault, bodyFault, faultOf};
+
+fn is_tag(tag: u8) -> bool
+    ensures { λ r. ⌜ r ≡ isTag tag ⌝ }
+{
+    if tag < 1 {
+        return false;
+    }
+    tag <= 7
+}
+
+fn is_check(tag: u8) -> bool
+    ensures { λ r. ⌜ r ≡ isCheck tag ⌝ }
+{
+    if tag < 4 {
+        return false;
+    }
+    tag <= 6
+}
+
+fn out_of_order(tag: u8, c: Counts) -> bool
+    ensures { λ r. ⌜ r ≡ outOfOrder tag c ⌝ }
+{
+    if tag == 3 {
+        if c.begun {
+            return true;
+        }
+        return 0 < c.tests;
+    }
+    if tag == 1 {
+        if 0 < c.main {
+            return true;
+        }
+        return 0 < c.checks;
+    }
+    if tag == 2 {
+        return 0 < c.checks;
+    }
+    false
+}
+
+fn over_test(tag: u8, c: Counts) -> bool
+    ensures { λ r. ⌜ r ≡ overTest tag c ⌝ }
+{
+    if tag == 1 {
+        return 64 <= c.initial;
+    }
+    if tag == 2 {
+        return 12 <= c.main;
+    }
+    if is_check(tag) {
+        return 16 <= c.checks;
+    }
+    false
+}
+
+fn over_limit(tag: u8, c: Counts) -> bool
+    ensures { λ r. ⌜ r ≡ overLimit tag c ⌝ }
+{
+    if tag == 3 {
+        return 32 <= c.rules;
+    }
+    if c.begun {
+        return over_test(tag, c);
+    }
+    16 <= c.tests
+}
+
+// The reader of a rule's body: the refusal of an unknown predicate.
+fn rule_fault(body: &[u8]) -> u8
+    requires { ⌜ length (now body) ≡ 3 ⌝ }
+    ensures { λ r. ⌜ r ≡ ruleFault (now (body .entry)) ⌝ }
+{
+    if 2 < body[1] {
+        return 5;
+    }
+    0
+}
+
+fn body_fault(tag: u8, body: &[u8]) -> u8
+    requires { ⌜ length (now body) ≡ bodyLength tag ⌝ }
+    ensures { λ r. ⌜ r ≡ bodyFault tag (now (body .entry)) ⌝ }
+{
+    if tag == 3 {
+        return rule_fault(body);
+    }
+    0
+}
+
+// The number of the refusal that the field at `at` meets, or 0.
+pub fn fault(s: &[u8], at: usize, c: Counts) -> u8
+    requires { ⌜ at < length (now s) ⌝ }
+    ensures { λ r. ⌜ r ≡ faultOf (now (s .entry)) at c ⌝ }
+{
+    let left = s.len() - at;
+    if left < 3 {
+        return 1;
+    }
+    let tag = s[at];
+    if !is_tag(tag) {
+        return 2;
+    }
+    if out_of_order(tag, c) {
+        return 4;
+    }
+    if over_limit(tag, c) {
+        return 6;
+    }
+    let n = file_format::body_length(tag);
+    if file_format::half_at(s, at + 1) != n {
+        return 3;
+    }
+    let b = at + 3;
+    if s.len() - b < n {
+        return 1;
+    }
+    let e = b + n;
+    body_fault(tag, &s[b..e])
+}

@@ -1,0 +1,38 @@
+-- `fields::write_at` meets its contract: the part of the file that is lent is the field's body.
+use Rattle.file_fields.proofs.FieldLaws.{fields}
+use borrow.Author.Needs.{needs}
+use Rattle.file_fields.proofs.write_at.Statement.{statement}
+use Rattle.file_fields.proofs.write_at.Tie as tie
+
+add-b : tie.Need-add-b
+add-b c = search needs
+
+add-e : tie.Need-add-e
+add-e c = search needs
+
+sub-read-write : tie.Need-sub-read-write
+sub-read-write c = search needs
+
+part-read-write-start : tie.Need-part-read-write-start
+part-read-write-start c = search needs
+
+part-read-write-end : tie.Need-part-read-write-end
+part-read-write-end c = search needs
+
+read-write-requires : tie.Need-read-write-requires
+read-write-requires c κs = search needs
+
+returns : tie.Need-returns
+returns c = search fields
+
+pub write-at-spec : {M : Type 1} → statement M
+write-at-spec =
+    tie.close
+    (tie.spec
+    add-b
+    add-e
+    sub-read-write
+    part-read-write-start
+    part-read-write-end
+    read-write-requires
+    returns)

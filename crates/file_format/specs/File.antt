@@ -1,0 +1,139 @@
+-- Reading a file: fields of a one-byte tag, a two-byte length and a body, all big-endian.
+use Prim.Native.Nat.{ℕ, zero, suc, _+_, _-_}
+use mathlib.Core.Bool.{Bool, true, false, cond, not, _&&_, _||_}
+use mathlib.Core.List.{List, [], _∷_, _++_}
+use lib.ListN.{length, take, drop}
+use lib.Dec.{eqb, leb, ltb}
+use Rattle.model.specs.declared.Write.{Write}
+use Rattle.model.specs.declared.Rule.{Rule}
+use Rattle.model.specs.declared.Check.{Check}
+use Rattle.model.specs.declared.Check.the-variants.{Range, Pair, Pointer}
+use Rattle.model.specs.Answer.{Outcome, answer, refused}
+use Rattle.model.specs.Test.{Test, test, File, file}
+use Rattle.file_format.specs.declared.Counts.{Counts}
+use Rattle.file_format.specs.Bytes.{byte, half, word}
+
+-- ---- fields. Tags: 1 initial write, 2 main write, 3 rule, 4 range, 5 pair, 6 pointer, 7 end of test
+
+unfoldable pub isTag : ℕ → Bool
+isTag tag = leb 1 tag && leb tag 7
+
+unfoldable pub isCheck : ℕ → Bool
+isCheck tag = leb 4 tag && leb tag 6
+
+unfoldable pub bodyLength : ℕ → ℕ
+bodyLength tag = cond (eqb tag 3) 3 (cond (eqb tag 4) 1 (cond (eqb tag 6) 1 (cond (eqb tag 7) 0 10)))
+
+-- a write's body: address 1, name 1, epoch 4, first 2, second 2
+unfoldable pub writeOf : List ℕ → Write
+writeOf b = record { address = byte b 0; name = byte b 1; epoch = word b 2; block = word b 6 }
+
+-- a rule's: name, predicate, name
+unfoldable pub ruleOf : List ℕ → Rule
+ruleOf b = record { first = byte b 0; predicate = byte b 1; second = byte b 2 }
+
+-- a check's: range a; pair a, v, b, w; pointer a
+unfoldable pub checkOf : ℕ → List ℕ → Check
+checkOf tag b = cond (eqb tag 4) (Range (byte b 0)) (cond (eqb tag 5) (Pair (byte b 0) (word b 1) (byte b 5) (word b 6)) (Pointer (byte b 0)))
+
+-- ---- what has been read, and how much of it
+
+-- rules, finished tests, whether a test has begun, and what it has so far
+pub record Progress : Type 0 where
+  pub rules : List Rule
+  pub tests : List Test
+  pub begun : Bool
+  pub current : Test
+
+abbrev pub progress : List Rule → List Test → Bool → Test → Progress
+progress rules tests begun t = record { rules = rules; tests = tests; begun = begun; current = t }
+
+unfoldable pub countsOf : Progress → Counts
+countsOf p =
+    record {
+      rules = length (p .rules);
+      tests = length (p .tests);
+      begun = p .begun;
+      initial = length (p .current .initial);
+      main = length (p .current .main);
+      checks = length (p .current .checks);
+    }
+
+-- ---- refusals of one field
+
+-- 4: a rule once a test has begun, an 01 after its test's 02 or check, an 02 after its test's check
+unfoldable pub outOfOrder : ℕ → Counts → Bool
+outOfOrder tag c =
+    cond (eqb tag 3) (c .begun || ltb 0 (c .tests))
+    (cond (eqb tag 1) (ltb 0 (c .main) || ltb 0 (c .checks))
+    (cond (eqb tag 2) (ltb 0 (c .checks))
+    false))
+
+-- 6, within a test: most 64 initial, 12 main, 16 checks
+unfoldable pub overTest : ℕ → Counts → Bool
+overTest tag c =
+    cond (eqb tag 1) (leb 64 (c .initial))
+    (cond (eqb tag 2) (leb 12 (c .main))
+    (cond (isCheck tag) (leb 16 (c .checks))
+    false))
+
+-- 6: most 32 rules and 16 tests; the 17th test is refused at its first field
+unfoldable pub overLimit : ℕ → Counts → Bool
+overLimit tag c = cond (eqb tag 3) (leb 32 (c .rules)) (cond (c .begun) (overTest tag c) (leb 16 (c .tests)))
+
+-- 5: a predicate above 2
+unfoldable pub ruleFault : List ℕ → ℕ
+ruleFault b = cond (ltb 2 (byte b 1)) 5 0
+
+unfoldable pub bodyFault : ℕ → List ℕ → ℕ
+bodyFault tag b = cond (eqb tag 3) (ruleFault b) 0
+
+-- the body of the field at a place
+abbrev pub bodyAt : List ℕ → ℕ → List ℕ
+bodyAt s at = take (bodyLength (byte s at)) (drop (at + 3) s)
+
+-- the number of the refusal that the field at a place meets, in the order of the list; 0: none.
+-- 1 one or two bytes left; 2 unknown tag; 4 out of order; 6 over a limit; 3 wrong length; 1 body cut; 5 predicate
+unfoldable pub faultOf : List ℕ → ℕ → Counts → ℕ
+faultOf s at c =
+    cond (ltb (length s - at) 3) 1
+    (cond (not (isTag (byte s at))) 2
+    (cond (outOfOrder (byte s at) c) 4
+    (cond (overLimit (byte s at) c) 6
+    (cond (not (eqb (half s (at + 1)) (bodyLength (byte s at)))) 3
+    (cond (ltb (length s - (at + 3)) (bodyLength (byte s at))) 1
+    (bodyFault (byte s at) (bodyAt s at)))))))
+
+-- ---- reading field by field
+
+-- what one more field adds
+unfoldable pub grown : ℕ → List ℕ → Progress → Progress
+grown tag b p =
+    let t = p .current in
+    cond (eqb tag 3) (progress (p .rules ++ (ruleOf b ∷ [])) (p .tests) (p .begun) t)
+    (cond (eqb tag 1) (progress (p .rules) (p .tests) true (test (t .initial ++ (writeOf b ∷ [])) (t .main) (t .checks)))
+    (cond (eqb tag 2) (progress (p .rules) (p .tests) true (test (t .initial) (t .main ++ (writeOf b ∷ [])) (t .checks)))
+    (cond (eqb tag 7) (progress (p .rules) (p .tests ++ (t ∷ [])) false (test [] [] []))
+    (progress (p .rules) (p .tests) true (test (t .initial) (t .main) (t .checks ++ (checkOf tag b ∷ [])))))))
+
+-- 7, at the end: test not ended
+unfoldable pub finished : List ℕ → Progress → Outcome File
+finished s p = cond (p .begun) (refused 7 (length s)) (answer (file (p .rules) (p .tests)))
+
+-- where the field at a place ends
+abbrev pub fieldEnd : List ℕ → ℕ → ℕ
+fieldEnd s at = at + 3 + bodyLength (byte s at)
+
+-- the fields from a place on. A field has at least three bytes, so there are fewer than the fuel says
+unfoldable pub readFrom : ℕ → List ℕ → ℕ → Progress → Outcome File
+readFrom zero s at p = refused 0 0
+readFrom (suc fuel) s at p =
+    let fault = faultOf s at (countsOf p) in
+    let rest = readFrom fuel s (fieldEnd s at) (grown (byte s at) (bodyAt s at) p) in
+    cond (ltb at (length s)) (cond (eqb fault 0) rest (refused fault at)) (finished s p)
+
+unfoldable pub nothing : Progress
+nothing = progress [] [] false (test [] [] [])
+
+unfoldable pub readOf : List ℕ → Outcome File
+readOf s = readFrom (suc (length s)) s 0 nothing

@@ -1,0 +1,65 @@
+-- Finding rules for a file's tests.
+use Prim.Native.Nat.{ℕ}
+use mathlib.Core.Bool.{cond}
+use mathlib.Core.List.{List, [], _∷_, _++_}
+use mathlib.Core.Option.{Option, none, some}
+use lib.Dec.{ltb}
+use lib.ListN.{length, drop}
+use Rattle.model.specs.declared.Rule.{Rule}
+use Rattle.model.specs.Answer.{Outcome, answer, refused, coded}
+use Rattle.model.specs.Test.{Test, File}
+use Rattle.model.specs.Find.{candidatesOf, picked, chosen}
+use Rattle.file_format.specs.Encode.{ruleFields}
+use Rattle.file_format.specs.File.{readOf}
+
+-- what a call leaves: its outcome and its buffer
+pub record Found : Type 0 where
+  pub outcome : Outcome ℕ
+  pub buffer : List ℕ
+
+abbrev pub found : Outcome ℕ → List ℕ → Found
+found o b = record { outcome = o; buffer = b }
+
+-- bytes at the front of a buffer, its rest as it was
+unfoldable pub over : List ℕ → List ℕ → List ℕ
+over bytes buffer = bytes ++ drop (length bytes) buffer
+
+-- the chosen set's tag 03 fields in candidate order, and how many; 13: no acyclic set makes all tests hold
+unfoldable pub wrote : List Rule → Option ℕ → List ℕ → Found
+wrote candidates none buffer = found (refused 13 0) buffer
+wrote candidates (some m) buffer = found (answer (length (picked candidates m))) (over (ruleFields (picked candidates m)) buffer)
+
+-- 11 over 16 candidates
+unfoldable pub findAmong : List Test → List ℕ → Found
+findAmong tests buffer =
+    let candidates = candidatesOf tests in
+    let choice = chosen tests candidates in
+    let done = wrote candidates choice buffer in
+    cond (ltb 16 (length candidates)) (found (refused 11 0) buffer) done
+
+-- 10 file has rules; 12 buffer under 96 bytes
+unfoldable pub findIn : Outcome File → List ℕ → Found
+findIn (refused number place) buffer = found (refused number place) buffer
+findIn (answer f) buffer =
+    let done = findAmong (f .tests) buffer in
+    cond (ltb 0 (length (f .rules))) (found (refused 10 0) buffer)
+    (cond (ltb (length buffer) 96) (found (refused 12 0) buffer)
+    done)
+
+unfoldable pub findOf : List ℕ → List ℕ → Found
+findOf s buffer = findIn (readOf s) buffer
+
+-- what a call leaves, its outcome as one number
+pub record Coded : Type 0 where
+  pub number : ℕ
+  pub buffer : List ℕ
+
+abbrev pub findLeaves : ℕ → List ℕ → Coded
+findLeaves n b = record { number = n; buffer = b }
+
+unfoldable pub foundCoded : Found → Coded
+foundCoded f = findLeaves (coded (f .outcome)) (f .buffer)
+
+-- a rule's field
+unfoldable pub ruleBlock : Rule → List ℕ
+ruleBlock r = 3 ∷ 0 ∷ 3 ∷ r .first ∷ r .predicate ∷ r .second ∷ []

@@ -1,0 +1,183 @@
+-- The choice from the table: set by set it is `chosenBelow`, and the sets that pass are the sufficient ones, by `hits`.
+use mathlib.Core.Path.{_≡_, refl, sym, ap, _∙_}
+use mathlib.Core.Bool.{Bool, true, false, cond, not, _&&_, and-true, and-false}
+use mathlib.Core.List.{List}
+use mathlib.Core.Option.{Option, none, some}
+use Prim.Native.Nat.{ℕ, zero, suc, _+_, _-_, _*_, _%_, _^_, _≤_, _<_}
+use native.Mathlib.Nat.{one-mul, lt-of-lt-of-le}
+use native.Mathlib.Numerals.{add-one}
+use native.Mathlib.Omega.{arith}
+use lib.Bits.{bitOr, bitXor, or-add-and, xor-add-and}
+use lib.Count.{ones, ones-ones, ones-le}
+use lib.Dec.{eqb, leb}
+use lib.ListN.{length, getD}
+use lib.Pow.{pow-mono, pow-pos}
+use lib.Seq.{length-take-le}
+use borrow.Author.Tests.{le-leb, lt-leb, eq-eqb, ne-eqb, not-true, not-false}
+use Rattle.relation.specs.Bits.{bit, withBit}
+use Rattle.relation.specs.Lists.{all, anyBelow}
+use Rattle.relation.proofs.BitLaws.{or-bit}
+use Rattle.relation.proofs.ListLaws.{and-left, and-right, anyBelow-true, anyBelow-intro}
+use Rattle.relation.proofs.WithoutLaws.{bit-most, ones-without}
+use Rattle.model.specs.declared.Rule.{Rule}
+use Rattle.model.specs.Cyclic.{cyclic}
+use Rattle.model.specs.Test.{Test, testHolds}
+use Rattle.model.specs.Find.{picked, suffices, preferred, chosenBelow, chosen}
+use Rattle.rule_match.specs.declared.Rules.{Rules}
+use Rattle.rule_match.specs.Held.{rulesOf}
+use Rattle.find_laws.specs.Hit.{marked, spread}
+use Rattle.find_laws.proofs.ChosenLaws.{chosen-fewest}
+use Rattle.find_laws.proofs.HitLaws.{hits}
+use Rattle.find_laws.proofs.PartLaws.{cyclic-without}
+use Rattle.find_table.specs.Table.{Shows, Spreads}
+use Rattle.find_choice.specs.Choice.{passing, spare, better, choiceCode}
+use Rattle.find_table.proofs.SetLaws.{total-sets}
+
+-- ---- better_of
+
+module _ (table : List ℕ) (cs : List Rule) (m best : ℕ) where
+  pub better-more : ones best < ones m → best ≡ better (passing table cs) m best
+  unfolding better
+  better-more h = rw (lt-leb (ones m) (ones best) h)
+
+  pub better-marked : getD table m 0 ≡ 1 → best ≡ better (passing table cs) m best
+  unfolding better passing
+  better-marked e = rw (eq-eqb (getD table m 0) 1 e, and-false (not (cyclic (picked cs m))), and-false (leb (ones m) (ones best)))
+
+  module _ (set : Rules) (b : Bool) (q : rulesOf set ≡ picked cs m) (e : b ≡ cyclic (rulesOf set)) where
+    pub better-cyclic : b ≡ true → best ≡ better (passing table cs) m best
+    unfolding better passing
+    better-cyclic t = rw (← q, ← e, t, and-false (leb (ones m) (ones best)))
+
+    pub better-yes : ones m ≤ ones best → (getD table m 0 ≡ 1 → ⊥) → b ≡ false → m ≡ better (passing table cs) m best
+    unfolding better passing
+    better-yes h n f = rw (le-leb (ones m) (ones best) h, ← q, ← e, f, ne-eqb (getD table m 0) 1 n)
+
+-- ---- is_spare, has_spare
+
+module _ (table : List ℕ) (m i : ℕ) (b : Bool) (e : b ≡ bit m i) where
+  pub spare-not : not b ≡ true → false ≡ spare table m i
+  unfolding spare
+  spare-not t = rw (← e, not-true b t)
+
+  module _ (t : not b ≡ false) (few : i < 16) where
+    abbrev power : ℕ
+    power = 1 * 2 ^ i % 18446744073709551616
+
+    set : bit m i ≡ true
+    set = sym e ∙ not-false b t
+
+    -- a flag that is set is taken away by turning it over
+    less-is : bitXor m power ≡ m - 2 ^ i
+    unfolding withBit
+    less-is =
+        let whole : bitOr m (2 ^ i) ≡ m = rw (one-mul (2 ^ i)) at (or-bit m i) ∙ rw set in
+        let both = or-add-and m (2 ^ i) in
+        let rest = xor-add-and m (2 ^ i) in
+        let most = bit-most m i set in
+        rw (total-sets i (omega arith)) (omega arith)
+
+    pub spare-within : m < 65536 → bitXor m power < 65536
+    spare-within h = rw less-is (omega arith)
+
+    pub spare-is : not (eqb (getD table (bitXor m power) 0) 1) ≡ spare table m i
+    unfolding spare
+    spare-is = rw (less-is, set)
+
+module _ (table : List ℕ) (m : ℕ) where
+  pub spares-begun : anyBelow (spare table m) 0 ≡ false
+  unfolding anyBelow
+  spares-begun = refl
+
+  pub spares-more : (i : ℕ) (b : Bool) → anyBelow (spare table m) i ≡ false → b ≡ spare table m i → b ≡ false → anyBelow (spare table m) (i + 1) ≡ false
+  unfolding anyBelow
+  spares-more i b h e f = rw (add-one i, h, ← e, f)
+
+  pub spares-found : (i n : ℕ) (b : Bool) → i < n → b ≡ spare table m i → b ≡ true → true ≡ anyBelow (spare table m) n
+  spares-found i n b h e t = sym (anyBelow-intro (spare table m) n i h (sym e ∙ t))
+
+  pub spares-done : (i n : ℕ) → anyBelow (spare table m) i ≡ false → i ≤ n → n ≤ i → false ≡ anyBelow (spare table m) n
+  spares-done i n h l k = let z : i ≡ n = omega arith in sym (rw z at h)
+
+-- a set that is sufficient without one of its candidates: without it, it was taken or is cyclic
+module _ (table : List ℕ) (cs : List Rule) (m best : ℕ) where
+  spare-better : (i : ℕ) → best ≡ choiceCode (chosenBelow (passing table cs) m) → spare table m i ≡ true → best ≡ better (passing table cs) m best
+  unfolding better passing spare choiceCode
+  spare-better i e s = go (cyclic (picked cs less)) refl
+    where
+      less : ℕ
+      less = m - 2 ^ i
+
+      has : bit m i ≡ true
+      has = and-left (bit m i) _ s
+
+      go : (b : Bool) → cyclic (picked cs less) ≡ b → best ≡ better (passing table cs) m best
+      go true c = rw (cyclic-without cs m i has c, and-false (leb (ones m) (ones best)))
+      go false c =
+          let most = bit-most m i has in
+          let power = pow-pos i in
+          let (k, q, l) = chosen-fewest (passing table cs) m less (omega arith) (rw c (and-right (bit m i) _ s)) in
+          let best-is : best ≡ k = e ∙ ap choiceCode q in
+          let n = ones-without m i has in
+          better-more table cs m best (rw best-is (omega arith))
+
+  pub better-spare : (n : ℕ) (b : Bool) → best ≡ choiceCode (chosenBelow (passing table cs) m) → b ≡ anyBelow (spare table m) n → b ≡ true
+      → best ≡ better (passing table cs) m best
+  better-spare n b e q t = let (i, l, s) = anyBelow-true (spare table m) n (sym q ∙ t) in spare-better i e s
+
+-- ---- choose
+
+module _ (p : ℕ → Bool) where
+  pub chosen-begun : 18446744073709551615 ≡ choiceCode (chosenBelow p 0)
+  unfolding choiceCode chosenBelow
+  chosen-begun = refl
+
+  pub chosen-more : (m best next : ℕ) → best ≡ choiceCode (chosenBelow p m) → m < 65536 → next ≡ better p m best → next ≡ choiceCode (chosenBelow p (m + 1))
+  unfolding chosenBelow better preferred choiceCode
+  chosen-more m best next e h q = q ∙ rw (add-one m, e) (go (p m) (chosenBelow p m))
+    where
+      least : leb (ones m) (ones 18446744073709551615) ≡ true
+      least =
+          let a = ones-le 16 m h in
+          let b : ones 18446744073709551615 ≡ 64 = ones-ones 64 in
+          le-leb (ones m) (ones 18446744073709551615) (omega arith)
+
+      pick : (b : Bool) (k : ℕ) → cond b m k ≡ choiceCode (cond b (some m) (some k))
+      pick true k = refl
+      pick false k = refl
+
+      go : (b : Bool) (o : Option ℕ) → cond (leb (ones m) (ones (choiceCode o)) && b) m (choiceCode o) ≡ choiceCode (cond b (preferred m o) o)
+      go false o = rw (and-false (leb (ones m) (ones (choiceCode o))))
+      go true none = rw least
+      go true (some k) = rw (and-true (leb (ones m) (ones k))) (pick (leb (ones m) (ones k)) k)
+
+  pub chosen-done : (m best total n : ℕ) → best ≡ choiceCode (chosenBelow p m) → total ≡ 2 ^ n → m ≤ total → total ≤ m → best ≡ choiceCode (chosenBelow p (2 ^ n))
+  chosen-done m best total n e t h l = let z : m ≡ 2 ^ n = omega arith in rw z at e
+
+chosen-ext : (p q : ℕ → Bool) (n : ℕ) → ((k : ℕ) → k < n → p k ≡ q k) → chosenBelow p n ≡ chosenBelow q n
+unfolding chosenBelow
+chosen-ext p q zero h = refl
+chosen-ext p q (suc n) h = rw (h n (omega arith), chosen-ext p q n (λ k l. h k (omega arith)))
+
+-- ---- choice
+
+module _ (tests : List Test) (cands : Rules) (first table : List ℕ) where
+  pub choice-is : (r : ℕ) → Shows (marked (rulesOf cands) tests) first 65536 → Spreads (cands .count) (cands .count) first table
+      → r ≡ choiceCode (chosenBelow (passing table (rulesOf cands)) (2 ^ cands .count)) → length (cands .items) ≡ 32 → cands .count ≤ 16
+      → r ≡ choiceCode (chosen tests (rulesOf cands))
+  unfolding chosen passing suffices
+  choice-is r o k e whole few =
+      let cs = rulesOf cands in
+      let n = cands .count in
+      let held : length cs ≡ n = length-take-le n (cands .items) (omega arith) in
+      let most : 2 ^ n ≤ 65536 = pow-mono {i = n} {j = 16} few in
+      let shown = k .shows (marked cs tests) (record { size = o .size; at = λ x h. o .at x (lt-of-lt-of-le h most) }) in
+      e
+      ∙ ap choiceCode
+      (chosen-ext
+      (λ m. not (cyclic (picked cs m)) && not (eqb (getD table m 0) 1))
+      (λ m. not (cyclic (picked cs m)) && all (testHolds (picked cs m)) tests)
+      (2 ^ n)
+      (λ m h. ap (λ (b : Bool). not (cyclic (picked cs m)) && b)
+      (ap not (shown .at m h ∙ ap (λ (j : ℕ). spread (marked cs tests) j m) (sym held)) ∙ sym (hits tests cs m (rw held h))))
+      ∙ ap (chosenBelow (λ m. not (cyclic (picked cs m)) && all (testHolds (picked cs m)) tests)) (ap (λ (j : ℕ). 2 ^ j) (sym held)))

@@ -1,0 +1,27 @@
+-- The answers of judge and verdict in one number each.
+use Prim.Native.Nat.{ℕ, _+_, _*_}
+use mathlib.Core.Path.{_≡_}
+use Rattle.model.specs.Answer.{Outcome, answer, refused, refusal}
+use Rattle.judge_counting.specs.declared.Judgement.{Judgement}
+use Rattle.judge_counting.specs.declared.Verdict.{Verdict}
+use Rattle.judge_counting.specs.declared.Verdict.the-variants.{Holds, Fails}
+use Rattle.judge_cases.specs.Judge.{Case, Judges, Decides}
+
+-- the count of valid schedules, from bit 21 on that of bad ones, from bit 42 on a bad one
+unfoldable pub judgementCode : Judgement → ℕ
+judgementCode j = j .valid + 2097152 * j .bad + 4398046511104 * j .shown
+
+-- 0: holds; else one more than a bad schedule's number
+unfoldable pub verdictCode : Verdict → ℕ
+verdictCode Holds = 0
+verdictCode (Fails s) = s + 1
+
+-- the refusal, or the code of numbers that judge the case
+unfoldable pub JudgeAnswer : Outcome Case → ℕ → Type 0
+JudgeAnswer (refused number place) r = r ≡ refusal number place
+JudgeAnswer (answer c) r = (j : Judgement) × Judges c j × (r ≡ judgementCode j)
+
+-- the refusal, or the code of a verdict that decides the case
+unfoldable pub VerdictAnswer : Outcome Case → ℕ → Type 0
+VerdictAnswer (refused number place) r = r ≡ refusal number place
+VerdictAnswer (answer c) r = (v : Verdict) × Decides c v × (r ≡ verdictCode v)

@@ -1,0 +1,88 @@
+-- Judging one test of a file.
+use Prim.Native.Nat.{ℕ, _-_, _*_, _≤_}
+use mathlib.Core.Path.{_≡_}
+use mathlib.Core.Bool.{cond, _&&_}
+use mathlib.Core.List.{List}
+use lib.Dec.{leb}
+use lib.ListN.{length}
+use Rattle.model.specs.declared.Rule.{Rule}
+use Rattle.model.specs.Answer.{Outcome, answer, refused}
+use Rattle.model.specs.Cyclic.{cyclic}
+use Rattle.model.specs.Test.{Test, File, TestHolds, Bad, validCount, badCount}
+use Rattle.file_format.specs.File.{readOf}
+use Rattle.file_format.specs.declared.Extent.{Extent}
+use Rattle.file_reader.specs.Limits.{longest}
+use Rattle.file_format.specs.Scan.{rulesAt, testAt}
+use Rattle.file_format.specs.Held.{testOf, Inside}
+use Rattle.judge_cases.specs.declared.Selected.{Selected}
+use Rattle.judge_cases.specs.declared.Selected.the-variants.{Found}
+use Rattle.judge_cases.specs.declared.Selected.the-variants as Selected
+use Rattle.judge_cases.specs.declared.Judged.{Judged}
+use Rattle.judge_cases.specs.declared.Judged.the-variants.{Counts}
+use Rattle.judge_cases.specs.declared.Judged.the-variants as Judged
+use Rattle.judge_cases.specs.declared.Decided.{Decided}
+use Rattle.judge_cases.specs.declared.Decided.the-variants.{As}
+use Rattle.judge_cases.specs.declared.Decided.the-variants as Decided
+use Rattle.judge_counting.specs.declared.Judgement.{Judgement}
+use Rattle.judge_counting.specs.declared.Verdict.{Verdict}
+use Rattle.judge_counting.specs.declared.Verdict.the-variants.{Holds, Fails}
+
+-- a test and the rules it is judged under
+pub record Case : Type 0 where
+  pub rules : List Rule
+  pub test : Test
+
+-- after reading: 8 cyclic rules; 9 no such test. Tests count from 1
+unfoldable pub caseOf : Outcome File → ℕ → Outcome Case
+caseOf (refused number place) k = refused number place
+caseOf (answer f) k =
+    cond (cyclic (f .rules)) (refused 8 0)
+    (cond (leb 1 k && leb k (length (f .tests))) (answer (record { rules = f .rules; test = testOf f (k - 1) })) (refused 9 0))
+
+-- the case that a judge is given, or its refusal
+unfoldable pub caseIn : List ℕ → ℕ → Outcome Case
+caseIn s k = caseOf (readOf s) k
+
+-- the counts of valid and of bad schedules, and some bad schedule, or 0 where there is none
+pub record Judges (c : Case) (j : Judgement) : Type 0 where
+  pub valid : j .valid ≡ validCount (c .rules) (c .test)
+  pub bad : j .bad ≡ badCount (c .rules) (c .test)
+  pub shown : (j .bad ≡ 0 → ⊥) → Bad (c .rules) (c .test) (j .shown)
+  pub none : j .bad ≡ 0 → j .shown ≡ 0
+
+-- the verdict alone: holds, or fails with a bad schedule
+unfoldable pub Decides : Case → Verdict → Type 0
+Decides c Holds = TestHolds (c .rules) (c .test)
+Decides c (Fails s) = Bad (c .rules) (c .test) s
+
+-- ---- what the routines give
+
+-- the case that stands at an extent of a file
+abbrev pub caseAt : List Rule → List ℕ → Extent → Case
+caseAt rules s e = record { rules = rules; test = testAt s e }
+
+-- the test that a call asks for, by its place in an accepted file, or the refusal
+unfoldable pub Selects : List ℕ → ℕ → Selected → Type 0
+Selects s k (Selected.Refused number place) = (caseIn s k ≡ refused number place) × (number ≤ 9) × (place ≤ longest)
+Selects s k (Found rules found) =
+    (caseIn s k ≡ answer (caseAt (rulesAt s rules) s found)) × (rules ≤ 32) × (6 * rules ≤ length s) × Inside s found
+
+-- the judge: the refusal, or numbers that judge the case
+unfoldable pub Judging : Outcome Case → Judged → Type 0
+Judging (refused number place) r = r ≡ Judged.Refused number place
+Judging (answer c) r = (j : Judgement) × (r ≡ Counts j) × Judges c j
+
+-- the verdict alone: the refusal, or a verdict that decides the case
+unfoldable pub Deciding : Outcome Case → Decided → Type 0
+Deciding (refused number place) r = r ≡ Decided.Refused number place
+Deciding (answer c) r = (v : Verdict) × (r ≡ As v) × Decides c v
+
+-- a test has at most 4,096 schedules, so no number of an answer is larger
+unfoldable pub Few : Judged → Type 0
+Few (Counts j) = (j .valid ≤ 4096) × (j .bad ≤ 4096) × (j .shown ≤ 4096)
+Few (Judged.Refused number place) = (number ≤ 9) × (place ≤ longest)
+
+unfoldable pub FewDecided : Decided → Type 0
+FewDecided (As Holds) = Unit {0}
+FewDecided (As (Fails s)) = s ≤ 4096
+FewDecided (Decided.Refused number place) = (number ≤ 9) × (place ≤ longest)

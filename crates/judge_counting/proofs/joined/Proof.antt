@@ -1,0 +1,13 @@
+-- `counting::joined` meets its contract. The shifted flags begin behind those of x, so that `|` adds them.
+use Rattle.judge_counting.proofs.GridLaws.{grids}
+use Rattle.judge_counting.proofs.joined.Statement.{statement}
+use Rattle.judge_counting.proofs.joined.Tie as tie
+
+shl-result : tie.Need-shl-result
+shl-result c = search grids
+
+returns : tie.Need-returns
+returns c = search grids
+
+pub joined-spec : {M : Type 1} → statement M
+joined-spec = tie.close (tie.spec shl-result returns)

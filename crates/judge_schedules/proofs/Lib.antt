@@ -1,0 +1,4 @@
+pub mod EndLaws
+pub mod RowLaws
+pub mod RowSteps
+pub mod TotalLaws

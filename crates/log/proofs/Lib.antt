@@ -1,4 +1,0 @@
-pub mod GetLaws
-pub mod Steps
-pub mod Theorems
-pub mod DamageLaws

@@ -1,0 +1,4 @@
+pub mod GetLaws
+pub mod GetSteps
+pub mod Theorems
+pub mod DamageLaws

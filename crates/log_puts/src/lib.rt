@@ -1,0 +1,81 @@
+// The fields of puts, written into a lent buffer.
+use model::Write;
+ghost use mathlib.Core.Path.{_≡_};
+ghost use Prim.Native.Nat.{_+_, _*_, _<_, _≤_};
+ghost use lib.ListN.{length};
+ghost use Rattle.file_format.specs.Bytes.{writeBytes};
+ghost use Rattle.file_format.specs.Encode.{fieldBytes};
+ghost use Rattle.file_writing.specs.Writing.{Wrote};
+ghost use Rattle.log_puts.specs.Fields.{putFields, programFields, endFields};
+
+// A write's field with a tag.
+fn put_write(out: &mut [u8], at: usize, tag: u8, w: Write) -> usize
+    requires { ⌜ at + 13 ≤ length (now out) ⌝ }
+    ensures { λ r. ⌜ Wrote (now (out .entry)) at (fieldBytes tag (writeBytes w)) (now (out .exit)) r × (r ≡ at + 13) ⌝ }
+{
+    let a = file_writing::put(out, at, tag);
+    let b = file_writing::put(out, a, 0);
+    let c = file_writing::put(out, b, 10);
+    let d = file_writing::put(out, c, w.address);
+    let e = file_writing::put(out, d, w.name);
+    let f = file_writing::put_word(out, e, w.epoch);
+    file_writing::put_word(out, f, w.block)
+}
+
+// A put of a block at tail: the block, then the superblock.
+fn put_put(out: &mut [u8], at: usize, tag: u8, tail: u8, epoch: u32, block: u32) -> usize
+    requires { ⌜ (at + 26 ≤ length (now out)) × (tail < 200) ⌝ }
+    ensures { λ r. ⌜ Wrote (now (out .entry)) at (putFields tag tail epoch block) (now (out .exit)) r × (r ≡ at + 26) ⌝ }
+{
+    let first = Write {
+        address: tail,
+        name: 1,
+        epoch,
+        block,
+    };
+    let second = Write {
+        address: 0,
+        name: 2,
+        epoch,
+        block: 65537 + (tail as u32),
+    };
+    let next = put_write(out, at, tag, first);
+    put_write(out, next, tag, second)
+}
+
+// The puts of a program, for a log with this tail and epoch.
+pub fn put_program(
+    out: &mut [u8],
+    from: usize,
+    tag: u8,
+    program: &[u8],
+    n: usize,
+    tail: u8,
+    epoch: u32,
+) -> usize
+    requires { ⌜ (4 * n ≤ length (now program)) × ((from + 26 * n ≤ length (now out)) × ((n ≤ 32) × ((tail ≤ 40) × (epoch ≤ 40)))) ⌝ }
+    ensures { λ r. ⌜ Wrote (now (out .entry)) from (programFields tag tail epoch (now (program .entry)) n) (now (out .exit)) r × (r ≡ from + 26 * n) ⌝ }
+{
+    let mut at = from;
+    let mut i: usize = 0;
+    while i < n {
+        let b = file_format::word_at(program, 4 * i);
+        at = put_put(out, at, tag, tail + (i as u8), epoch + (i as u32), b);
+        i += 1;
+    }
+    at
+}
+
+// A range check at 0 and the end of the test.
+pub fn put_end(out: &mut [u8], at: usize) -> usize
+    requires { ⌜ at + 7 ≤ length (now out) ⌝ }
+    ensures { λ r. ⌜ Wrote (now (out .entry)) at endFields (now (out .exit)) r × (r ≡ at + 7) ⌝ }
+{
+    let a = file_writing::put(out, at, 4);
+    let b = file_writing::put(out, a, 0);
+    let c = file_writing::put(out, b, 1);
+    let d = file_writing::put(out, c, 0);
+    let e = file_writing::put(out, d, 7);
+    let f = file_writing::put(out, e, 0);
+    file_writing::put(out, f, 0)
+}

@@ -1,0 +1,45 @@
+-- What trace leaves, in one record.
+use Prim.Native.Nat.{ℕ, _+_, _*_, _/_, _%_}
+use mathlib.Core.Bool.{Bool, cond, not}
+use lib.Dec.{eqb, ltb}
+use lib.ListN.{length}
+use Rattle.relation.specs.Lists.{anyBelow}
+use mathlib.Core.List.{List, _++_}
+use Rattle.model.specs.Answer.{coded}
+use Rattle.file_format.specs.Bytes.{word}
+use Rattle.log_get.specs.Puts.{traceOf}
+use Rattle.log_puts.specs.Fields.{programFields, endFields}
+
+-- one of the first n puts is (0,0)
+unfoldable pub emptyBelow : List ℕ → ℕ → Bool
+emptyBelow s n = anyBelow (λ i. eqb (word s (4 * i)) 0) n
+
+-- the size of a trace of n and m puts
+abbrev pub sizeOf : ℕ → ℕ → ℕ
+sizeOf n m = 26 * (n + m) + 7
+
+-- the fields of a test of n and m puts: main goes on where initial ended
+unfoldable pub testFields : List ℕ → List ℕ → ℕ → ℕ → List ℕ
+testFields initial main n m = programFields 1 1 0 initial n ++ (programFields 2 (1 + n) n main m ++ endFields)
+
+-- what is wrong with a call: its refusal's number, or 0
+unfoldable pub traceFault : List ℕ → List ℕ → ℕ → ℕ
+traceFault initial main room =
+    cond (not (eqb (length initial % 4) 0)) 19
+    (cond (not (eqb (length main % 4) 0)) 19
+    (cond (ltb 32 (length initial / 4)) 6
+    (cond (ltb 6 (length main / 4)) 6
+    (cond (emptyBelow initial (length initial / 4)) 20
+    (cond (emptyBelow main (length main / 4)) 20
+    (cond (ltb room (sizeOf (length initial / 4) (length main / 4))) 12 0))))))
+
+-- an answer and a buffer
+pub record TraceOut : Type 0 where
+  pub answer : ℕ
+  pub buffer : List ℕ
+
+abbrev pub traceOut : ℕ → List ℕ → TraceOut
+traceOut r b = record { answer = r; buffer = b }
+
+unfoldable pub traceAnswer : List ℕ → List ℕ → List ℕ → TraceOut
+traceAnswer initial main buffer = traceOut (coded (traceOf initial main buffer .outcome)) (traceOf initial main buffer .buffer)

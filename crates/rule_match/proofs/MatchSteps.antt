@@ -1,0 +1,106 @@
+-- Rules that are held, matches and dependencies: one law for each return and each turn of a loop.
+use mathlib.Core.Path.{_≡_, refl, sym, ap, _∙_}
+use mathlib.Core.Bool.{Bool, true, false, and-false, or-false, _||_}
+use mathlib.Core.List.{List, [], _∷_, map}
+use Prim.Native.Nat.{ℕ, zero, suc, _+_, _≤_, _<_}
+use native.Mathlib.Numerals.{add-one}
+use native.Mathlib.Omega.{arith}
+use lib.Dec.{eqb, ltb}
+use lib.ListN.{length, length-map, take}
+use lib.Seq.{length-take-le, getD-take, take-suc}
+use borrow.Author.Needs.{needs}
+use borrow.Author.Tests.{eq-eqb, ne-eqb}
+use Rattle.relation.specs.Lists.{any}
+use Rattle.relation.proofs.ListLaws.{any-append, any-intro, index-mem}
+use Rattle.model.specs.declared.Rule.{Rule}
+use Rattle.model.specs.Rules.{Label, stands, matches, dependsOn}
+use Rattle.model.specs.Cyclic.{noRule, ruleAt}
+use Rattle.rule_match.specs.declared.Rules.{Rules}
+use Rattle.rule_match.specs.Held.{itemAt, rulesOf}
+
+-- ---- the rules that are held
+
+-- what owning an array of structs in a struct tells of its length
+pub length-mapped : (X Y : Type 0) (f : X → Y) (l : List X) (n : ℕ) → length (map f l) ≡ n → length l ≡ n
+length-mapped X Y f l n e = sym (length-map l f) ∙ e
+
+module _ (rules : Rules) where
+  pub held-length : length (rules .items) ≡ 32 → rules .count ≤ 32 → length (rulesOf rules) ≡ rules .count
+  held-length all few = length-take-le (rules .count) (rules .items) (omega arith)
+
+  pub held-at : (i : ℕ) → i < rules .count → ruleAt (rulesOf rules) i ≡ itemAt rules i
+  unfolding noRule
+  held-at i h = getD-take (rules .count) (rules .items) i noRule h
+
+-- ---- epochs_stand
+
+module _ (p t u : ℕ) where
+  pub stands-equal : p ≡ 0 → eqb t u ≡ stands p t u
+  unfolding stands
+  stands-equal e = rw e
+
+  pub stands-greater : p ≡ 1 → ltb u t ≡ stands p t u
+  unfolding stands
+  stands-greater e = rw e
+
+  pub stands-less : p ≡ 2 → ltb t u ≡ stands p t u
+  unfolding stands
+  stands-less e = rw e
+
+pub stands-other : (p t u : ℕ) → (p ≡ 0 → ⊥) → (p ≡ 1 → ⊥) → (p ≡ 2 → ⊥) → false ≡ stands p t u
+unfolding stands
+stands-other zero t u a b c = absurd (a refl)
+stands-other (suc zero) t u a b c = absurd (b refl)
+stands-other (suc (suc zero)) t u a b c = absurd (c refl)
+stands-other (suc (suc (suc p))) t u a b c = refl
+
+-- ---- matches
+
+module _ (r : Rule) (l m : Label) where
+  pub matches-first : (l .name ≡ r .first → ⊥) → false ≡ matches r l m
+  unfolding matches
+  matches-first f = rw (ne-eqb (l .name) (r .first) f)
+
+  pub matches-second : (m .name ≡ r .second → ⊥) → false ≡ matches r l m
+  unfolding matches
+  matches-second f = rw (ne-eqb (m .name) (r .second) f, and-false (eqb (l .name) (r .first)))
+
+  pub matches-stands : (b : Bool) → l .name ≡ r .first → m .name ≡ r .second → b ≡ stands (r .predicate) (l .epoch) (m .epoch) → b ≡ matches r l m
+  unfolding matches
+  matches-stands b p q e = rw (eq-eqb (l .name) (r .first) p, eq-eqb (m .name) (r .second) q) e
+
+-- ---- depends
+
+module _ (rules : Rules) (l m : Label) where
+  pub depends-begun : dependsOn (take 0 (rules .items)) l m ≡ false
+  unfolding dependsOn any
+  depends-begun = refl
+
+  -- one rule more
+  pub depends-next : (i : ℕ) → i < length (rules .items)
+      → dependsOn (take (suc i) (rules .items)) l m ≡ dependsOn (take i (rules .items)) l m || matches (itemAt rules i) l m
+  unfolding dependsOn any
+  depends-next i h =
+      ap (any (λ r. matches r l m)) (take-suc (rules .items) i _ h)
+      ∙ any-append (λ r. matches r l m) (take i (rules .items)) (itemAt rules i ∷ [])
+      ∙ ap (λ (b : Bool). dependsOn (take i (rules .items)) l m || b) (or-false (matches (itemAt rules i) l m))
+
+  pub depends-more : (i : ℕ) (b : Bool) → length (rules .items) ≡ 32 → rules .count ≤ 32 → i < rules .count
+      → dependsOn (take i (rules .items)) l m ≡ false → b ≡ matches (itemAt rules i) l m → b ≡ false
+      → dependsOn (take (i + 1) (rules .items)) l m ≡ false
+  depends-more i b all few h none e f = rw (add-one i, depends-next i (omega arith), none) (sym e ∙ f)
+
+  pub depends-found : (i : ℕ) (b : Bool) → length (rules .items) ≡ 32 → rules .count ≤ 32 → i < rules .count
+      → b ≡ matches (itemAt rules i) l m → b ≡ true → true ≡ dependsOn (rulesOf rules) l m
+  unfolding dependsOn
+  depends-found i b all few h e t =
+      let there = index-mem (rulesOf rules) i noRule (rw (held-length rules all few) h) (held-at rules i h) in
+      sym (any-intro (λ r. matches r l m) there (sym e ∙ t))
+
+  pub depends-done : (i : ℕ) → i ≤ rules .count → rules .count ≤ i → dependsOn (take i (rules .items)) l m ≡ false
+      → false ≡ dependsOn (rulesOf rules) l m
+  depends-done i a b none =
+      let q : i ≡ rules .count = omega arith in
+      sym (rw q at none)
+
+pub ruleset matching = (needs, length-mapped, stands-equal, stands-greater, stands-less, stands-other, matches-first, matches-second, matches-stands, depends-begun, depends-more, depends-found, depends-done)

@@ -1,0 +1,56 @@
+// Rule sets: which labels a rule pairs, and what a label depends on.
+use model::Rule;
+ghost use mathlib.Core.Path.{_≡_};
+ghost use Prim.Native.Nat.{_≤_};
+ghost use Rattle.model.specs.Rules.{label, stands, matches, dependsOn};
+ghost use Rattle.rule_match.specs.Held.{rulesOf};
+
+// Up to 32 rules.
+pub struct Rules {
+    pub items: [Rule; 32],
+    pub count: usize,
+}
+
+// Whether epochs t and u stand in the relation of a predicate.
+fn epochs_stand(p: u8, t: u32, u: u32) -> bool
+    ensures { λ r. ⌜ r ≡ stands p t u ⌝ }
+{
+    if p == 0 {
+        return t == u;
+    }
+    if p == 1 {
+        return u < t;
+    }
+    if p == 2 {
+        return t < u;
+    }
+    false
+}
+
+// Whether a rule pairs the label (n, t) with the label (m, u).
+pub fn matches(rule: Rule, n: u8, t: u32, m: u8, u: u32) -> bool
+    ensures { λ r. ⌜ r ≡ matches rule (label n t) (label m u) ⌝ }
+{
+    if n != rule.first {
+        return false;
+    }
+    if m != rule.second {
+        return false;
+    }
+    epochs_stand(rule.predicate, t, u)
+}
+
+// Whether some rule pairs the label (n, t) with the label (m, u).
+pub fn depends(rules: Rules, n: u8, t: u32, m: u8, u: u32) -> bool
+    requires { ⌜ rules .count ≤ 32 ⌝ }
+    ensures { λ r. ⌜ r ≡ dependsOn (rulesOf rules) (label n t) (label m u) ⌝ }
+{
+    let mut k: usize = 0;
+    while k < rules.count {
+        if matches(rules.items[k], n, t, m, u) {
+            return true;
+        }
+        k += 1;
+    }
+    false
+}

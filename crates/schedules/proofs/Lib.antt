@@ -1,4 +1,0 @@
-pub mod EndLaws
-pub mod RowLaws
-pub mod Steps
-pub mod TotalLaws

@@ -1,3 +1,0 @@
-pub mod ProgramLaws
-pub mod BackLaws
-pub mod Steps
