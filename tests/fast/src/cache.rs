@@ -1,233 +1,205 @@
-// The cache: a state is taken apart once per call, with needs as masks.
+// The cache: each call decodes the state once, into columns, with needs as masks.
 
-use crate::file::{rules_of, scan, write_of, Write, MOST_RULES};
+use crate::file::{scan, word, MOST_RULES};
 use crate::refused;
-use crate::rules::{cyclic, predicate_of, Rule};
+use crate::rules::{has_ring, Rules, MOST_WRITES};
+use crate::sources::members;
 
 pub const SIZE: usize = 1024;
-const MOST_WRITES: usize = 64;
 const RULES_AT: usize = 4;
+const RULE_SIZE: usize = 3;
 const WRITES_AT: usize = 100;
 const WRITE_SIZE: usize = 12;
 const FLAG: usize = 10;
 
-/// A sound state.
+/// A state of the right layout, with acyclic rules.
 struct State {
-    rules: [Rule; MOST_RULES],
-    rule_count: usize,
-    writes: [Write; MOST_WRITES],
+    rules: Rules,
     count: usize,
+    address: [u8; MOST_WRITES],
+    name: [u8; MOST_WRITES],
+    epoch: [u32; MOST_WRITES],
     stored: u64,
+    /// For each write what it needs. Of the earlier writes to its address only the last is there:
+    /// this one needs the others in turn, so that rings, sound states and what is ready are the
+    /// same.
     needs: [u64; MOST_WRITES],
+    /// Are there two writes to one address?
+    meet: bool,
 }
 
 fn is_zero(bytes: &[u8]) -> bool {
     bytes.iter().fold(0, |all, byte| all | byte) == 0
 }
 
+/// The first so many writes.
 fn first(count: usize) -> u64 {
     match count {
-        64 => u64::MAX,
+        MOST_WRITES => u64::MAX,
         _ => (1 << count) - 1,
     }
 }
 
 impl State {
-    fn rules(&self) -> &[Rule] {
-        &self.rules[..self.rule_count]
-    }
+    /// To be filled where it stands.
+    const NONE: State = State {
+        rules: Rules::NONE,
+        count: 0,
+        address: [0; MOST_WRITES],
+        name: [0; MOST_WRITES],
+        epoch: [0; MOST_WRITES],
+        stored: 0,
+        needs: [0; MOST_WRITES],
+        meet: false,
+    };
 
-    /// The parts of a state, if it is sound.
-    fn of(bytes: &[u8]) -> Option<State> {
+    /// Decodes a state. Is false if it is not sound, whatever its needs are.
+    fn decode(&mut self, bytes: &[u8]) -> bool {
         let (rule_count, count) = (bytes[0] as usize, bytes[1] as usize);
         if rule_count > MOST_RULES || count > MOST_WRITES || bytes[3] != 0 {
-            return None;
+            return false;
         }
-        let rules_end = RULES_AT + 3 * rule_count;
+        let rules_end = RULES_AT + RULE_SIZE * rule_count;
         let used_end = WRITES_AT + WRITE_SIZE * count;
-        if !is_zero(&bytes[rules_end..WRITES_AT]) || !is_zero(&bytes[used_end..]) {
-            return None;
-        }
-        let mut state = State {
-            rules: [Rule::default(); MOST_RULES],
-            rule_count,
-            writes: [Write::default(); MOST_WRITES],
-            count,
-            stored: 0,
-            needs: [0; MOST_WRITES],
-        };
-        let entries = bytes[RULES_AT..rules_end].chunks_exact(3);
-        for (rule, entry) in state.rules.iter_mut().zip(entries) {
-            *rule = Rule::of(entry);
-        }
-        if state.rules().iter().any(|rule| rule.predicate > 2) || cyclic(state.rules()) {
-            return None;
-        }
-        let entries = bytes[WRITES_AT..used_end].chunks_exact(WRITE_SIZE);
-        for (i, entry) in entries.enumerate() {
-            if entry[FLAG] > 1 || entry[FLAG + 1] != 0 {
-                return None;
+        self.count = count;
+        is_zero(&bytes[rules_end..WRITES_AT])
+            && is_zero(&bytes[used_end..])
+            && self.decode_rules(&bytes[RULES_AT..rules_end])
+            && self.decode_writes(&bytes[WRITES_AT..used_end])
+            && self.stored.count_ones() == bytes[2] as u32
+    }
+
+    /// Is false if a predicate is not known, or the rules are cyclic.
+    fn decode_rules(&mut self, entries: &[u8]) -> bool {
+        for entry in entries.chunks_exact(RULE_SIZE) {
+            if entry[1] > 2 {
+                return false;
             }
-            state.writes[i] = write_of(entry);
-            state.stored |= (entry[FLAG] as u64) << i;
+            self.rules.push(entry[0], entry[1], entry[2]);
         }
-        if state.stored.count_ones() != bytes[2] as u32 {
-            return None;
+        !self.rules.cyclic()
+    }
+
+    /// Is false if an entry is not of the right layout.
+    fn decode_writes(&mut self, entries: &[u8]) -> bool {
+        let mut flags = 0;
+        let columns = self.address.iter_mut().zip(&mut self.name);
+        let columns = columns.zip(&mut self.epoch);
+        let entries = entries.chunks_exact(WRITE_SIZE);
+        for (i, (((address, name), epoch), entry)) in columns.zip(entries).enumerate() {
+            *address = entry[0];
+            *name = entry[1];
+            *epoch = word(&entry[2..6]);
+            let flag = u16::from_le_bytes([entry[FLAG], entry[FLAG + 1]]);
+            flags |= flag;
+            self.stored |= (flag as u64 & 1) << i;
         }
-        state.fill_needs();
-        let unstored = !state.stored;
-        let flagged = |i: usize| state.stored >> i & 1 == 1;
-        let closed = (0..count).all(|i| !flagged(i) || state.needs[i] & unstored == 0);
-        if !closed || state.has_ring() {
-            return None;
-        }
-        Some(state)
+        flags <= 1
     }
 
     fn fill_needs(&mut self) {
-        let mut at_address = [0u64; 256];
-        let mut with_name = [0u64; 256];
-        for (i, write) in self.writes[..self.count].iter().enumerate() {
-            let at = &mut at_address[write.address as usize];
-            self.needs[i] = *at;
-            *at |= 1 << i;
-            with_name[write.name as usize] |= 1 << i;
-        }
-        let epochs = self.epochs();
-        for i in 0..self.count {
-            let named = self.named(i, &with_name);
-            let (equal, less) = epochs[i];
-            self.needs[i] |= named[0] & equal | named[1] & less | named[2] & !(equal | less);
-        }
-    }
-
-    /// For each write the masks of those with an equal epoch and with a lower one, by their order.
-    fn epochs(&self) -> [(u64, u64); MOST_WRITES] {
-        let mut order = [0; MOST_WRITES];
-        for (i, write) in self.writes[..self.count].iter().enumerate() {
-            order[i] = (write.epoch as u64) << 6 | i as u64;
-        }
-        let order = &mut order[..self.count];
-        order.sort_unstable();
-        let mut masks = [(0, 0); MOST_WRITES];
-        let (mut from, mut less) = (0, 0);
-        while from < order.len() {
-            let (mut to, mut equal) = (from, 0);
-            while to < order.len() && order[to] >> 6 == order[from] >> 6 {
-                equal |= 1 << (order[to] & 63);
-                to += 1;
+        // The place, from 1, of the last write to each address.
+        let mut last = [0u8; 256];
+        let count = self.count;
+        for (i, &address) in self.address[..count].iter().enumerate() {
+            let last = &mut last[address as usize];
+            if *last != 0 {
+                self.needs[i] = 1 << (*last - 1);
+                self.meet = true;
             }
-            for place in &order[from..to] {
-                masks[(place & 63) as usize] = (equal, less);
-            }
-            less |= equal;
-            from = to;
+            *last = i as u8 + 1;
         }
-        masks
+        let (name, epoch) = (&self.name[..count], &self.epoch[..count]);
+        self.rules
+            .add_dependencies(name, epoch, &mut self.needs[..count]);
     }
 
-    /// The writes that rules name for a write, by predicate, given the masks of the names.
-    fn named(&self, i: usize, with_name: &[u64; 256]) -> [u64; 3] {
-        let mut named = [0; 3];
-        for rule in self.rules() {
-            if rule.name == self.writes[i].name {
-                named[rule.predicate as usize] |= with_name[rule.second as usize];
-            }
+    /// Is the state of the first so many writes sound, as far as needs are concerned?
+    fn needs_are_sound(&self, count: usize) -> bool {
+        let (mut unstored, mut forward) = (0, 0);
+        for (i, row) in self.needs[..count].iter().enumerate() {
+            unstored |= row & (self.stored >> i & 1).wrapping_neg();
+            forward |= row >> i;
         }
-        named
+        // Acyclic rules alone make no ring, and rows that point to earlier writes do not.
+        let may_have_ring = self.meet && forward != 0;
+        unstored & !self.stored == 0 && !(may_have_ring && has_ring(&self.needs[..count]))
     }
 
-    /// The writes that a write depends on, given the masks of the names.
-    fn dependencies(&self, i: usize, with_name: &[u64; 256]) -> u64 {
-        let write = &self.writes[i];
-        let named = self.named(i, with_name);
-        if named == [0; 3] {
-            return 0;
+    /// Is a state sound? Then this is its parts.
+    fn is_sound(&mut self, bytes: &[u8]) -> bool {
+        if !self.decode(bytes) {
+            return false;
         }
-        let (mut equal, mut less) = (0u64, 0u64);
-        for (j, other) in self.writes[..self.count].iter().enumerate() {
-            equal |= ((other.epoch == write.epoch) as u64) << j;
-            less |= ((other.epoch < write.epoch) as u64) << j;
-        }
-        named[0] & equal | named[1] & less | named[2] & !(equal | less)
+        self.fill_needs();
+        self.needs_are_sound(self.count)
     }
 
-    /// Appends a write, and adds what it needs and what needs it.
-    fn append(&mut self, write: Write) {
-        let last = self.count;
-        self.writes[last] = write;
+    /// Appends a waiting write, where there is a place.
+    fn append(&mut self, address: u8, name: u8, epoch: u32) {
+        let i = self.count;
+        self.address[i] = address;
+        self.name[i] = name;
+        self.epoch[i] = epoch;
         self.count += 1;
-        let mut with_name = [0; 256];
-        let mut at_address = 0;
-        for (j, other) in self.writes[..self.count].iter().enumerate() {
-            with_name[other.name as usize] |= 1 << j;
-            at_address |= ((other.address == write.address && j < last) as u64) << j;
-        }
-        self.needs[last] = at_address | self.dependencies(last, &with_name);
-        for j in 0..last {
-            let other = self.writes[j];
-            let depends = self.rules().iter().any(|rule| {
-                rule.second == write.name
-                    && rule.name == other.name
-                    && rule.predicate == predicate_of(other.epoch, write.epoch)
-            });
-            self.needs[j] |= (depends as u64) << last;
-        }
     }
 
-    fn has_ring(&self) -> bool {
-        let all = first(self.count);
-        let mut removed = 0;
-        while removed != all {
-            let before = removed;
-            let mut left = all & !removed;
-            while left != 0 {
-                let i = left.trailing_zeros() as usize;
-                if self.needs[i] & !removed == 0 {
-                    removed |= 1 << i;
-                }
-                left &= left - 1;
-            }
-            if removed == before {
-                return true;
-            }
+    /// Takes the last write, i, out of what the others need, and gives those that needed it.
+    fn take_out(&mut self, i: usize) -> u64 {
+        let mut on_it = 0;
+        for (j, row) in self.needs[..i].iter_mut().enumerate() {
+            on_it |= (*row >> i & 1) << j;
+            *row &= !(1 << i);
         }
-        false
+        on_it
+    }
+
+    /// Does a write need one of these, perhaps through others? A new write closes a ring only
+    /// through itself: if it needs what depends on it.
+    fn reaches(&self, i: usize, wanted: u64) -> bool {
+        let (mut reached, mut left) = (self.needs[i], self.needs[i]);
+        while wanted != 0 && left != 0 {
+            let j = left.trailing_zeros() as usize;
+            left = (left & (left - 1)) | self.needs[j] & !reached;
+            reached |= self.needs[j];
+        }
+        reached & wanted != 0
+    }
+
+    /// Stores a write and marks it.
+    fn store(&mut self, i: usize, bytes: &mut [u8], disk: &mut [u8]) {
+        let entry = &mut bytes[WRITES_AT + WRITE_SIZE * i..][..WRITE_SIZE];
+        let at = 4 * self.address[i] as usize;
+        disk[at..at + 4].copy_from_slice(&entry[6..10]);
+        entry[FLAG] = 1;
+        bytes[2] += 1;
+        self.stored |= 1 << i;
+    }
+
+    fn waiting(&self) -> u64 {
+        first(self.count) & !self.stored
     }
 
     fn is_ready(&self, i: usize) -> bool {
         self.needs[i] & !self.stored == 0
     }
 
-    /// Stores a write and marks it.
-    fn store(&mut self, i: usize, bytes: &mut [u8], disk: &mut [u8]) {
-        let write = &self.writes[i];
-        let at = 4 * write.address as usize;
-        disk[at..at + 4].copy_from_slice(&write.block.to_be_bytes());
-        bytes[WRITES_AT + WRITE_SIZE * i + FLAG] = 1;
-        bytes[2] += 1;
-        self.stored |= 1 << i;
-    }
-
     /// Stores the earliest write that is ready, and answers its place from 1, or 0.
     fn step(&mut self, bytes: &mut [u8], disk: &mut [u8]) -> u64 {
-        let mut left = first(self.count) & !self.stored;
-        while left != 0 {
-            let i = left.trailing_zeros() as usize;
-            if self.is_ready(i) {
+        match members(self.waiting()).find(|&i| self.is_ready(i)) {
+            Some(i) => {
                 self.store(i, bytes, disk);
-                return i as u64 + 1;
+                i as u64 + 1
             }
-            left &= left - 1;
+            None => 0,
         }
-        0
     }
 
     /// Stores all that wait, in the order of steps, and answers how many. A write that was not
     /// ready is looked at again only after another one is stored.
     #[inline(always)]
     fn drain(&mut self, mut store: impl FnMut(&mut State, usize)) -> u64 {
-        let waiting = first(self.count) & !self.stored;
+        let waiting = self.waiting();
         let (mut left, mut unready) = (waiting, 0);
         while left != 0 {
             let i = left.trailing_zeros() as usize;
@@ -256,15 +228,17 @@ pub fn open(bytes: &mut [u8], file: &[u8]) -> u64 {
     if scan.tests > 0 {
         return refused(22, 0);
     }
-    let rules = rules_of(file, &scan);
-    let rules = &rules[..scan.rules];
-    if cyclic(rules) {
+    let mut rules = Rules::NONE;
+    rules.fill(file, &scan);
+    if rules.cyclic() {
         return refused(8, 0);
     }
     bytes.fill(0);
     bytes[0] = scan.rules as u8;
-    for (entry, rule) in bytes[RULES_AT..].chunks_exact_mut(3).zip(rules) {
-        entry.copy_from_slice(&[rule.name, rule.predicate, rule.second]);
+    let entries = bytes[RULES_AT..].chunks_exact_mut(RULE_SIZE);
+    // A file without tests is rules alone.
+    for (entry, field) in entries.zip(file.chunks_exact(3 + RULE_SIZE)) {
+        entry.copy_from_slice(&field[3..]);
     }
     0
 }
@@ -274,25 +248,28 @@ pub fn hand_in(bytes: &mut [u8], address: u8, name: u8, epoch: u32, block: u32) 
     if bytes.len() != SIZE {
         return refused(14, 0);
     }
-    let mut state = match State::of(bytes) {
-        Some(state) => state,
-        None => return refused(15, 0),
-    };
+    let mut state = State::NONE;
+    if !state.decode(bytes) {
+        return refused(15, 0);
+    }
     let i = state.count;
-    if i == MOST_WRITES {
+    let is_full = i == MOST_WRITES;
+    if !is_full {
+        state.append(address, name, epoch);
+    }
+    // The needs are filled with the new write; the state is sound or not without it.
+    state.fill_needs();
+    let on_it = if is_full { 0 } else { state.take_out(i) };
+    if !state.needs_are_sound(i) {
+        return refused(15, 0);
+    }
+    if is_full {
         return refused(16, 0);
     }
-    state.append(Write {
-        address,
-        name,
-        epoch,
-        block,
-    });
-    let on_it = |j: usize| state.needs[j] >> i & 1 == 1;
-    if (0..i).any(|j| state.stored >> j & 1 == 1 && on_it(j)) {
+    if on_it & state.stored != 0 {
         return refused(17, 0);
     }
-    if state.has_ring() {
+    if state.reaches(i, on_it) {
         return refused(18, 0);
     }
     let entry = &mut bytes[WRITES_AT + WRITE_SIZE * i..][..FLAG];
@@ -309,10 +286,11 @@ pub fn step(bytes: &mut [u8], disk: &mut [u8]) -> u64 {
     if bytes.len() != SIZE || disk.len() != SIZE {
         return refused(14, 0);
     }
-    match State::of(bytes) {
-        Some(mut state) => state.step(bytes, disk),
-        None => refused(15, 0),
+    let mut state = State::NONE;
+    if !state.is_sound(bytes) {
+        return refused(15, 0);
     }
+    state.step(bytes, disk)
 }
 
 /// Looks at the state once, and not at each step.
@@ -321,19 +299,23 @@ pub fn drain(bytes: &mut [u8], disk: &mut [u8]) -> u64 {
     if bytes.len() != SIZE || disk.len() != SIZE {
         return refused(14, 0);
     }
-    match State::of(bytes) {
-        Some(mut state) => state.drain(|state, i| state.store(i, bytes, disk)),
-        None => refused(15, 0),
+    let mut state = State::NONE;
+    if !state.is_sound(bytes) {
+        return refused(15, 0);
     }
+    state.drain(|state, i| state.store(i, bytes, disk))
 }
 
 /// The places in the order in which a drain of a sound state stores them.
 #[cfg(test)]
 pub fn order_of_drain(bytes: &[u8]) -> Option<Vec<u64>> {
     let mut order = Vec::new();
-    State::of(bytes)?.drain(|state, i| {
-        state.stored |= 1 << i;
-        order.push(i as u64 + 1);
-    });
-    Some(order)
+    let mut state = State::NONE;
+    state.is_sound(bytes).then(|| {
+        state.drain(|state, i| {
+            state.stored |= 1 << i;
+            order.push(i as u64 + 1);
+        });
+        order
+    })
 }

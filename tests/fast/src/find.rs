@@ -1,106 +1,244 @@
-// Finding, as a hitting set: a set of rules does if it has for each bad schedule a rule that makes
-// this invalid, one that pairs a flagged write with an unflagged one.
+// Finding, as a hitting set: a set of rules does if it has for each inconsistent schedule a rule that
+// makes this invalid, one that pairs a flagged write with an unflagged one.
 
-use crate::file::{scan, test_at, Scan, Test, MOST_MAIN};
-use crate::judge::leaves_consistent;
+use crate::file::{scan, Main, Scan, Test};
+use crate::order::Order;
 use crate::refused;
-use crate::rules::{cyclic, predicate_of, Rule};
+use crate::rules::{EQUAL, GREATER, LESS};
+use crate::sources::members;
+use crate::words::{each_word, FLAGGED, LOW};
 
 const MOST_CANDIDATES: usize = 16;
-const SETS: usize = 1 << MOST_CANDIDATES;
+/// Candidates have at most so many names.
+const MOST_NAMES: usize = 2 * MOST_CANDIDATES;
 const LEAST_BUFFER: usize = 96;
 
+/// A test that finding takes has at most so many main writes, and so many schedules.
+const MOST_MAIN: usize = 12;
+const SCHEDULES: usize = 1 << MOST_MAIN;
+
+/// A set of candidates, by its number.
+type Set = u16;
+
+#[derive(Clone, Copy, Default)]
+struct Rule {
+    name: u8,
+    second: u8,
+    predicate: u8,
+}
+
+/// The candidates, in order, with their names numbered.
 struct Candidates {
-    /// First name, second name and predicate as one number, in order.
-    keys: [u32; MOST_CANDIDATES],
+    rules: [Rule; MOST_CANDIDATES],
     count: usize,
+    number: [u8; 256],
+    names: usize,
+    /// The position of the candidate of two numbered names and a predicate, from 1; 0 if there is
+    /// none.
+    position: [[[u8; 3]; MOST_NAMES]; MOST_NAMES],
+}
+
+/// The predicates in which two epochs stand, and the other way round.
+fn predicates(one: u32, two: u32) -> (u8, u8) {
+    match one.cmp(&two) {
+        std::cmp::Ordering::Equal => (EQUAL, EQUAL),
+        std::cmp::Ordering::Greater => (GREATER, LESS),
+        std::cmp::Ordering::Less => (LESS, GREATER),
+    }
 }
 
 impl Candidates {
-    fn position(&self, key: u32) -> Option<usize> {
-        self.keys[..self.count].iter().position(|&k| k == key)
-    }
-
-    fn rule(&self, i: usize) -> Rule {
-        Rule {
-            name: (self.keys[i] >> 16) as u8,
-            second: (self.keys[i] >> 8) as u8,
-            predicate: self.keys[i] as u8,
+    /// The candidates of a file, or none if there are too many.
+    fn of(file: &[u8], scan: &Scan) -> Option<Candidates> {
+        let mut found = Candidates {
+            rules: [Rule::default(); MOST_CANDIDATES],
+            count: 0,
+            number: [u8::MAX; 256],
+            names: 0,
+            position: [[[0; 3]; MOST_NAMES]; MOST_NAMES],
+        };
+        for place in &scan.places[..scan.tests] {
+            let mut main = Main::NONE;
+            main.fill(file, place);
+            found.add(&main)?;
         }
+        found.sort();
+        Some(found)
     }
-}
 
-/// The candidate that matches an ordered pair of main writes.
-fn key(test: &Test, i: usize, j: usize) -> u32 {
-    let (one, two) = (&test.main[i], &test.main[j]);
-    let predicate = predicate_of(one.epoch, two.epoch) as u32;
-    (one.name as u32) << 16 | (two.name as u32) << 8 | predicate
-}
-
-fn candidates(file: &[u8], scan: &Scan) -> Result<Candidates, u64> {
-    let mut found = Candidates {
-        keys: [0; MOST_CANDIDATES],
-        count: 0,
-    };
-    for place in &scan.places[..scan.tests] {
-        let test = test_at(file, place);
-        for i in 0..test.main_count {
-            for j in (0..test.main_count).filter(|&j| j != i) {
-                let key = key(&test, i, j);
-                if found.position(key).is_some() {
-                    continue;
-                }
-                if found.count == MOST_CANDIDATES {
-                    return Err(refused(11, 0));
-                }
-                found.keys[found.count] = key;
-                found.count += 1;
+    fn add(&mut self, main: &Main) -> Option<()> {
+        // One write alone makes no candidate.
+        if main.count < 2 {
+            return Some(());
+        }
+        for i in 0..main.count {
+            self.add_name(main.name[i])?;
+            for j in 0..i {
+                let (forth, back) = predicates(main.epoch[i], main.epoch[j]);
+                self.add_rule(main.name[i], main.name[j], forth)?;
+                self.add_rule(main.name[j], main.name[i], back)?;
             }
         }
+        Some(())
     }
-    found.keys[..found.count].sort_unstable();
-    Ok(found)
+
+    /// Each name is that of a candidate, so that with too many of them there are too many of these.
+    fn add_name(&mut self, name: u8) -> Option<()> {
+        if self.number[name as usize] == u8::MAX {
+            if self.names == MOST_NAMES {
+                return None;
+            }
+            self.number[name as usize] = self.names as u8;
+            self.names += 1;
+        }
+        Some(())
+    }
+
+    fn add_rule(&mut self, name: u8, second: u8, predicate: u8) -> Option<()> {
+        let rule = Rule {
+            name,
+            second,
+            predicate,
+        };
+        if *self.place(&rule) == 0 {
+            if self.count == MOST_CANDIDATES {
+                return None;
+            }
+            self.rules[self.count] = rule;
+            self.count += 1;
+            *self.place(&rule) = self.count as u8;
+        }
+        Some(())
+    }
+
+    fn place(&mut self, rule: &Rule) -> &mut u8 {
+        let (from, to) = self.ends(rule);
+        &mut self.position[from][to][rule.predicate as usize]
+    }
+
+    /// The numbers of a candidate's names.
+    fn ends(&self, rule: &Rule) -> (usize, usize) {
+        let number = |name: u8| self.number[name as usize] as usize;
+        (number(rule.name), number(rule.second))
+    }
+
+    fn sort(&mut self) {
+        let mut rules = self.rules;
+        rules[..self.count].sort_unstable_by_key(|rule| (rule.name, rule.second, rule.predicate));
+        self.rules = rules;
+        for (position, rule) in (1..).zip(&rules[..self.count]) {
+            *self.place(rule) = position;
+        }
+    }
+
+    /// The set of the one candidate of two names and a predicate.
+    fn set(&self, name: u8, second: u8, predicate: u8) -> Set {
+        let rule = Rule {
+            name,
+            second,
+            predicate,
+        };
+        let (from, to) = self.ends(&rule);
+        1 << (self.position[from][to][predicate as usize] - 1)
+    }
+
+    fn all(&self) -> Set {
+        first(self.count)
+    }
 }
 
-/// Which candidates make a schedule invalid: half tables of the unflagged writes for each write.
+/// The set of the first so many candidates.
+fn first(count: usize) -> Set {
+    ((1u32 << count) - 1) as Set
+}
+
+/// For each schedule of a test the candidates that make it invalid.
 struct Objections {
-    low: [[u16; 64]; MOST_MAIN],
-    high: [[u16; 64]; MOST_MAIN],
+    of: [Set; SCHEDULES],
+    with: [Set; SCHEDULES],
+    without: [Set; SCHEDULES],
 }
 
 impl Objections {
-    fn new(test: &Test, candidates: &Candidates) -> Objections {
-        let mut tables = Objections {
-            low: [[0; 64]; MOST_MAIN],
-            high: [[0; 64]; MOST_MAIN],
-        };
-        for i in 0..test.main_count {
-            let mut of = [0u16; MOST_MAIN];
-            for j in (0..test.main_count).filter(|&j| j != i) {
-                let position = candidates.position(key(test, i, j));
-                of[j] = position.map_or(0, |position| 1 << position);
-            }
-            for unflagged in 1usize..64 {
-                let (lowest, rest) = (
-                    unflagged.trailing_zeros() as usize,
-                    unflagged & (unflagged - 1),
-                );
-                tables.low[i][unflagged] = tables.low[i][rest] | of[lowest];
-                tables.high[i][unflagged] = tables.high[i][rest] | of[6 + lowest];
-            }
+    fn new() -> Objections {
+        Objections {
+            of: [0; SCHEDULES],
+            with: [0; SCHEDULES],
+            without: [0; SCHEDULES],
         }
-        tables
     }
 
-    fn to(&self, schedule: usize, all: usize) -> u16 {
-        let unflagged = all & !schedule;
-        let (mut flagged, mut rules) = (schedule, 0);
-        while flagged != 0 {
-            let i = flagged.trailing_zeros() as usize;
-            rules |= self.low[i][unflagged & 63] | self.high[i][unflagged >> 6];
-            flagged &= flagged - 1;
+    /// Fills the table by doubling it, write by write.
+    fn fill(&mut self, main: &Main, candidates: &Candidates) {
+        self.of[0] = 0;
+        for k in 0..main.count {
+            self.fill_pairs(main, candidates, k);
+            let (without, with) = self.of[..2 << k].split_at_mut(1 << k);
+            let added = self.with.iter().zip(&self.without);
+            for ((of, of_more), (more_with, more)) in without.iter_mut().zip(with).zip(added) {
+                *of_more = *of | more_with;
+                *of |= more;
+            }
         }
-        rules
+    }
+
+    /// For each schedule of the first k writes the candidates that pair write k with one of these:
+    /// with an unflagged one if k is flagged, and a flagged one with it if not.
+    fn fill_pairs(&mut self, main: &Main, candidates: &Candidates, k: usize) {
+        self.with[0] = 0;
+        self.without[0] = 0;
+        for j in 0..k {
+            let (forth, back) = predicates(main.epoch[k], main.epoch[j]);
+            let on_j = candidates.set(main.name[k], main.name[j], forth);
+            let j_on = candidates.set(main.name[j], main.name[k], back);
+            let (low, high) = self.with[..2 << j].split_at_mut(1 << j);
+            for (unflagged, flagged) in low.iter_mut().zip(high) {
+                *flagged = *unflagged;
+                *unflagged |= on_j;
+            }
+            let (low, high) = self.without[..2 << j].split_at_mut(1 << j);
+            for (unflagged, flagged) in low.iter_mut().zip(high) {
+                *flagged = *unflagged | j_on;
+            }
+        }
+    }
+}
+
+/// A bit for each set.
+struct Sets {
+    words: [u64; 1 << (MOST_CANDIDATES - LOW)],
+}
+
+impl Sets {
+    fn has(&self, set: Set) -> bool {
+        self.words[set as usize >> LOW] >> (set & 63) & 1 == 1
+    }
+
+    fn add(&mut self, set: Set) {
+        let word = &mut self.words[set as usize >> LOW];
+        let bit = 1 << (set & 63);
+        // Most are there already: to look first is faster than to store again and again.
+        if *word & bit == 0 {
+            *word |= bit;
+        }
+    }
+
+    /// Adds all sets of the first so many candidates that a set is part of.
+    fn spread(&mut self, candidates: usize) {
+        for (i, flagged) in FLAGGED.iter().enumerate().take(candidates) {
+            for word in &mut self.words {
+                *word |= *word << (1 << i) & flagged;
+            }
+        }
+        for i in LOW..candidates {
+            let half = 1 << (i - LOW);
+            for words in self.words.chunks_exact_mut(2 * half) {
+                let (without, with) = words.split_at_mut(half);
+                for (with, without) in with.iter_mut().zip(without) {
+                    *with |= *without;
+                }
+            }
+        }
     }
 }
 
@@ -110,9 +248,8 @@ pub fn find(file: &[u8], buffer: &mut [u8]) -> u64 {
     match found(file, buffer.len()) {
         Err(refusal) => refusal,
         Ok((candidates, set)) => {
-            let members = (0..candidates.count).filter(|i| set >> i & 1 == 1);
-            for (field, i) in buffer.chunks_exact_mut(6).zip(members) {
-                let rule = candidates.rule(i);
+            for (field, i) in buffer.chunks_exact_mut(6).zip(members(set as u64)) {
+                let rule = candidates.rules[i];
                 field.copy_from_slice(&[3, 0, 3, rule.name, rule.predicate, rule.second]);
             }
             set.count_ones() as u64
@@ -120,7 +257,7 @@ pub fn find(file: &[u8], buffer: &mut [u8]) -> u64 {
     }
 }
 
-fn found(file: &[u8], buffer: usize) -> Result<(Candidates, usize), u64> {
+fn found(file: &[u8], buffer: usize) -> Result<(Candidates, Set), u64> {
     let scan = scan(file)?;
     if scan.rules > 0 {
         return Err(refused(10, 0));
@@ -128,59 +265,129 @@ fn found(file: &[u8], buffer: usize) -> Result<(Candidates, usize), u64> {
     if buffer < LEAST_BUFFER {
         return Err(refused(12, 0));
     }
-    let candidates = candidates(file, &scan)?;
-    // Sets of rules that some bad schedule needs one of; later all sets that such a set is part of.
-    let mut within = [false; SETS];
+    let candidates = Candidates::of(file, &scan).ok_or(refused(11, 0))?;
+    // Sets that some inconsistent schedule needs one of; later all sets that such a set is part of.
+    let mut within = Sets {
+        words: [0; 1 << (MOST_CANDIDATES - LOW)],
+    };
+    let mut objections = Objections::new();
     for place in &scan.places[..scan.tests] {
-        let test = test_at(file, place);
-        let objections = Objections::new(&test, &candidates);
-        let all = (1 << test.main_count) - 1;
-        let mut disk = test.disk;
-        for schedule in 0..=all {
-            if !leaves_consistent(&test, &mut disk, schedule) {
-                within[objections.to(schedule, all) as usize] = true;
-            }
-        }
+        let mut test = Test::NONE;
+        test.fill(file, place);
+        objections.fill(&test.main, &candidates);
+        each_word(&test, &Order::of_no_rules(), |from, _, bad| {
+            let of = &objections.of[from as usize..];
+            members(bad).for_each(|k| within.add(of[k]));
+            true
+        });
     }
-    if within[0] {
-        return Err(refused(13, 0));
+    within.spread(candidates.count);
+    let mut search = Search {
+        candidates: &candidates,
+        within: &within,
+        best: None,
+    };
+    search.go_on(candidates.count, 0, &Reach::NONE);
+    match search.best {
+        Some(set) => Ok((candidates, set)),
+        None => Err(refused(13, 0)),
     }
-    let sets = 1 << candidates.count;
-    for i in 0..candidates.count {
-        for set in (0..sets).filter(|set| set >> i & 1 == 1) {
-            within[set] |= within[set ^ 1 << i];
-        }
-    }
-    // A set does if no such set is part of what it leaves out.
-    best(&candidates, sets, |set| !within[!set & (sets - 1)])
-        .map(|set| (candidates, set))
-        .ok_or(refused(13, 0))
 }
 
-/// The acyclic set that does, with the fewest rules and then the largest number.
-fn best(candidates: &Candidates, sets: usize, does: impl Fn(usize) -> bool) -> Option<usize> {
-    let mut best: Option<usize> = None;
-    let mut is_cyclic = [false; SETS];
-    for set in 1..sets {
-        // With a part of it a set is cyclic.
-        is_cyclic[set] = is_cyclic[set & (set - 1)];
-        let better = best.map_or(true, |best| set.count_ones() <= best.count_ones());
-        if better && !is_cyclic[set] && does(set) {
-            let mut rules = [Rule::default(); MOST_CANDIDATES];
-            let mut count = 0;
-            for i in (0..candidates.count).filter(|i| set >> i & 1 == 1) {
-                rules[count] = candidates.rule(i);
-                count += 1;
-            }
-            is_cyclic[set] = cyclic(&rules[..count]);
-            if !is_cyclic[set] {
-                best = Some(set);
+/// What names reach by the rules of an acyclic set, as masks of numbered names.
+#[derive(Clone)]
+struct Reach {
+    by_any: [u32; MOST_NAMES],
+    by_equal: [u32; MOST_NAMES],
+}
+
+impl Reach {
+    const NONE: Reach = Reach {
+        by_any: [0; MOST_NAMES],
+        by_equal: [0; MOST_NAMES],
+    };
+}
+
+/// Adds a rule, from a name to another, to what is reached.
+fn reach(rows: &mut [u32], from: usize, to: usize) {
+    let more = rows[to] | 1 << to;
+    for (name, row) in rows.iter_mut().enumerate() {
+        if name == from || *row >> from & 1 == 1 {
+            *row |= more;
+        }
+    }
+}
+
+/// The search for the acyclic set that does, with the fewest rules and then the largest number.
+struct Search<'a> {
+    candidates: &'a Candidates,
+    within: &'a Sets,
+    best: Option<Set>,
+}
+
+impl Search<'_> {
+    /// A set does if no needed set is part of what it leaves out.
+    fn does(&self, set: Set) -> bool {
+        !self.within.has(self.candidates.all() & !set)
+    }
+
+    /// Goes through the acyclic sets that have these of the later candidates and some of the first
+    /// `i`, in falling number, and leaves out what cannot be better than the best: sets that do not
+    /// even with all of the first `i`, and those with as many rules.
+    fn go_on(&mut self, mut i: usize, set: Set, reached: &Reach) {
+        if self.does(set) {
+            self.best = Some(set);
+            return;
+        }
+        while i > 0 && self.may_be_better(set) && self.does(set | first(i)) {
+            i -= 1;
+            if let Some(more) = self.with(set, i, reached) {
+                self.go_on(i, set | 1 << i, &more);
             }
         }
     }
-    if does(0) {
-        Some(0)
-    } else {
-        best
+
+    /// May a set with one more rule be better than the best?
+    fn may_be_better(&self, set: Set) -> bool {
+        self.best
+            .map_or(true, |best| set.count_ones() + 1 < best.count_ones())
     }
+
+    /// What an acyclic set reaches with one more candidate, or none if that makes it cyclic. Only
+    /// closed walks with the new rule are new.
+    fn with(&self, set: Set, i: usize, reached: &Reach) -> Option<Reach> {
+        let names = self.candidates.names;
+        let rule = self.candidates.rules[i];
+        let (from, to) = self.candidates.ends(&rule);
+        let mut more = reached.clone();
+        if rule.predicate == EQUAL {
+            reach(&mut more.by_equal[..names], from, to);
+            if more.by_equal[from] >> from & 1 == 1 {
+                return None;
+            }
+        }
+        reach(&mut more.by_any[..names], from, to);
+        let closes = more.by_any[from] >> from & 1 == 1;
+        if closes && self.has_both(set | 1 << i, around(&more.by_any[..names], from)) {
+            return None;
+        }
+        Some(more)
+    }
+
+    /// Has a set both a > and a < rule within these names?
+    fn has_both(&self, set: Set, names: u32) -> bool {
+        let mut found = [false; 3];
+        for rule in members(set as u64).map(|i| self.candidates.rules[i]) {
+            let (from, to) = self.candidates.ends(&rule);
+            found[rule.predicate as usize] |= names >> from & names >> to & 1 == 1;
+        }
+        found[GREATER as usize] && found[LESS as usize]
+    }
+}
+
+/// The names that a name reaches and that reach it.
+fn around(rows: &[u32], name: usize) -> u32 {
+    let back = |&other: &usize| rows[other] >> name & 1 == 1;
+    let others = members(rows[name] as u64).filter(back);
+    others.fold(0, |mask, other| mask | 1 << other)
 }

@@ -1,13 +1,20 @@
-// The routines of both libraries in Rust as one would write it for speed: one pass over the input,
-// sets as masks, tables computed once per test or state, no allocation. Each function takes and
+// The routines of both libraries in Rust as one would write it for speed: each byte decoded once, sets
+// and disks as masks, tables computed once per test or state, no allocation. Each function takes and
 // answers what its proved counterpart does, refusals too; the tests hold it to the reference.
+//
+// The judge visits one schedule after another, as its proved counterpart does; the judge by words, the
+// verdict, the program's text and find take 64 at a time.
 
 pub mod cache;
 pub mod file;
 pub mod find;
 pub mod judge;
 pub mod log;
-pub mod rules;
+mod order;
+pub mod program;
+mod rules;
+mod sources;
+mod words;
 
 #[cfg(test)]
 mod tests;

@@ -1,16 +1,18 @@
 // Each routine against the reference, on random inputs.
 
+use reference::checks::Check;
 use reference::crashes;
 use reference::damage;
+use reference::file::{File, Test, MOST_MAIN};
 use reference::generate::{self, Values};
 use reference::judge::{is_bad, judge_test, numbered, readable};
 use reference::random::Random;
-use reference::refusal::Refusal;
+use reference::refusal::{self, Refusal};
 use reference::states;
-use reference::writes::Write;
+use reference::writes::{Block, Write};
 
 use crate::refused;
-use crate::{cache, find, judge, log};
+use crate::{cache, file, find, judge, log, program};
 
 fn answer(of: Result<u64, Refusal>) -> u64 {
     of.unwrap_or_else(|refusal| refused(refusal.number as u64, refusal.place))
@@ -30,14 +32,68 @@ fn any_file(random: &mut Random) -> Vec<u8> {
     }
 }
 
+/// A file whose bytes or fields are changed, or that is at a limit or beyond all of them.
+fn odd_file(random: &mut Random) -> Vec<u8> {
+    let file = generate::file(random);
+    match random.below(8) {
+        0 => damage::bytes_changed(random, &file),
+        1 => damage::bytes_shifted(random, &file),
+        2 => damage::fields_changed(random, &file),
+        3 => damage::any_fields(random),
+        4 => damage::huge_length(random),
+        5 => damage::over_long(random),
+        6 => {
+            let limit = random.pick(&damage::LIMITS);
+            damage::at_limit(random, limit)
+        }
+        _ => damage::any(random).bytes,
+    }
+}
+
 #[test]
-fn judging() {
-    for seed in 0..4000 {
-        let mut random = Random::new(seed);
-        let bytes = any_file(&mut random);
-        let file = readable(&bytes);
-        for number in [1, 2, 0, 3] {
-            let (judged, verdict) = (judge::judge(&bytes, number), judge::verdict(&bytes, number));
+fn reading() {
+    let (mut accepted, mut refusals) = (0, [0; 8]);
+    for seed in 0..20_000 {
+        let bytes = odd_file(&mut Random::new(seed));
+        let expected = reference::file::read(&bytes);
+        match &expected {
+            Ok(_) => accepted += 1,
+            Err(refusal) => refusals[refusal.number as usize] += 1,
+        }
+        let counts = expected.map(|file| (file.rules.len() + 256 * file.tests.len()) as u64);
+        assert_eq!(file::read(&bytes), answer(counts), "seed {seed}");
+    }
+    assert!(
+        accepted > 1000 && refusals[1..].iter().all(|&count| count > 100),
+        "{refusals:?}"
+    );
+}
+
+/// The longest file, and each of its beginnings: what is cut off is seen wherever that is.
+#[test]
+fn reading_beginnings() {
+    let bytes = generate::full_file(&mut Random::new(1), true).to_bytes();
+    assert_eq!(bytes.len(), reference::file::LONGEST);
+    for length in (0..3000).chain(bytes.len() - 3000..=bytes.len()) {
+        let expected = reference::file::read(&bytes[..length]);
+        let counts = expected.map(|file| (file.rules.len() + 256 * file.tests.len()) as u64);
+        assert_eq!(
+            file::read(&bytes[..length]),
+            answer(counts),
+            "{length} bytes"
+        );
+    }
+}
+
+/// Both judges and the verdict on tests of a file.
+fn same_judgements(bytes: &[u8], numbers: impl IntoIterator<Item = u64>, seed: u64) {
+    let file = readable(bytes);
+    for number in numbers {
+        let verdict = judge::verdict(bytes, number);
+        for judged in [
+            judge::judge(bytes, number),
+            judge::judge_by_words(bytes, number),
+        ] {
             let test = file.as_ref().map_err(|refusal| *refusal);
             match test.and_then(|file| Ok((&file.rules, numbered(file, number)?))) {
                 Err(refusal) => {
@@ -56,6 +112,76 @@ fn judging() {
                     }
                 }
             }
+        }
+    }
+}
+
+#[test]
+fn judging() {
+    for seed in 0..4000 {
+        let bytes = any_file(&mut Random::new(seed));
+        same_judgements(&bytes, [1, 2, 0, 3], seed);
+    }
+}
+
+/// Each number of main writes, with many checks and with rules of which many match.
+#[test]
+fn judging_up_to_the_limit() {
+    for seed in 0..600 {
+        let mut random = Random::new(seed);
+        let values = Values::small(&mut random);
+        let most = random.pick(&[0, 2, 6, 32]);
+        let rules = crashes::acyclic_rules(&mut random, &values, most);
+        let main = seed as usize % (MOST_MAIN + 1);
+        let tests = vec![crashes::test(&mut random, &values, main)];
+        same_judgements(&File { rules, tests }.to_bytes(), [1], seed);
+    }
+    for seed in 0..200 {
+        let mut random = Random::new(seed);
+        let ranges = crashes::range_file(&mut random).to_bytes();
+        same_judgements(&ranges, [1], seed);
+        same_judgements(&crashes::chain(&mut random).0.to_bytes(), [1], seed);
+    }
+    for seed in 0..4 {
+        let mut random = Random::new(seed);
+        let mut file = generate::full_file(&mut random, false);
+        file.rules.truncate(3 * seed as usize);
+        same_judgements(&file.to_bytes(), 0..=17, seed);
+    }
+}
+
+#[test]
+fn printing() {
+    for seed in 0..2000 {
+        let mut random = Random::new(seed);
+        let bytes = match random.below(4) {
+            0 => odd_file(&mut random),
+            _ => any_file(&mut random),
+        };
+        // A whole test of 12 writes takes the reference long.
+        let is_long = reference::file::read(&bytes).map_or(false, |file| {
+            file.tests
+                .iter()
+                .map(|test| 1 << test.main.len())
+                .sum::<usize>()
+                > 10_000
+        });
+        if is_long && !random.one_in(20) {
+            continue;
+        }
+        for length in [0, 399, 400, 1000] {
+            let mut got = random.bytes(length);
+            let mut expected = got.clone();
+            let text = reference::program::output(&bytes);
+            let length = if length < 400 {
+                Err(refusal::plain(refusal::BUFFER_TOO_SHORT))
+            } else {
+                expected[..text.len()].copy_from_slice(text.as_bytes());
+                Ok(text.len() as u64)
+            };
+            let written = program::judge_lines(&bytes, &mut got);
+            assert_eq!(written, answer(length), "seed {seed}");
+            assert_eq!(got, expected, "seed {seed}");
         }
     }
 }
@@ -92,6 +218,98 @@ fn finding() {
         assert_eq!(one, two, "seed {seed}");
     }
     assert!(found > 50, "{found}");
+}
+
+/// Tests of up to 12 writes with up to 16 candidates and more, of all three predicates.
+#[test]
+fn finding_up_to_the_limit() {
+    let (mut rules, mut refusals) = ([0; 17], [0; 29]);
+    for seed in 0..400 {
+        let mut random = Random::new(seed);
+        let (names, epochs) = random.pick(&[(4, 1), (2, 3), (2, 2), (3, 2), (1, 4)]);
+        let values = Values {
+            names: random.bytes(names),
+            epochs: (0..epochs).collect(),
+            ..Values::small(&mut random)
+        };
+        let most = random.pick(&[5, 7, 9, MOST_MAIN]);
+        let test = |random: &mut Random| {
+            let main = random.between(2, most);
+            if random.one_in(4) {
+                return crashes::test(random, &values, main);
+            }
+            let mut test = crashes::guarded_test(random, &values, main, 12);
+            if random.one_in(4) {
+                test.checks.truncate(2);
+            }
+            test
+        };
+        let file = File {
+            rules: vec![],
+            tests: (0..random.between(1, 3))
+                .map(|_| test(&mut random))
+                .collect(),
+        };
+        let bytes = file.to_bytes();
+        let (mut one, mut two) = ([0xEE; 96], [0xEE; 96]);
+        let expected = reference::find::find(&bytes, &mut one);
+        match expected {
+            Ok(count) => rules[count] += 1,
+            Err(refusal) => refusals[refusal.number as usize] += 1,
+        }
+        let expected = answer(expected.map(|count| count as u64));
+        assert_eq!(find::find(&bytes, &mut two), expected, "seed {seed}");
+        assert_eq!(one, two, "seed {seed}");
+    }
+    assert!(rules[..5].iter().all(|&count| count > 0), "{rules:?}");
+    assert!(refusals[11] > 0 && refusals[13] > 0, "{refusals:?}");
+}
+
+/// 16 candidates of 16 names: tests of two writes, of which most ask for a rule of their own.
+#[test]
+fn finding_many_rules() {
+    let mut rules = [0; 17];
+    for seed in 0..30 {
+        let mut random = Random::new(seed);
+        let test = |random: &mut Random, k: u8| {
+            let there = Block {
+                first: 0,
+                second: 1,
+            };
+            let write = |random: &mut Random, i: u8| Write {
+                address: i,
+                name: 2 * k + i,
+                epoch: random.below(3) as u32,
+                block: there,
+            };
+            let tie = |a, b| Check::Pair {
+                a,
+                v: there,
+                b,
+                w: there,
+            };
+            Test {
+                initial: vec![],
+                main: vec![write(random, 0), write(random, 1)],
+                checks: match random.below(20) {
+                    0 => vec![],
+                    1..=9 => vec![tie(0, 1)],
+                    _ => vec![tie(1, 0)],
+                },
+            }
+        };
+        let file = File {
+            rules: vec![],
+            tests: (0..8).map(|k| test(&mut random, k)).collect(),
+        };
+        let bytes = file.to_bytes();
+        let (mut one, mut two) = ([0xEE; 96], [0xEE; 96]);
+        let expected = reference::find::find(&bytes, &mut one).expect("rules that do");
+        rules[expected] += 1;
+        assert_eq!(find::find(&bytes, &mut two), expected as u64, "seed {seed}");
+        assert_eq!(one, two, "seed {seed}");
+    }
+    assert!(rules[7] > 0 && rules[8] > 0, "{rules:?}");
 }
 
 fn hand_in(state: &mut [u8], write: &Write) -> u64 {
@@ -164,4 +382,123 @@ fn drains_in_the_order_of_steps() {
         not_of_arrival += usize::from(order.windows(2).any(|two| two[1] < two[0]));
     }
     assert!(not_of_arrival > 100, "{not_of_arrival}");
+}
+
+/// The three calls on one state and disk, each against the reference.
+fn same_calls(state: &[u8], write: &Write, seed: u64) {
+    let (mut one, mut two) = (state.to_vec(), state.to_vec());
+    let expected = reference::cache::hand_in(&mut one, write);
+    let expected = expected.map(|()| one[1] as u64);
+    assert_eq!(hand_in(&mut two, write), answer(expected), "seed {seed}");
+    assert_eq!(one, two, "seed {seed}");
+    for drains in [false, true] {
+        let (mut one, mut two) = (state.to_vec(), state.to_vec());
+        let (mut disk_one, mut disk_two) = ([7; 1024], [7; 1024]);
+        let (expected, got) = if drains {
+            (
+                reference::cache::drain(&mut one, &mut disk_one),
+                cache::drain(&mut two, &mut disk_two),
+            )
+        } else {
+            (
+                reference::cache::step(&mut one, &mut disk_one),
+                cache::step(&mut two, &mut disk_two),
+            )
+        };
+        assert_eq!(got, answer(expected.map(|n| n as u64)), "seed {seed}");
+        assert_eq!(one, two, "seed {seed}");
+        assert_eq!(disk_one, disk_two, "seed {seed}");
+    }
+}
+
+/// States that are sound and states that break one clause, whichever it is.
+#[test]
+fn caching_by_states() {
+    for seed in 0..1000 {
+        let mut random = Random::new(seed);
+        let values = Values::small(&mut random);
+        let write = generate::write(&mut random, &values);
+        same_calls(&states::sound(&mut random), &write, seed);
+        if seed < 100 {
+            for clause in states::CLAUSES {
+                same_calls(&states::broken(&mut random, clause), &write, seed);
+            }
+        }
+    }
+}
+
+/// Epochs that are far apart are ranked in another way than those that are not.
+#[test]
+fn caching_far_epochs() {
+    let (mut refusals, mut most) = ([0; 29], 0);
+    for seed in 0..300 {
+        let mut random = Random::new(seed);
+        let apart = random.pick(&[1, 2, 1_000, 50_000_000]);
+        let values = Values {
+            names: (0..4).collect(),
+            addresses: random.bytes(40),
+            epochs: (0..70).map(|i| i * apart).collect(),
+            ..Values::small(&mut random)
+        };
+        let rules = crashes::acyclic_rules(&mut random, &values, 12);
+        let mut state = states::Source {
+            values: values.clone(),
+            rules,
+        }
+        .opened();
+        let mut disk = [0; 1024];
+        for _ in 0..80 {
+            let write = generate::write(&mut random, &values);
+            if random.one_in(8) {
+                same_calls(&state, &write, seed);
+                cache::step(&mut state, &mut disk);
+            }
+            let mut same = state.clone();
+            let expected = reference::cache::hand_in(&mut same, &write);
+            if let Err(refusal) = expected {
+                refusals[refusal.number as usize] += 1;
+            }
+            let expected = expected.map(|()| same[1] as u64);
+            assert_eq!(hand_in(&mut state, &write), answer(expected), "seed {seed}");
+            assert_eq!(state, same, "seed {seed}");
+        }
+        most = most.max(state[1]);
+    }
+    assert_eq!(most, 64);
+    assert!(refusals[16..=18].iter().all(|&n| n > 100), "{refusals:?}");
+}
+
+/// Keys that are there once, several times or not at all, 0 among them, with empty blocks between.
+#[test]
+fn getting() {
+    let mut answers = [0; 3];
+    for seed in 0..20_000 {
+        let mut random = Random::new(seed);
+        let superblock = match random.below(3) {
+            0 => generate::head_and_tail(&mut random),
+            _ => Block {
+                first: random.below(257) as u16,
+                second: random.below(258) as u16,
+            },
+        };
+        let keys = random.between(1, 300);
+        let mut disk = superblock.to_bytes().to_vec();
+        for _ in 1..256 {
+            disk.extend(match random.below(4) {
+                0 => [0; 4],
+                _ => Block {
+                    first: random.below(keys) as u16,
+                    second: random.below(3) as u16,
+                }
+                .to_bytes(),
+            });
+        }
+        let key = random.below(keys + 2) as u16;
+        let expected = reference::log::get(&disk, key);
+        answers[expected.map_or(2, |value| value.is_some() as usize)] += 1;
+        let expected = expected.map(|value| value.map_or(65536, u64::from));
+        assert_eq!(log::get(&disk, key), answer(expected), "seed {seed}");
+    }
+    assert!(answers.iter().all(|&count| count > 1000), "{answers:?}");
+    assert_eq!(log::get(&[0; 1023], 0), refused(14, 0));
 }
