@@ -1,7 +1,8 @@
 # test: the whole gate. run: the judging program on the samples. soak: many more random cases.
 # bench: the proved routines against Rust. samples: writes samples/*.bin anew. pins: writes anew what
 # tests/documents keeps of contracts, theorems and definitions, after each change has been looked at.
-.PHONY: test run soak bench samples pins clean
+# crates: writes crates.txt anew.
+.PHONY: test run soak bench samples pins crates clean
 
 test:
 	@tools/test.sh
@@ -26,6 +27,9 @@ samples:
 
 pins:
 	@tools/test.sh pins
+
+crates:
+	@tools/test.sh crates
 
 clean:
 	rm -rf target

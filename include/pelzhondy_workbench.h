@@ -9,9 +9,9 @@
  * it.
  *
  * Nothing here uses the heap. Judge and verdict keep a few disks of 1,024 bytes and tables of 512
- * bytes on the stack, find a table of 65,536 bytes and one of 32,768 bytes besides. What the compiled
- * code needs beyond these is neither proved nor measured: these routines are for a host, not for
- * firmware.
+ * bytes on the stack, find a table of 32,768 bytes, two of 16,384 and one of 8,192 besides. What the
+ * compiled code needs beyond these is neither proved nor measured: these routines are for a host, not
+ * for firmware.
  */
 #ifndef PELZHONDY_WORKBENCH_H
 #define PELZHONDY_WORKBENCH_H

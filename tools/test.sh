@@ -5,6 +5,7 @@
 #   tools/test.sh bench   the benchmark
 #   tools/test.sh samples writes the sample files anew
 #   tools/test.sh pins    writes anew what tests/documents keeps of contracts, theorems and definitions
+#   tools/test.sh crates  writes crates.txt anew, from what the crates name
 # Each part runs whatever became of the ones before it. The very last line is 'N passed, M failed',
 # and the status is 0 only if M is 0.
 set -uo pipefail
@@ -206,8 +207,12 @@ pins)
     rust run -p documents --bin pins
     exit
     ;;
+crates)
+    rust run -p documents --bin crates
+    exit
+    ;;
 *)
-    echo "usage: tools/test.sh [soak | bench | samples | pins]" >&2
+    echo "usage: tools/test.sh [soak | bench | samples | pins | crates]" >&2
     exit 2
     ;;
 esac

@@ -23,7 +23,7 @@ use Rattle.log_get.specs.Puts.{Put, start, writesOf, logTest, traced, traceOf}
 use Rattle.log_get.specs.Get.{getOf}
 use Rattle.log_get.specs.Theorem.{filled, Meets}
 use Rattle.judge_text.specs.Lines.{refusedText, failsText, programText}
-use Rattle.find_call.specs.Finder.{Found, found, findOf}
+use Rattle.find_call.specs.Finder.{Found, found, findOf, foundLength}
 use Rattle.cache_model.specs.State.{storedOn}
 use Rattle.cache_model.specs.Calls.{Left, openOf, handInOf, stepOf, given}
 
@@ -84,7 +84,7 @@ Judged rules valid bad =
 
 -- finding on the file of one test, with any buffer that is long enough
 abbrev pub Finding : Test → (List ℕ → Found) → Type 0
-Finding t left = (buffer : List ℕ) → 96 ≤ length buffer → findOf (fileBytes (file [] (t ∷ []))) buffer ≡ left buffer
+Finding t left = (buffer : List ℕ) → foundLength ≤ length buffer → findOf (fileBytes (file [] (t ∷ []))) buffer ≡ left buffer
 
 -- the range check at any block (head, tail) of any disk
 abbrev pub RangeAt : ℕ → ℕ → Bool → Type 0

@@ -1,10 +1,10 @@
 -- A state's rules and writes: one law for each return and each turn of a loop.
 use mathlib.Core.Path.{_≡_, refl, ap, _∙_}
 use mathlib.Core.List.{List, [], _∷_, _++_}
-use Prim.Native.Nat.{ℕ, _+_, _*_, _≤_, _<_}
+use Prim.Native.Nat.{ℕ, _+_, _-_, _*_, _≤_, _<_}
 use native.Mathlib.Numerals.{add-one}
 use native.Mathlib.Omega.{arith}
-use lib.ListN.{length, take, set, List·getD-append}
+use lib.ListN.{length, take, drop, set, List·getD-append}
 use lib.Seq.{take-suc-set, getD-at}
 use borrow.Author.Needs.{needs}
 use Rattle.relation.specs.Lists.{tabulate}
@@ -12,7 +12,8 @@ use Rattle.relation.proofs.ListLaws.{length-tabulate, getD-tabulate}
 use Rattle.model.specs.declared.Rule.{Rule}
 use Rattle.model.specs.declared.Write.{Write}
 use Rattle.model.specs.Schedule.{noWrite, writeAt}
-use Rattle.file_format.specs.Scan.{ruleField, writeField}
+use Rattle.model.specs.Limits.{mostRules}
+use Rattle.file_format.specs.File.{ruleLength, writeLength, ruleOf, writeOf}
 use Rattle.rule_match.proofs.MatchSteps.{length-mapped}
 use Rattle.cache_model.specs.State.{ruleCount, acceptedCount, ruleIn, writeIn, rulesIn, writesIn}
 
@@ -23,11 +24,11 @@ module _ (s : List ℕ) where
   unfolding tabulate
   rules-begun l = refl
 
-  pub rules-more : (l : List Rule) (i n : ℕ) (r : Rule) → length l ≡ 32 → n ≡ ruleCount s → ruleCount s ≤ 32 → i < n
-      → take i l ≡ tabulate (ruleIn s) i → r ≡ ruleField s (1 + 3 * i) → take (i + 1) (set l i r) ≡ tabulate (ruleIn s) (i + 1)
-  unfolding tabulate ruleIn ruleField
+  pub rules-more : (l : List Rule) (i n : ℕ) (r : Rule) → length l ≡ mostRules → n ≡ ruleCount s → ruleCount s ≤ mostRules → i < n → take i l ≡ tabulate (ruleIn s) i
+      → r ≡ ruleOf (take (4 + ruleLength * i + ruleLength - (4 + ruleLength * i)) (drop (4 + ruleLength * i) s)) → take (i + 1) (set l i r) ≡ tabulate (ruleIn s) (i + 1)
+  unfolding tabulate ruleIn
   rules-more l i n r all c few h e q =
-      let z : 1 + 3 * i + 3 ≡ 4 + 3 * i = omega arith in
+      let z : 4 + ruleLength * i + ruleLength - (4 + ruleLength * i) ≡ ruleLength = omega arith in
       rw (add-one i, take-suc-set l i r (omega arith), e, q, z)
 
   pub rules-done : (l : List Rule) (i n : ℕ) → n ≡ ruleCount s → i ≤ n → n ≤ i → take i l ≡ tabulate (ruleIn s) i → take n l ≡ rulesIn s
@@ -36,10 +37,10 @@ module _ (s : List ℕ) where
       let z : i ≡ n = omega arith in
       (rw z at e) ∙ ap (tabulate (ruleIn s)) c
 
-  pub write-read : (i : ℕ) (r : Write) → r ≡ writeField s (97 + 12 * i) → r ≡ writeIn s i
-  unfolding writeIn writeField
+  pub write-read : (i : ℕ) (r : Write) → r ≡ writeOf (take (100 + 12 * i + writeLength - (100 + 12 * i)) (drop (100 + 12 * i) s)) → r ≡ writeIn s i
+  unfolding writeIn
   write-read i r e =
-      let z : 97 + 12 * i + 3 ≡ 100 + 12 * i = omega arith in
+      let z : 100 + 12 * i + writeLength - (100 + 12 * i) ≡ writeLength = omega arith in
       rw z at e
 
 -- ---- the accepted writes

@@ -13,6 +13,7 @@ use Rattle.relation.specs.Lists.{anyBelow}
 use Rattle.relation.specs.Finite.{rowsOf, closed, loops}
 use Rattle.relation.proofs.ListLaws.{anyBelow-intro, anyBelow-ext}
 use Rattle.relation.proofs.FiniteLaws.{loops-closed}
+use Rattle.model.specs.Limits.{mostRules, mostHeld}
 use Rattle.model.specs.declared.Rule.{Rule}
 use Rattle.model.specs.declared.Write.{Write}
 use Rattle.model.specs.Answer.{refused, answer, refusal, coded}
@@ -82,7 +83,7 @@ pub ring-table : (rules : List Rule) (s rows : List ℕ) → rules ≡ rulesIn s
 unfolding Tabled
 ring-table rules s rows i h = rw i h
 
-pub ring-most : (s : List ℕ) (n : ℕ) → acceptedCount s < 64 → n ≡ acceptedCount s → n + 1 ≤ 64
+pub ring-most : (s : List ℕ) (n : ℕ) → acceptedCount s < mostHeld → n ≡ acceptedCount s → n + 1 ≤ mostHeld
 ring-most s n h c = omega arith
 
 pub ruleset ringing = (needs, ring-table, ring-closed, ring-most)
@@ -100,24 +101,24 @@ module _ (w : Write) (s : List ℕ) where
     hand-unsound t = rw (eq-eqb _ _ hs, ← e, not-true b t)
 
     module _ (t : not b ≡ false) where
-      pub hand-rules : ruleCount s ≤ 32
+      pub hand-rules : ruleCount s ≤ mostRules
       hand-rules = few-rules s (sym e ∙ not-false b t)
 
-      pub hand-writes : acceptedCount s ≤ 64
+      pub hand-writes : acceptedCount s ≤ mostHeld
       hand-writes = few-writes s (sym e ∙ not-false b t)
 
       pub hand-tabled : (rows : List ℕ) → TabledIf b s rows → Tabled s rows
       unfolding TabledIf
       hand-tabled rows h = h (not-false b t)
 
-      pub hand-held : (r : Rules) → r .count ≡ ruleCount s → r .count ≤ 32
+      pub hand-held : (r : Rules) → r .count ≡ ruleCount s → r .count ≤ mostRules
       hand-held r c = rw c hand-rules
 
-      pub hand-full : 64 ≤ acceptedCount s → 16 ≡ handFault w s
+      pub hand-full : mostHeld ≤ acceptedCount s → 16 ≡ handFault w s
       unfolding handFault handFaultBy
       hand-full h = rw (eq-eqb _ _ hs, ← e, not-false b t, le-leb _ _ h)
 
-      module _ (m : acceptedCount s < 64) (r : Rules) (i : rulesOf r ≡ rulesIn s) (l : Bool) (f : l ≡ late (rulesOf r) (writesIn s) (storedIn s) w) where
+      module _ (m : acceptedCount s < mostHeld) (r : Rules) (i : rulesOf r ≡ rulesIn s) (l : Bool) (f : l ≡ late (rulesOf r) (writesIn s) (storedIn s) w) where
         pub hand-late : l ≡ true → 17 ≡ handFault w s
         unfolding handFault handFaultBy
         hand-late h = rw (eq-eqb _ _ hs, ← e, not-false b t, lt-leb _ _ m, ← i, ← f, h)
@@ -139,7 +140,7 @@ module _ (w : Write) (s : List ℕ) (n : ℕ) (e : n ≡ handFault w s) where
   hand-refused : (r : ℕ) → (n ≡ 0 → ⊥) → r ≡ refusal n 0 → callLeavesState r s ≡ codedKept (handInOf w s [])
   unfolding handFault handFaultBy handInOf codedKept coded
   hand-refused r z q =
-      go (eqb (length s) 1024) (sound s) (leb 64 (acceptedCount s)) (late (rulesIn s) (writesIn s) (storedIn s) w) (needsRing (rulesIn s) (writesIn s ++ (w ∷ []))) e
+      go (eqb (length s) 1024) (sound s) (leb mostHeld (acceptedCount s)) (late (rulesIn s) (writesIn s) (storedIn s) w) (needsRing (rulesIn s) (writesIn s ++ (w ∷ []))) e
     where
       go : (a b c d f : Bool) → n ≡ handFaultBy a b c d f
           → callLeavesState r s ≡ codedKept (cond (not a) (left (refused 14 0) s []) (cond (not b) (left (refused 15 0) s []) (cond c (left (refused 16 0) s []) (cond d (left (refused 17 0) s []) (cond f (left (refused 18 0) s []) (left (answer (acceptedCount s + 1)) (handed s w) []))))))
@@ -154,17 +155,17 @@ module _ (w : Write) (s : List ℕ) (n : ℕ) (e : n ≡ handFault w s) where
   record Welcome : Type 0 where
     size : eqb (length s) 1024 ≡ true
     good : sound s ≡ true
-    room : leb 64 (acceptedCount s) ≡ false
+    room : leb mostHeld (acceptedCount s) ≡ false
     timely : late (rulesIn s) (writesIn s) (storedIn s) w ≡ false
     ringless : needsRing (rulesIn s) (writesIn s ++ (w ∷ [])) ≡ false
 
   welcome : n ≡ 0 → Welcome
   unfolding handFault handFaultBy
   welcome z =
-      go (eqb (length s) 1024) (sound s) (leb 64 (acceptedCount s)) (late (rulesIn s) (writesIn s) (storedIn s) w) (needsRing (rulesIn s) (writesIn s ++ (w ∷ [])))
+      go (eqb (length s) 1024) (sound s) (leb mostHeld (acceptedCount s)) (late (rulesIn s) (writesIn s) (storedIn s) w) (needsRing (rulesIn s) (writesIn s ++ (w ∷ [])))
       refl refl refl refl refl (sym e ∙ z)
     where
-      go : (a b c d f : Bool) → eqb (length s) 1024 ≡ a → sound s ≡ b → leb 64 (acceptedCount s) ≡ c → late (rulesIn s) (writesIn s) (storedIn s) w ≡ d
+      go : (a b c d f : Bool) → eqb (length s) 1024 ≡ a → sound s ≡ b → leb mostHeld (acceptedCount s) ≡ c → late (rulesIn s) (writesIn s) (storedIn s) w ≡ d
           → needsRing (rulesIn s) (writesIn s ++ (w ∷ [])) ≡ f → handFaultBy a b c d f ≡ 0 → Welcome
       go true true false false false p q r t u z = record { size = p; good = q; room = r; timely = t; ringless = u }
       go false b c d f p q r t u z = absurd (omega arith)
@@ -173,7 +174,7 @@ module _ (w : Write) (s : List ℕ) (n : ℕ) (e : n ≡ handFault w s) where
       go true true false true f p q r t u z = absurd (omega arith)
       go true true false false true p q r t u z = absurd (omega arith)
 
-  pub hand-room : n ≡ 0 → (length s ≡ 1024) × (acceptedCount s < 64)
+  pub hand-room : n ≡ 0 → (length s ≡ 1024) × (acceptedCount s < mostHeld)
   hand-room z = (eqb-true _ _ (welcome z .size), leb-false _ _ (welcome z .room))
 
   hand-taken : (r : ℕ) (s′ : List ℕ) → n ≡ 0 → r ≡ acceptedCount s + 1 → s′ ≡ handed s w → callLeavesState r s′ ≡ codedKept (handInOf w s [])

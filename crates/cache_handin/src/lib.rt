@@ -5,6 +5,7 @@ ghost use mathlib.Core.Path.{_≡_};
 ghost use mathlib.Core.List.{[], _∷_, _++_};
 ghost use Prim.Native.Nat.{_+_, _<_, _≤_};
 ghost use lib.ListN.{length};
+ghost use Rattle.model.specs.Limits.{mostRules, mostHeld};
 ghost use Rattle.rule_match.specs.Held.{rulesOf};
 ghost use Rattle.cache_model.specs.Needs.{needsRing};
 ghost use Rattle.cache_model.specs.State.{acceptedCount, rulesIn, writesIn, storedIn};
@@ -14,7 +15,7 @@ ghost use Rattle.cache_steps.specs.Given.{lateAt, handFault};
 
 // Whether write i is stored and depends on w.
 fn late_at(state: &[u8], rules: Rules, w: Write, i: usize) -> bool
-    requires { ⌜ (length (now state) ≡ 1024) × ((rules .count ≤ 32) × (i < 64)) ⌝ }
+    requires { ⌜ (length (now state) ≡ 1024) × ((rules .count ≤ mostRules) × (i < mostHeld)) ⌝ }
     ensures { λ r. ⌜ r ≡ lateAt (rulesOf rules) (now (state .entry)) w i ⌝ }
 {
     if state[110 + 12 * i] != 1 {
@@ -26,7 +27,7 @@ fn late_at(state: &[u8], rules: Rules, w: Write, i: usize) -> bool
 
 // Whether a stored write depends on w.
 fn is_late(state: &[u8], rules: Rules, w: Write) -> bool
-    requires { ⌜ (length (now state) ≡ 1024) × ((rules .count ≤ 32) × (acceptedCount (now state) ≤ 64)) ⌝ }
+    requires { ⌜ (length (now state) ≡ 1024) × ((rules .count ≤ mostRules) × (acceptedCount (now state) ≤ mostHeld)) ⌝ }
     ensures { λ r. ⌜ r ≡ late (rulesOf rules) (writesIn (now (state .entry))) (storedIn (now (state .entry))) w ⌝ }
 {
     let n = cache_contents::wide(state[1]);
@@ -42,7 +43,7 @@ fn is_late(state: &[u8], rules: Rules, w: Write) -> bool
 
 // Whether w would close a ring of needs. rows has the needs of the accepted writes.
 fn closes_ring(rows: &[u64; 64], state: &[u8], rules: Rules, w: Write) -> bool
-    requires { ⌜ (length (now state) ≡ 1024) × ((rules .count ≤ 32) × ((acceptedCount (now state) < 64) × ((rulesOf rules ≡ rulesIn (now state)) × Tabled (now state) (now rows)))) ⌝ }
+    requires { ⌜ (length (now state) ≡ 1024) × ((rules .count ≤ mostRules) × ((acceptedCount (now state) < mostHeld) × ((rulesOf rules ≡ rulesIn (now state)) × Tabled (now state) (now rows)))) ⌝ }
     ensures { λ r. ⌜ r ≡ needsRing (rulesOf rules) (writesIn (now (state .entry)) ++ (w ∷ [])) ⌝ }
 {
     let n = cache_contents::wide(state[1]) + 1;
@@ -63,7 +64,7 @@ pub fn hand_fault(state: &[u8], w: Write) -> u64
     if !cache_soundness::is_sound(&mut rows, state) {
         return 15;
     }
-    if 64 <= state[1] {
+    if model::MOST_HELD as u8 <= state[1] {
         return 16;
     }
     let rules = cache_contents::state_rules(state);

@@ -6,6 +6,7 @@ ghost use lib.Dec.{eqb, leb};
 ghost use lib.ListN.{length};
 ghost use Rattle.relation.specs.Bits.{maskOf};
 ghost use Rattle.relation.specs.Lists.{allBelow};
+ghost use Rattle.model.specs.Limits.{mostHeld};
 ghost use Rattle.model.specs.Test.{countBelow};
 ghost use Rattle.cache_model.specs.State.{acceptedCount, storedIn};
 ghost use Rattle.cache_model.specs.Sound.{zeros, layout};
@@ -13,7 +14,7 @@ ghost use Rattle.cache_layout.specs.Flags.{flagFits};
 
 // Which of the accepted writes are stored.
 pub fn stored_mask(state: &[u8]) -> u64
-    requires { ⌜ (length (now state) ≡ 1024) × (acceptedCount (now state) ≤ 64) ⌝ }
+    requires { ⌜ (length (now state) ≡ 1024) × (acceptedCount (now state) ≤ mostHeld) ⌝ }
     ensures { λ r. ⌜ r ≡ maskOf (storedIn (now (state .entry))) (acceptedCount (now (state .entry))) ⌝ }
 {
     let n = cache_contents::wide(state[1]);
@@ -28,7 +29,7 @@ pub fn stored_mask(state: &[u8]) -> u64
 
 // A count, one more where a flag is 1.
 fn count_flag(k: usize, flag: u8) -> usize
-    requires { ⌜ k < 64 ⌝ }
+    requires { ⌜ k < mostHeld ⌝ }
     ensures { λ r. ⌜ r ≡ cond (eqb flag 1) (k + 1) k ⌝ }
 {
     if flag == 1 {
@@ -39,7 +40,7 @@ fn count_flag(k: usize, flag: u8) -> usize
 
 // How many of the accepted writes are stored.
 pub fn count_stored(state: &[u8]) -> usize
-    requires { ⌜ (length (now state) ≡ 1024) × (acceptedCount (now state) ≤ 64) ⌝ }
+    requires { ⌜ (length (now state) ≡ 1024) × (acceptedCount (now state) ≤ mostHeld) ⌝ }
     ensures { λ r. ⌜ r ≡ countBelow (storedIn (now (state .entry))) (acceptedCount (now (state .entry))) ⌝ }
 {
     let n = cache_contents::wide(state[1]);
@@ -79,7 +80,7 @@ fn flag_fits(flag: u8, last: u8) -> bool
 
 // The same of all accepted writes.
 fn flags_fit(state: &[u8]) -> bool
-    requires { ⌜ (length (now state) ≡ 1024) × (acceptedCount (now state) ≤ 64) ⌝ }
+    requires { ⌜ (length (now state) ≡ 1024) × (acceptedCount (now state) ≤ mostHeld) ⌝ }
     ensures { λ r. ⌜ r ≡ allBelow (flagFits (now (state .entry))) (acceptedCount (now (state .entry))) ⌝ }
 {
     let n = cache_contents::wide(state[1]);
@@ -99,10 +100,10 @@ pub fn has_layout(state: &[u8]) -> bool
     requires { ⌜ length (now state) ≡ 1024 ⌝ }
     ensures { λ r. ⌜ r ≡ layout (now (state .entry)) ⌝ }
 {
-    if 32 < state[0] {
+    if (model::MOST_RULES as u8) < state[0] {
         return false;
     }
-    if 64 < state[1] {
+    if (model::MOST_HELD as u8) < state[1] {
         return false;
     }
     if state[3] != 0 {

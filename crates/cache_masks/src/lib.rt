@@ -6,13 +6,14 @@ ghost use mathlib.Core.Bool.{cond};
 ghost use Prim.Native.Nat.{_<_, _≤_};
 ghost use lib.ListN.{length};
 ghost use Rattle.relation.specs.Bits.{withBit};
+ghost use Rattle.model.specs.Limits.{mostRules, mostHeld};
 ghost use Rattle.rule_match.specs.Held.{rulesOf};
 ghost use Rattle.cache_model.specs.State.{acceptedCount};
 ghost use Rattle.cache_masks.specs.Masks.{namedMask, addressMask, Compared, dependentMask, needsOf, neededMask};
 
 // mask, with bit i set where `set` holds.
 pub fn with_bit_if(mask: u64, i: usize, set: bool) -> u64
-    requires { ⌜ i < 64 ⌝ }
+    requires { ⌜ i < mostHeld ⌝ }
     ensures { λ r. ⌜ r ≡ cond set (withBit mask i) mask ⌝ }
 {
     if set {
@@ -23,7 +24,7 @@ pub fn with_bit_if(mask: u64, i: usize, set: bool) -> u64
 
 // Which of the accepted writes have this name.
 pub fn named(state: &[u8], name: u8) -> u64
-    requires { ⌜ (length (now state) ≡ 1024) × (acceptedCount (now state) ≤ 64) ⌝ }
+    requires { ⌜ (length (now state) ≡ 1024) × (acceptedCount (now state) ≤ mostHeld) ⌝ }
     ensures { λ r. ⌜ r ≡ namedMask (now (state .entry)) name (acceptedCount (now (state .entry))) ⌝ }
 {
     let n = cache_contents::wide(state[1]);
@@ -39,7 +40,7 @@ pub fn named(state: &[u8], name: u8) -> u64
 
 // Which of the first i writes have this address.
 pub fn at_address(state: &[u8], address: u8, i: usize) -> u64
-    requires { ⌜ (length (now state) ≡ 1024) × (i ≤ 64) ⌝ }
+    requires { ⌜ (length (now state) ≡ 1024) × (i ≤ mostHeld) ⌝ }
     ensures { λ r. ⌜ r ≡ addressMask (now (state .entry)) address i ⌝ }
 {
     let mut mask: u64 = 0;
@@ -61,7 +62,7 @@ pub struct Epochs {
 
 // How the epochs of the accepted writes stand to the epoch t.
 pub fn compare_epochs(state: &[u8], t: u32) -> Epochs
-    requires { ⌜ (length (now state) ≡ 1024) × (acceptedCount (now state) ≤ 64) ⌝ }
+    requires { ⌜ (length (now state) ≡ 1024) × (acceptedCount (now state) ≤ mostHeld) ⌝ }
     ensures { λ r. ⌜ Compared (now (state .entry)) t r ⌝ }
 {
     let n = cache_contents::wide(state[1]);
@@ -85,7 +86,7 @@ pub fn compare_epochs(state: &[u8], t: u32) -> Epochs
 
 // How they stand to the epoch u, where `epochs` says how they stand to t.
 pub fn next_epochs(epochs: Epochs, state: &[u8], t: u32, u: u32) -> Epochs
-    requires { ⌜ (length (now state) ≡ 1024) × ((acceptedCount (now state) ≤ 64) × Compared (now state) t epochs) ⌝ }
+    requires { ⌜ (length (now state) ≡ 1024) × ((acceptedCount (now state) ≤ mostHeld) × Compared (now state) t epochs) ⌝ }
     ensures { λ r. ⌜ Compared (now (state .entry)) u r ⌝ }
 {
     if t == u {
@@ -96,7 +97,7 @@ pub fn next_epochs(epochs: Epochs, state: &[u8], t: u32, u: u32) -> Epochs
 
 // Which of the accepted writes depend on w.
 pub fn dependents(state: &[u8], rules: Rules, w: Write) -> u64
-    requires { ⌜ (length (now state) ≡ 1024) × ((rules .count ≤ 32) × (acceptedCount (now state) ≤ 64)) ⌝ }
+    requires { ⌜ (length (now state) ≡ 1024) × ((rules .count ≤ mostRules) × (acceptedCount (now state) ≤ mostHeld)) ⌝ }
     ensures { λ r. ⌜ r ≡ dependentMask (rulesOf rules) (now (state .entry)) w (acceptedCount (now (state .entry))) ⌝ }
 {
     let n = cache_contents::wide(state[1]);
@@ -116,7 +117,7 @@ pub fn dependents(state: &[u8], rules: Rules, w: Write) -> u64
 
 // Whether w, handed in later, needs v.
 fn needs_write(rules: Rules, w: Write, v: Write) -> bool
-    requires { ⌜ rules .count ≤ 32 ⌝ }
+    requires { ⌜ rules .count ≤ mostRules ⌝ }
     ensures { λ r. ⌜ r ≡ needsOf (rulesOf rules) w v ⌝ }
 {
     if rule_match::depends(rules, w.name, w.epoch, v.name, v.epoch) {
@@ -127,7 +128,7 @@ fn needs_write(rules: Rules, w: Write, v: Write) -> bool
 
 // Which of the accepted writes w, handed in behind them, needs.
 pub fn needed(state: &[u8], rules: Rules, w: Write) -> u64
-    requires { ⌜ (length (now state) ≡ 1024) × ((rules .count ≤ 32) × (acceptedCount (now state) ≤ 64)) ⌝ }
+    requires { ⌜ (length (now state) ≡ 1024) × ((rules .count ≤ mostRules) × (acceptedCount (now state) ≤ mostHeld)) ⌝ }
     ensures { λ r. ⌜ r ≡ neededMask (rulesOf rules) (now (state .entry)) w (acceptedCount (now (state .entry))) ⌝ }
 {
     let n = cache_contents::wide(state[1]);

@@ -6,6 +6,7 @@ use mathlib.Core.List.{List, [], _∷_, _++_}
 use lib.Dec.{eqb, leb, ltb}
 use lib.ListN.{length}
 use Rattle.relation.specs.Lists.{anyBelow}
+use Rattle.model.specs.Limits.{mostHeld}
 use Rattle.model.specs.declared.Write.{Write}
 use Rattle.model.specs.declared.Rule.{Rule}
 use Rattle.model.specs.Answer.{Outcome, answer, refused}
@@ -54,7 +55,7 @@ unfoldable pub handInOf : Write → List ℕ → List ℕ → Left
 handInOf w state disk =
     cond (not (eqb (length state) stateSize)) (left (refused 14 0) state disk)
     (cond (not (sound state)) (left (refused 15 0) state disk)
-    (cond (leb 64 (acceptedCount state)) (left (refused 16 0) state disk)
+    (cond (leb mostHeld (acceptedCount state)) (left (refused 16 0) state disk)
     (cond (late (rulesIn state) (writesIn state) (storedIn state) w) (left (refused 17 0) state disk)
     (cond (needsRing (rulesIn state) (writesIn state ++ (w ∷ []))) (left (refused 18 0) state disk)
     (left (answer (acceptedCount state + 1)) (handed state w) disk)))))

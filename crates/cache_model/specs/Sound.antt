@@ -6,6 +6,7 @@ use mathlib.Core.List.{List}
 use lib.Dec.{eqb, leb}
 use lib.ListN.{length}
 use Rattle.relation.specs.Lists.{allBelow}
+use Rattle.model.specs.Limits.{mostRules, mostHeld}
 use Rattle.model.specs.Rules.{Known, known}
 use Rattle.model.specs.Cyclic.{Cyclic, cyclic}
 use Rattle.model.specs.Test.{countBelow}
@@ -17,8 +18,8 @@ use Rattle.cache_model.specs.State.{stateSize, ruleCount, acceptedCount,
 -- stored writes that need only stored ones, and no ring of needs
 pub record Sound (s : List ℕ) : Type 0 where
   pub size : length s ≡ stateSize
-  pub rules-most : ruleCount s ≤ 32
-  pub writes-most : acceptedCount s ≤ 64
+  pub rules-most : ruleCount s ≤ mostRules
+  pub writes-most : acceptedCount s ≤ mostHeld
   pub third : byte s 3 ≡ 0
   pub rules-rest : (k : ℕ) → ruleBase (ruleCount s) ≤ k → k < 100 → byte s k ≡ 0
   pub writes-rest : (k : ℕ) → writeBase (acceptedCount s) ≤ k → k < 1024 → byte s k ≡ 0
@@ -37,7 +38,7 @@ zeros s from n = allBelow (λ k. eqb (byte s (from + k)) 0) n
 
 unfoldable pub layout : List ℕ → Bool
 layout s =
-    eqb (length s) stateSize && leb (ruleCount s) 32 && leb (acceptedCount s) 64 && eqb (byte s 3) 0
+    eqb (length s) stateSize && leb (ruleCount s) mostRules && leb (acceptedCount s) mostHeld && eqb (byte s 3) 0
     && zeros s (ruleBase (ruleCount s)) (100 - ruleBase (ruleCount s))
     && zeros s (writeBase (acceptedCount s)) (1024 - writeBase (acceptedCount s))
     && allBelow (λ i. leb (flagIn s i) 1 && eqb (byte s (writeBase i + 11)) 0) (acceptedCount s)

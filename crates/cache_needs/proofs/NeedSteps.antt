@@ -17,6 +17,7 @@ use Rattle.relation.specs.Finite.{rowsOf}
 use Rattle.relation.proofs.BitLaws.{bit-mask, mask-ext}
 use Rattle.relation.proofs.ListLaws.{any-append, getD-tabulate}
 use Rattle.relation.proofs.MaskLaws.{mask-none, mask-or, mask-and, mask-short}
+use Rattle.model.specs.Limits.{mostRules, mostHeld}
 use Rattle.model.specs.declared.Rule.{Rule}
 use Rattle.model.specs.declared.Write.{Write}
 use Rattle.model.specs.Rules.{label, labelOf, stands, matches, dependsOn}
@@ -142,7 +143,7 @@ unfolding cache.needs
 needs-bytes rules s i j hi hj = rw (write-at s i hi, write-at s j hj)
 
 -- the rules that are read one by one pair what u depends on
-module _ (rules : Rules) (s : List ℕ) (u : Write) (seconds : List ℕ) (e : Epochs) (all : length (rules .items) ≡ 32) (few : rules .count ≤ 32)
+module _ (rules : Rules) (s : List ℕ) (u : Write) (seconds : List ℕ) (e : Epochs) (all : length (rules .items) ≡ mostRules) (few : rules .count ≤ mostRules)
     (tab : take (rules .count) seconds ≡ tabulate (secondMask (rulesOf rules) s) (rules .count)) (compared : Compared s (u .epoch) e) where
   paired-mask : (k : ℕ) → k ≤ rules .count
       → pairedBy rules seconds (u .name) e k ≡ maskOf (λ j. dependsOn (take k (rules .items)) (labelOf u) (labelOf (writeIn s j))) (acceptedCount s)
@@ -191,7 +192,7 @@ module _ (rules : List Rule) (s rows : List ℕ) where
   pub fill-within : (n i : ℕ) → n ≡ acceptedCount s → i < n → i < acceptedCount s
   fill-within n i c h = omega arith
 
-  pub fill-more : (n i r : ℕ) → n ≤ 64 → length rows ≡ 64 → i < n
+  pub fill-more : (n i r : ℕ) → n ≤ mostHeld → length rows ≡ 64 → i < n
       → take i rows ≡ rowsFrom (cache.needs rules (writesIn s)) (acceptedCount s) i → r ≡ maskOf (cache.needs rules (writesIn s) i) (acceptedCount s)
       → take (i + 1) (set rows i r) ≡ rowsFrom (cache.needs rules (writesIn s)) (acceptedCount s) (i + 1)
   unfolding rowsFrom
@@ -250,7 +251,7 @@ module _ (rules : List Rule) (s : List ℕ) (w : Write) where
   row-last n x r b c q f g =
       g ∙ rw (f, q, c, add-one (acceptedCount s), needs-alone, mask-ext (λ j. needsOf rules w (writeIn s j)) (needsWith (acceptedCount s)) (acceptedCount s) (λ j hj. needs-last j hj))
 
-  module _ (rows : List ℕ) (n : ℕ) (c : n ≡ acceptedCount s) (all : length rows ≡ 64) (few : acceptedCount s < 64) where
+  module _ (rows : List ℕ) (n : ℕ) (c : n ≡ acceptedCount s) (all : length rows ≡ 64) (few : acceptedCount s < mostHeld) where
     pub with-begun : take 0 rows ≡ rowsFrom needsWith (acceptedCount s + 1) 0
     unfolding rowsFrom
     with-begun = table-begun _ rows

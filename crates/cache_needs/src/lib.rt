@@ -10,6 +10,7 @@ ghost use lib.ListN.{length, take};
 ghost use Rattle.relation.specs.Bits.{maskOf};
 ghost use Rattle.relation.specs.Lists.{tabulate};
 ghost use Rattle.relation.specs.Finite.{rowsOf};
+ghost use Rattle.model.specs.Limits.{mostRules, mostHeld};
 ghost use Rattle.rule_match.specs.Held.{rulesOf};
 ghost use Rattle.cache_model.specs.Needs.{needs};
 ghost use Rattle.cache_model.specs.State.{acceptedCount, writeIn, writesIn};
@@ -44,7 +45,7 @@ fn with_rule(mask: u64, rule: Rule, second: u64, name: u8, epochs: Epochs) -> u6
 // The writes that rules pair with a write of this name and epoch. seconds has for each rule the
 // writes with its second name.
 fn dependencies(rules: Rules, seconds: &[u64], name: u8, epochs: Epochs) -> u64
-    requires { ⌜ (rules .count ≤ 32) × (length (now seconds) ≡ 32) ⌝ }
+    requires { ⌜ (rules .count ≤ mostRules) × (length (now seconds) ≡ 32) ⌝ }
     ensures { λ r. ⌜ r ≡ pairedBy rules (now (seconds .entry)) name epochs (rules .count) ⌝ }
 {
     let mut mask: u64 = 0;
@@ -58,7 +59,7 @@ fn dependencies(rules: Rules, seconds: &[u64], name: u8, epochs: Epochs) -> u64
 
 // For each rule the accepted writes with its second name.
 fn fill_seconds(seconds: &mut [u64], state: &[u8], rules: Rules)
-    requires { ⌜ (length (now seconds) ≡ 32) × ((length (now state) ≡ 1024) × ((rules .count ≤ 32) × (acceptedCount (now state) ≤ 64))) ⌝ }
+    requires { ⌜ (length (now seconds) ≡ 32) × ((length (now state) ≡ 1024) × ((rules .count ≤ mostRules) × (acceptedCount (now state) ≤ mostHeld))) ⌝ }
     ensures { λ _. ⌜ (length (now (seconds .exit)) ≡ 32) × (take (rules .count) (now (seconds .exit)) ≡ tabulate (secondMask (rulesOf rules) (now (state .entry))) (rules .count)) ⌝ }
 {
     let mut k: usize = 0;
@@ -70,7 +71,7 @@ fn fill_seconds(seconds: &mut [u64], state: &[u8], rules: Rules)
 
 // What write i, which is u, needs.
 fn row(state: &[u8], rules: Rules, seconds: &[u64], i: usize, u: Write, epochs: Epochs) -> u64
-    requires { ⌜ (length (now state) ≡ 1024) × ((rules .count ≤ 32) × ((acceptedCount (now state) ≤ 64) × ((i < acceptedCount (now state)) × ((u ≡ writeIn (now state) i) × (Compared (now state) (u .epoch) epochs × ((length (now seconds) ≡ 32) × (take (rules .count) (now seconds) ≡ tabulate (secondMask (rulesOf rules) (now state)) (rules .count)))))))) ⌝ }
+    requires { ⌜ (length (now state) ≡ 1024) × ((rules .count ≤ mostRules) × ((acceptedCount (now state) ≤ mostHeld) × ((i < acceptedCount (now state)) × ((u ≡ writeIn (now state) i) × (Compared (now state) (u .epoch) epochs × ((length (now seconds) ≡ 32) × (take (rules .count) (now seconds) ≡ tabulate (secondMask (rulesOf rules) (now state)) (rules .count)))))))) ⌝ }
     ensures { λ r. ⌜ r ≡ maskOf (needs (rulesOf rules) (writesIn (now (state .entry))) i) (acceptedCount (now (state .entry))) ⌝ }
 {
     dependencies(rules, seconds, u.name, epochs) | cache_masks::at_address(state, u.address, i)
@@ -78,7 +79,7 @@ fn row(state: &[u8], rules: Rules, seconds: &[u64], i: usize, u: Write, epochs: 
 
 // The needs of the accepted writes. Epochs are compared anew only where the epoch changes.
 pub fn fill_needs(rows: &mut [u64], state: &[u8], rules: Rules)
-    requires { ⌜ (length (now rows) ≡ 64) × ((length (now state) ≡ 1024) × ((rules .count ≤ 32) × (acceptedCount (now state) ≤ 64))) ⌝ }
+    requires { ⌜ (length (now rows) ≡ 64) × ((length (now state) ≡ 1024) × ((rules .count ≤ mostRules) × (acceptedCount (now state) ≤ mostHeld))) ⌝ }
     ensures { λ _. ⌜ take (acceptedCount (now (state .entry))) (now (rows .exit)) ≡ rowsOf (needs (rulesOf rules) (writesIn (now (state .entry)))) (acceptedCount (now (state .entry))) ⌝ }
 {
     let n = cache_contents::wide(state[1]);
@@ -98,7 +99,7 @@ pub fn fill_needs(rows: &mut [u64], state: &[u8], rules: Rules)
 
 // The needs of the accepted writes and w behind them, from those of the accepted writes.
 pub fn fill_with(wider: &mut [u64], rows: &[u64; 64], state: &[u8], rules: Rules, w: Write)
-    requires { ⌜ (length (now wider) ≡ 64) × ((length (now state) ≡ 1024) × ((rules .count ≤ 32) × ((acceptedCount (now state) < 64) × (take (acceptedCount (now state)) (now rows) ≡ rowsOf (needs (rulesOf rules) (writesIn (now state))) (acceptedCount (now state)))))) ⌝ }
+    requires { ⌜ (length (now wider) ≡ 64) × ((length (now state) ≡ 1024) × ((rules .count ≤ mostRules) × ((acceptedCount (now state) < mostHeld) × (take (acceptedCount (now state)) (now rows) ≡ rowsOf (needs (rulesOf rules) (writesIn (now state))) (acceptedCount (now state)))))) ⌝ }
     ensures { λ _. ⌜ take (acceptedCount (now (state .entry)) + 1) (now (wider .exit)) ≡ rowsOf (needs (rulesOf rules) (writesIn (now (state .entry)) ++ (w ∷ []))) (acceptedCount (now (state .entry)) + 1) ⌝ }
 {
     let n = cache_contents::wide(state[1]);

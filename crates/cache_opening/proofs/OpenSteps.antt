@@ -10,16 +10,18 @@ use lib.Seq.{sets, take-suc, take-suc-set, take-all, length-take-le}
 use borrow.Author.Needs.{needs}
 use borrow.Author.Tests.{eq-eqb, ne-eqb, lt-ltb, le-ltb}
 use Rattle.model.specs.declared.Rule.{Rule}
+use Rattle.model.specs.declared.Refusal.{Refusal}
+use Rattle.model.specs.Limits.{words, mostRules}
 use Rattle.model.specs.Answer.{answer, refused, refusal, coded}
 use Rattle.model.specs.Cyclic.{cyclic}
 use Rattle.file_format.specs.declared.Extent.{Extent}
 use Rattle.file_format.specs.declared.Scan.{Scan}
 use Rattle.file_format.specs.declared.Scan.the-variants.{Accepted, Refused}
 use Rattle.file_format.specs.Bytes.{ruleBytes}
-use Rattle.file_format.specs.File.{readOf}
-use Rattle.file_format.specs.Scan.{rulesAt}
-use Rattle.file_format.specs.Held.{Tells}
-use Rattle.file_reader.proofs.CallerLaws.{refused-read, refused-most, accepted-read, accepted-tests, accepted-most, accepted-at, accepted-long}
+use Rattle.file_format.specs.File.{isRule}
+use Rattle.file_format.specs.Scan.{rulesAt, scanOf}
+use Rattle.file_format.specs.Held.{Fields, ScansTo}
+use Rattle.file_reader.proofs.CallerLaws.{refused-read, refused-most, accepted-rules, accepted-fields, accepted-read, accepted-at, accepted-placed}
 use Rattle.rule_match.specs.declared.Rules.{Rules}
 use Rattle.rule_match.specs.Held.{rulesOf}
 use Rattle.rule_match.proofs.MatchSteps.{length-mapped}
@@ -28,7 +30,7 @@ use Rattle.cache_model.specs.State.{rulesBytes, opened}
 use Rattle.cache_model.specs.Calls.{left, openWith, openOf}
 use Rattle.cache_steps.specs.Given.{callLeavesState, codedKept, openedBy}
 use Rattle.cache_stores.proofs.StoreSteps.{inside}
-use Rattle.cache_appending.proofs.AppendSteps.{sets-append}
+use Rattle.cache_stores.proofs.AppendSteps.{sets-append}
 
 -- ---- clear
 
@@ -75,7 +77,7 @@ pub rules-begun : (s : List ℕ) (rules : Rules) → s ≡ replicate 1024 0 → 
 unfolding rulesBytes
 rules-begun s rules e = rw e
 
-pub rules-more : (rules : Rules) (s s′ : List ℕ) (i : ℕ) → length (rules .items) ≡ 32 → rules .count ≤ 32 → i < rules .count
+pub rules-more : (rules : Rules) (s s′ : List ℕ) (i : ℕ) → length (rules .items) ≡ mostRules → rules .count ≤ mostRules → i < rules .count
     → s ≡ written (rules .count) (take i (rules .items)) → s′ ≡ sets s (4 + 3 * i) (ruleBytes (itemAt rules i)) → s′ ≡ written (rules .count) (take (i + 1) (rules .items))
 rules-more rules s s′ i size few h e q =
     let inside : i < length (rules .items) = omega arith in
@@ -84,7 +86,7 @@ rules-more rules s s′ i size few h e q =
     q ∙ rw (add-one i, take-suc (rules .items) i (record { first = 0; predicate = 0; second = 0 }) inside, bytes-append (take i (rules .items)) (itemAt rules i), e, ← place)
     (sym (sets-append (replicate 1024 0) 0 (rules .count ∷ 0 ∷ 0 ∷ 0 ∷ rulesBytes (take i (rules .items))) (ruleBytes (itemAt rules i))))
 
-pub rules-done : (rules : Rules) (s : List ℕ) (i : ℕ) → length (rules .items) ≡ 32 → rules .count ≤ 32 → i ≤ rules .count → rules .count ≤ i
+pub rules-done : (rules : Rules) (s : List ℕ) (i : ℕ) → length (rules .items) ≡ mostRules → rules .count ≤ mostRules → i ≤ rules .count → rules .count ≤ i
     → s ≡ written (rules .count) (take i (rules .items)) → s ≡ opened (rulesOf rules)
 unfolding opened
 rules-done rules s i size few a b e =
@@ -116,24 +118,22 @@ module _ (file s : List ℕ) where
   unfolding openOf codedKept coded
   open-short r h q = rw (ne-eqb _ _ h, q)
 
-  module _ (x : Scan) (hs : length s ≡ 1024) (t : Tells file 0 (readOf file) x) where
-    pub open-refused : (number place r : ℕ) → x ≡ Refused number place → r ≡ refusal number place → callLeavesState r s ≡ codedKept (openOf file s [])
+  module _ (x : Scan) (ts : List Extent) (g : ScansTo (scanOf file) x ts) (hs : length s ≡ 1024) where
+    pub open-refused : (why : Refusal) (r : ℕ) → x ≡ Refused why → r ≡ refusal (why .number) (why .place) → callLeavesState r s ≡ codedKept (openOf file s [])
     unfolding openOf openWith codedKept coded
-    open-refused number place r e q = rw (eq-eqb _ _ hs, refused-read file 0 number place (rw e at t), q)
+    open-refused why r e q = rw (eq-eqb _ _ hs, refused-read file x ts g why e, q)
 
-    module _ (rules tests : ℕ) (found : Extent) (e : x ≡ Accepted rules tests found) where
+    module _ (rules tests : ℕ) (e : x ≡ Accepted rules tests) where
       pub open-tests : (r : ℕ) → 0 < tests → r ≡ refusal 22 0 → callLeavesState r s ≡ codedKept (openOf file s [])
       unfolding openOf openWith codedKept coded
       open-tests r h q =
-          let k = rw e at t in
-          rw (eq-eqb _ _ hs, accepted-read file 0 rules tests found k, accepted-tests file 0 rules tests found k, lt-ltb 0 tests h, q)
+          rw (eq-eqb _ _ hs, accepted-read file x ts g rules tests e, accepted-placed file x ts g rules tests e .count, lt-ltb 0 tests h, q)
 
       pub open-made : (held : Rules) (r : ℕ) (s′ : List ℕ) → tests ≤ 0 → rulesOf held ≡ rulesAt file rules → callLeavesState r s′ ≡ openedBy (rulesOf held) s
           → callLeavesState r s′ ≡ codedKept (openOf file s [])
       unfolding openOf openWith codedKept coded openedBy
       open-made held r s′ h i q =
-          let k = rw e at t in
-          q ∙ rw (eq-eqb _ _ hs, accepted-read file 0 rules tests found k, accepted-tests file 0 rules tests found k, le-ltb 0 tests h, accepted-at file 0 rules tests found k, i)
+          q ∙ rw (eq-eqb _ _ hs, accepted-read file x ts g rules tests e, accepted-placed file x ts g rules tests e .count, le-ltb 0 tests h, accepted-at file x ts g rules tests e, i)
           (go (cyclic (rulesAt file rules)))
         where
           go : (b : Bool) → cond b (callLeavesState (refusal 8 0) s) (callLeavesState 0 (opened (rulesAt file rules)))
@@ -141,17 +141,19 @@ module _ (file s : List ℕ) where
           go true = refl
           go false = refl
 
--- what the answer's numbers fit
-module _ (file : List ℕ) (x : Scan) (t : Tells file 0 (readOf file) x) where
-  pub open-fits : (rules tests : ℕ) (found : Extent) → x ≡ Accepted rules tests found → (rules ≤ 32) × (6 * rules ≤ length file)
-  open-fits rules tests found e =
-      let k = rw e at t in
-      (accepted-most file 0 rules tests found k .0, accepted-long file 0 rules tests found k)
+-- what the callees ask
+module _ (file : List ℕ) (x : Scan) (ts : List Extent) (g : ScansTo (scanOf file) x ts) where
+  pub refusal-fits : (why : Refusal) → x ≡ Refused why → why .place < words
+  refusal-fits why e = let b = refused-most file x ts g why e .1 in omega arith
 
-  pub refusal-fits : (number place : ℕ) → x ≡ Refused number place → (number < 256) × (place < 4294967296)
-  refusal-fits number place e =
-      let l = refused-most file 0 number place (rw e at t) in
-      let a = l .0 in let b = l .1 in
-      (omega arith, omega arith)
+  module _ (rules tests : ℕ) (e : x ≡ Accepted rules tests) where
+    pub rules-few : rules ≤ mostRules
+    rules-few = accepted-rules file x ts g rules tests e
 
-pub ruleset opening = (needs, open-short, open-refused, open-tests, open-made)
+    pub rules-fields : Fields isRule file 0 rules
+    rules-fields = accepted-fields file x ts g rules tests e
+
+    pub held-few : (held : Rules) → held .count ≡ rules → held .count ≤ mostRules
+    held-few held k = let m = rules-few in omega arith
+
+pub ruleset opening = (needs, open-short, open-refused, open-tests, open-made, refusal-fits, rules-few, rules-fields, held-few)

@@ -5,6 +5,7 @@ ghost use mathlib.Core.Path.{_≡_};
 ghost use Prim.Native.Nat.{_+_, _≤_};
 ghost use lib.ListN.{length, replicate};
 ghost use lib.Seq.{sets};
+ghost use Rattle.model.specs.Limits.{mostRules};
 ghost use Rattle.file_format.specs.Bytes.{ruleBytes};
 ghost use Rattle.rule_match.specs.Held.{rulesOf};
 ghost use Rattle.cache_model.specs.State.{opened};
@@ -34,7 +35,7 @@ fn put_rule(state: &mut [u8], at: usize, rule: Rule)
 
 // The count of the rules, and the rules.
 fn put_rules(state: &mut [u8], rules: Rules)
-    requires { ⌜ (rules .count ≤ 32) × (now state ≡ replicate 1024 0) ⌝ }
+    requires { ⌜ (rules .count ≤ mostRules) × (now state ≡ replicate 1024 0) ⌝ }
     ensures { λ _. ⌜ now (state .exit) ≡ opened (rulesOf rules) ⌝ }
 {
     state[0] = rules.count as u8;
@@ -47,7 +48,7 @@ fn put_rules(state: &mut [u8], rules: Rules)
 
 // A state with these rules and no writes, unless they are cyclic.
 pub fn open_with(state: &mut [u8], rules: Rules) -> u64
-    requires { ⌜ (length (now state) ≡ 1024) × (rules .count ≤ 32) ⌝ }
+    requires { ⌜ (length (now state) ≡ 1024) × (rules .count ≤ mostRules) ⌝ }
     ensures { λ r. ⌜ callLeavesState r (now (state .exit)) ≡ openedBy (rulesOf rules) (now (state .entry)) ⌝ }
 {
     if rule_cycles::is_cyclic(rules) {

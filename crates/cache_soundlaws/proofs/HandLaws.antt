@@ -14,6 +14,7 @@ use lib.ListN.{length, length-append, length-set, List·getD-append}
 use lib.Seq.{sets, length-sets, getD-at, getD-set-same, getD-set-other}
 use Rattle.relation.specs.Lists.{tabulate}
 use Rattle.relation.proofs.ListLaws.{tabulate-ext}
+use Rattle.model.specs.Limits.{mostRules, mostHeld}
 use Rattle.model.specs.declared.Write.{Write}
 use Rattle.model.specs.declared.Rule.{Rule}
 use Rattle.model.specs.Rules.{DependsOn, labelOf}
@@ -70,7 +71,7 @@ module _ (rules : List Rule) (ws : List Write) (w : Write) where
 
 -- ---- the bytes
 
-module _ (s : List ℕ) (w : Write) (size : length s ≡ 1024) (room : acceptedCount s < 64) where
+module _ (s : List ℕ) (w : Write) (size : length s ≡ 1024) (room : acceptedCount s < mostHeld) where
   length-entry : length (entryBytes w) ≡ 12
   unfolding entryBytes writeBytes
   length-entry = refl
@@ -106,7 +107,7 @@ module _ (s : List ℕ) (w : Write) (size : length s ≡ 1024) (room : acceptedC
   acceptedCount-handed =
       getD-set-same (sets s (writeBase (acceptedCount s)) (entryBytes w)) 1 (acceptedCount s + 1) 0 (rw (length-sets s (writeBase (acceptedCount s)) (entryBytes w)) (omega arith))
 
-  pub rules-handed : ruleCount s ≤ 32 → rulesIn (handed s w) ≡ rulesIn s
+  pub rules-handed : ruleCount s ≤ mostRules → rulesIn (handed s w) ≡ rulesIn s
   rules-handed few =
       rules-same (handed s w) s (length-handed ∙ sym size) (low-handed 0 (omega arith) (omega arith)) few (λ k a b. low-handed k (omega arith) b)
 
@@ -147,7 +148,7 @@ module _ (s : List ℕ) (w : Write) (size : length s ≡ 1024) (room : acceptedC
 
 -- ---- a sound state
 
-pub hand-keeps : (s : List ℕ) (w : Write) → Sound s → WriteFits w → acceptedCount s < 64 → (Late (rulesIn s) (writesIn s) (storedIn s) w → ⊥)
+pub hand-keeps : (s : List ℕ) (w : Write) → Sound s → WriteFits w → acceptedCount s < mostHeld → (Late (rulesIn s) (writesIn s) (storedIn s) w → ⊥)
     → (NeedsRing (rulesIn s) (writesIn s ++ (w ∷ [])) → ⊥) → Sound (handed s w)
 hand-keeps s w f fits room late ring =
     let size : length s ≡ 1024 = f .size in

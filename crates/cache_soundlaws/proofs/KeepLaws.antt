@@ -11,6 +11,7 @@ use lib.ListN.{length, set, length-set}
 use lib.Seq.{length-sets, getD-set-same, getD-set-other}
 use borrow.Author.Tests.{eq-eqb, ne-eqb}
 use Rattle.relation.proofs.ListLaws.{tabulate-ext}
+use Rattle.model.specs.Limits.{mostRules, mostHeld}
 use Rattle.model.specs.declared.Write.{Write}
 use Rattle.file_format.specs.Bytes.{byte, bytes4}
 use Rattle.file_format.specs.File.{ruleOf, writeOf}
@@ -26,7 +27,7 @@ use Rattle.cache_soundlaws.proofs.ReadyLaws.{met-true, ready-earliest}
 -- ---- states whose bytes agree where their rules and writes stand
 
 module _ (t s : List ℕ) (size : length t ≡ length s) where
-  pub rules-same : ruleCount t ≡ ruleCount s → ruleCount s ≤ 32 → ((k : ℕ) → 4 ≤ k → k < 100 → byte t k ≡ byte s k) → rulesIn t ≡ rulesIn s
+  pub rules-same : ruleCount t ≡ ruleCount s → ruleCount s ≤ mostRules → ((k : ℕ) → 4 ≤ k → k < 100 → byte t k ≡ byte s k) → rulesIn t ≡ rulesIn s
   unfolding rulesIn ruleIn
   rules-same c few h =
       rw c (tabulate-ext _ _ (ruleCount s) (λ i l. ap ruleOf (part-same 0 t s (ruleBase i) 3 size (λ k a b. h k (omega arith) (omega arith)))))
@@ -37,7 +38,7 @@ module _ (t s : List ℕ) (size : length t ≡ length s) where
 
 -- ---- a write marked as stored
 
-module _ (s : List ℕ) (i : ℕ) (size : length s ≡ 1024) (h : i < 64) where
+module _ (s : List ℕ) (i : ℕ) (size : length s ≡ 1024) (h : i < mostHeld) where
   pub length-marked : length (marked s i) ≡ 1024
   unfolding marked
   length-marked = length-set (set s (writeBase i + 10) 1) 2 (storedCount s + 1) ∙ length-set s (writeBase i + 10) 1 ∙ size
@@ -64,7 +65,7 @@ module _ (s : List ℕ) (i : ℕ) (size : length s ≡ 1024) (h : i < 64) where
   pub acceptedCount-marked : acceptedCount (marked s i) ≡ acceptedCount s
   acceptedCount-marked = low-marked 1 (omega arith) (omega arith)
 
-  pub rules-marked : ruleCount s ≤ 32 → rulesIn (marked s i) ≡ rulesIn s
+  pub rules-marked : ruleCount s ≤ mostRules → rulesIn (marked s i) ≡ rulesIn s
   rules-marked few =
       rules-same (marked s i) s (length-marked ∙ sym size) ruleCount-marked few (λ k a b. low-marked k (omega arith) b)
 
@@ -109,7 +110,7 @@ pub mark-keeps : (s : List ℕ) (i : ℕ) → Sound s → i < acceptedCount s �
     → ((j : ℕ) → Needs (rulesIn s) (writesIn s) i j → storedIn s j ≡ true) → Sound (marked s i)
 mark-keeps s i f a w m =
     let few = f .writes-most in
-    let h : i < 64 = omega arith in
+    let h : i < mostHeld = omega arith in
     let size : length s ≡ 1024 = f .size in
     let er : rulesIn (marked s i) ≡ rulesIn s = rules-marked s i size h (f .rules-most) in
     let ew : writesIn (marked s i) ≡ writesIn s = writes-marked s i size h in

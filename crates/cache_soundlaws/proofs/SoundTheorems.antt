@@ -10,6 +10,7 @@ use lib.Dec.{eqb, leb}
 use lib.ListN.{length}
 use borrow.Author.Tests.{eq-eqb, leb-false, le-leb, lt-leb, not-true, not-false}
 use Rattle.relation.proofs.ListLaws.{untrue}
+use Rattle.model.specs.Limits.{mostHeld}
 use Rattle.model.specs.declared.Write.{Write}
 use Rattle.model.specs.Answer.{answer, refused}
 use Rattle.model.proofs.TestLaws.{count-none}
@@ -45,7 +46,7 @@ module _ (s : List ℕ) (f : Sound s) where
   one-stored i w =
       let l = earliest-accepted s i w in
       let m = f .writes-most in
-      let h : i < 64 = omega arith in
+      let h : i < mostHeld = omega arith in
       record {
         rules = rules-marked s i (f .size) h (f .rules-most);
         writes = writes-marked s i (f .size) h;
@@ -113,7 +114,7 @@ kept-once s d f size h =
     let q : stepped s d ≡ left (answer (suc i)) (marked s i) (storedOn d (writeIn s i)) = sym (step-sound s d (true-sound s f) size) ∙ w .3 in
     let l = earliest-accepted s i (w .1) in
     let m = f .writes-most in
-    let b : i < 64 = omega arith in
+    let b : i < mostHeld = omega arith in
     record {
       sound = rw q (mark-keeps s i f l (w .1 .waits) (w .1 .met));
       size = length-stepped s d ∙ size;
@@ -187,9 +188,9 @@ handsIn s d w f fits =
     let no-ring : (NeedsRing (rulesIn s) (writesIn s ++ (w ∷ [])) → ⊥) → needsRing (rulesIn s) (writesIn s ++ (w ∷ [])) ≡ false =
     λ n. untrue _ (λ q. n (needsRing-true (rulesIn s) (writesIn s ++ (w ∷ [])) q)) in
     record {
-      full = λ h. rw (e, c, le-leb 64 (acceptedCount s) h);
-      too-late = λ h l. rw (e, c, lt-leb 64 (acceptedCount s) h, true-late (rulesIn s) (writesIn s) (storedIn s) w l);
-      ring = λ h l r. rw (e, c, lt-leb 64 (acceptedCount s) h, on-time l, true-needsRing (rulesIn s) (writesIn s ++ (w ∷ [])) r);
+      full = λ h. rw (e, c, le-leb mostHeld (acceptedCount s) h);
+      too-late = λ h l. rw (e, c, lt-leb mostHeld (acceptedCount s) h, true-late (rulesIn s) (writesIn s) (storedIn s) w l);
+      ring = λ h l r. rw (e, c, lt-leb mostHeld (acceptedCount s) h, on-time l, true-needsRing (rulesIn s) (writesIn s ++ (w ∷ [])) r);
       taken = λ h l r. (
         record {
           rules = rules-handed s w size h (f .rules-most);
@@ -197,7 +198,7 @@ handsIn s d w f fits =
           waits = stored-new s w size h;
           others = stored-old s w size h;
         },
-        rw (e, c, lt-leb 64 (acceptedCount s) h, on-time l, no-ring r),
+        rw (e, c, lt-leb mostHeld (acceptedCount s) h, on-time l, no-ring r),
       );
     }
 
@@ -213,15 +214,15 @@ hand-in-keeps : (s d : List ℕ) (w : Write) → Sound s → WriteFits w → Sou
 unfolding handInOf
 hand-in-keeps s d w f fits =
     rw (eq-eqb (length s) stateSize (f .size), true-sound s f)
-    (go (leb 64 (acceptedCount s)) (late (rulesIn s) (writesIn s) (storedIn s) w) (needsRing (rulesIn s) (writesIn s ++ (w ∷ []))) refl refl refl)
+    (go (leb mostHeld (acceptedCount s)) (late (rulesIn s) (writesIn s) (storedIn s) w) (needsRing (rulesIn s) (writesIn s ++ (w ∷ []))) refl refl refl)
   where
-    go : (a b c : Bool) → leb 64 (acceptedCount s) ≡ a → late (rulesIn s) (writesIn s) (storedIn s) w ≡ b → needsRing (rulesIn s) (writesIn s ++ (w ∷ [])) ≡ c
+    go : (a b c : Bool) → leb mostHeld (acceptedCount s) ≡ a → late (rulesIn s) (writesIn s) (storedIn s) w ≡ b → needsRing (rulesIn s) (writesIn s ++ (w ∷ [])) ≡ c
         → Sound (cond a (left (refused 16 0) s d) (cond b (left (refused 17 0) s d) (cond c (left (refused 18 0) s d) (left (answer (acceptedCount s + 1)) (handed s w) d))) .state)
     go true b c x y z = f
     go false true c x y z = f
     go false false true x y z = f
     go false false false x y z =
-        hand-keeps s w f fits (leb-false 64 (acceptedCount s) x)
+        hand-keeps s w f fits (leb-false mostHeld (acceptedCount s) x)
         (λ l. false≢true (sym y ∙ true-late (rulesIn s) (writesIn s) (storedIn s) w l))
         (λ r. false≢true (sym z ∙ true-needsRing (rulesIn s) (writesIn s ++ (w ∷ [])) r))
 

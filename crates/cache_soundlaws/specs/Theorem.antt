@@ -6,6 +6,7 @@ use mathlib.Core.Logic.{_≢_, _↔_, _⊎_}
 use mathlib.Core.Bool.{true, false, not}
 use mathlib.Core.List.{List, [], _∷_, _++_}
 use lib.ListN.{length}
+use Rattle.model.specs.Limits.{mostHeld}
 use Rattle.model.specs.declared.Write.{Write}
 use Rattle.model.specs.Answer.{answer, refused}
 use Rattle.model.specs.Cyclic.{Cyclic}
@@ -53,11 +54,11 @@ pub record OneAppended (s : List ℕ) (w : Write) (t : List ℕ) : Type 0 where
 
 -- a hand-in meets the refusals in their order, or appends one waiting write and answers its place from 1
 pub record HandIn (s d : List ℕ) (w : Write) : Type 0 where
-  pub full : 64 ≤ acceptedCount s → handInOf w s d ≡ left (refused 16 0) s d
-  pub too-late : acceptedCount s < 64 → Late (rulesIn s) (writesIn s) (storedIn s) w → handInOf w s d ≡ left (refused 17 0) s d
-  pub ring : acceptedCount s < 64 → (Late (rulesIn s) (writesIn s) (storedIn s) w → ⊥) → NeedsRing (rulesIn s) (writesIn s ++ (w ∷ []))
+  pub full : mostHeld ≤ acceptedCount s → handInOf w s d ≡ left (refused 16 0) s d
+  pub too-late : acceptedCount s < mostHeld → Late (rulesIn s) (writesIn s) (storedIn s) w → handInOf w s d ≡ left (refused 17 0) s d
+  pub ring : acceptedCount s < mostHeld → (Late (rulesIn s) (writesIn s) (storedIn s) w → ⊥) → NeedsRing (rulesIn s) (writesIn s ++ (w ∷ []))
       → handInOf w s d ≡ left (refused 18 0) s d
-  pub taken : acceptedCount s < 64 → (Late (rulesIn s) (writesIn s) (storedIn s) w → ⊥) → (NeedsRing (rulesIn s) (writesIn s ++ (w ∷ [])) → ⊥)
+  pub taken : acceptedCount s < mostHeld → (Late (rulesIn s) (writesIn s) (storedIn s) w → ⊥) → (NeedsRing (rulesIn s) (writesIn s ++ (w ∷ [])) → ⊥)
       → OneAppended s w (handed s w) × (handInOf w s d ≡ left (answer (acceptedCount s + 1)) (handed s w) d)
 
 abbrev pub HandsIn : Type 0

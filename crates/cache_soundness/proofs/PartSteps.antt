@@ -14,6 +14,7 @@ use borrow.Author.Tests.{le-leb, lt-leb}
 use Rattle.relation.specs.Bits.{bit}
 use Rattle.relation.specs.Lists.{all}
 use Rattle.relation.proofs.ListLaws.{and-intro, all-true, all-append, index-mem}
+use Rattle.model.specs.Limits.{mostRules}
 use Rattle.model.specs.Rules.{known}
 use Rattle.model.specs.Cyclic.{noRule}
 use Rattle.rule_match.specs.declared.Rules.{Rules}
@@ -31,7 +32,7 @@ module _ (rules : Rules) where
   unfolding known all
   known-begun = refl
 
-  pub known-more : (k : ℕ) → length (rules .items) ≡ 32 → rules .count ≤ 32 → k < rules .count → known (take k (rules .items)) ≡ true
+  pub known-more : (k : ℕ) → length (rules .items) ≡ mostRules → rules .count ≤ mostRules → k < rules .count → known (take k (rules .items)) ≡ true
       → itemAt rules k .predicate ≤ 2 → known (take (k + 1) (rules .items)) ≡ true
   unfolding known all
   known-more k size few h p l =
@@ -39,7 +40,7 @@ module _ (rules : Rules) where
       rw (add-one k, take-suc (rules .items) k (record { first = 0; predicate = 0; second = 0 }) inside, all-append (λ r. leb (r .predicate) 2) (take k (rules .items)) (itemAt rules k ∷ []))
       (and-intro _ _ p (and-intro (leb (itemAt rules k .predicate) 2) true (le-leb _ _ l) refl))
 
-  pub known-stop : (k : ℕ) → length (rules .items) ≡ 32 → rules .count ≤ 32 → k < rules .count → 2 < itemAt rules k .predicate
+  pub known-stop : (k : ℕ) → length (rules .items) ≡ mostRules → rules .count ≤ mostRules → k < rules .count → 2 < itemAt rules k .predicate
       → false ≡ known (rulesOf rules)
   unfolding known noRule
   known-stop k size few h l = go (all (λ r. leb (r .predicate) 2) (rulesOf rules)) refl

@@ -15,6 +15,7 @@ use Rattle.relation.proofs.BitLaws.{bit-mask}
 use Rattle.relation.proofs.ListLaws.{allBelow-ext, and-left, and-right}
 use Rattle.relation.proofs.FiniteLaws.{Agree, related-rows, loops-closed}
 use Rattle.relation.proofs.MaskLaws.{mask-part}
+use Rattle.model.specs.Limits.{mostRules, mostHeld}
 use Rattle.model.specs.declared.Rule.{Rule}
 use Rattle.model.specs.Rules.{known}
 use Rattle.model.specs.Cyclic.{cyclic}
@@ -88,18 +89,18 @@ module _ (s : List ℕ) (a : Bool) (e : a ≡ layout s) where
     all-laid = sym e ∙ not-false a g
 
     -- the limits
-    pub sound-few : ruleCount s ≤ 32
+    pub sound-few : ruleCount s ≤ mostRules
     unfolding layout
     sound-few =
         leb-true _ _ (and-right (eqb (length s) 1024) _ (and-left _ _ (and-left _ _ (and-left _ _ (and-left _ _ (and-left _ _ all-laid))))))
 
-    pub sound-most : acceptedCount s ≤ 64
+    pub sound-most : acceptedCount s ≤ mostHeld
     unfolding layout
     sound-most =
-        leb-true _ _ (and-right (eqb (length s) 1024 && leb (ruleCount s) 32) _ (and-left _ _ (and-left _ _ (and-left _ _ (and-left _ _ all-laid)))))
+        leb-true _ _ (and-right (eqb (length s) 1024 && leb (ruleCount s) mostRules) _ (and-left _ _ (and-left _ _ (and-left _ _ (and-left _ _ all-laid)))))
 
     module _ (r : Rules) (i : rulesOf r ≡ rulesIn s) (c : r .count ≡ ruleCount s) where
-      pub sound-count : r .count ≤ 32
+      pub sound-count : r .count ≤ mostRules
       sound-count = rw c sound-few
 
       module _ (b : Bool) (f : b ≡ known (rulesOf r)) where

@@ -5,6 +5,7 @@ ghost use Prim.Native.Nat.{_<_, _≤_};
 ghost use lib.ListN.{length, take};
 ghost use Rattle.relation.specs.Lists.{allBelow};
 ghost use Rattle.relation.specs.Finite.{rowsOf};
+ghost use Rattle.model.specs.Limits.{mostRules, mostHeld};
 ghost use Rattle.model.specs.Rules.{known};
 ghost use Rattle.rule_match.specs.Held.{rulesOf};
 ghost use Rattle.cache_model.specs.Needs.{needs};
@@ -14,7 +15,7 @@ ghost use Rattle.cache_soundness.specs.Parts.{TabledIf, covered, covered
 
 // Whether every predicate is one of the three.
 fn is_known(rules: Rules) -> bool
-    requires { ⌜ rules .count ≤ 32 ⌝ }
+    requires { ⌜ rules .count ≤ mostRules ⌝ }
     ensures { λ r. ⌜ r ≡ known (rulesOf rules) ⌝ }
 {
     let mut k: usize = 0;
@@ -29,7 +30,7 @@ fn is_known(rules: Rules) -> bool
 
 // Whether the row of i, where i is in a mask, is part of the mask.
 fn row_covered(row: u64, mask: u64, i: usize) -> bool
-    requires { ⌜ i < 64 ⌝ }
+    requires { ⌜ i < mostHeld ⌝ }
     ensures { λ r. ⌜ r ≡ covered row mask i ⌝ }
 {
     if relation::has_bit(mask, i) {
@@ -40,7 +41,7 @@ fn row_covered(row: u64, mask: u64, i: usize) -> bool
 
 // Whether the rows of all members of a mask are part of it.
 fn all_covered(rows: &[u64; 64], mask: u64, n: usize) -> bool
-    requires { ⌜ n ≤ 64 ⌝ }
+    requires { ⌜ n ≤ mostHeld ⌝ }
     ensures { λ r. ⌜ r ≡ allBelow (coveredAt (now (rows .entry)) mask) n ⌝ }
 {
     let mut i: usize = 0;
@@ -56,7 +57,7 @@ fn all_covered(rows: &[u64; 64], mask: u64, n: usize) -> bool
 // Whether stored writes need only stored ones, and there is no ring of needs. Leaves the needs in
 // rows.
 fn needs_hold(rows: &mut [u64; 64], state: &[u8], rules: Rules) -> bool
-    requires { ⌜ (length (now state) ≡ 1024) × ((rules .count ≤ 32) × (acceptedCount (now state) ≤ 64)) ⌝ }
+    requires { ⌜ (length (now state) ≡ 1024) × ((rules .count ≤ mostRules) × (acceptedCount (now state) ≤ mostHeld)) ⌝ }
     ensures { λ r. ⌜ (r ≡ needsHold (rulesOf rules) (now (state .entry))) × (take (acceptedCount (now (state .entry))) (now (rows .exit)) ≡ rowsOf (needs (rulesOf rules) (writesIn (now (state .entry)))) (acceptedCount (now (state .entry)))) ⌝ }
 {
     let n = cache_contents::wide(state[1]);

@@ -13,6 +13,7 @@ use borrow.Author.Tests.{eqb-true, eq-eqb, ne-eqb, not-false}
 use Rattle.relation.specs.Bits.{bit, withBit, maskOf}
 use Rattle.relation.proofs.BitLaws.{mask-ext}
 use Rattle.relation.proofs.MaskLaws.{mask-with}
+use Rattle.model.specs.Limits.{mostRules, mostHeld}
 use Rattle.model.specs.declared.Write.{Write}
 use Rattle.model.specs.Answer.{refused, refusal, coded}
 use Rattle.rule_match.specs.declared.Rules.{Rules}
@@ -105,19 +106,19 @@ pub ruleset readying = (needs, ready-stored, ready-part, first-begun, ready-late
 -- ---- what a sound state tells
 
 module _ (s : List ℕ) (t : sound s ≡ true) where
-  pub few-rules : ruleCount s ≤ 32
+  pub few-rules : ruleCount s ≤ mostRules
   few-rules = sound-true s t .rules-most
 
-  pub few-writes : acceptedCount s ≤ 64
+  pub few-writes : acceptedCount s ≤ mostHeld
   few-writes = sound-true s t .writes-most
 
   pub few-stored : storedCount s ≤ acceptedCount s
   few-stored = stored-most s (sound-true s t)
 
-  pub few-marked : storedCount s ≤ 64
+  pub few-marked : storedCount s ≤ mostHeld
   few-marked = let a = few-stored in let m = few-writes in omega arith
 
-  pub few-held : (r : Rules) → r .count ≡ ruleCount s → r .count ≤ 32
+  pub few-held : (r : Rules) → r .count ≡ ruleCount s → r .count ≤ mostRules
   few-held r c = rw c few-rules
 
 -- ---- store_write, step_sound
@@ -125,7 +126,7 @@ module _ (s : List ℕ) (t : sound s ≡ true) where
 pub write-stored : (s d d′ : List ℕ) (i : ℕ) (w : Write) → w ≡ writeIn s i → d′ ≡ storedOn d w → d′ ≡ storedOn d (writeIn s i)
 write-stored s d d′ i w e q = rw e at q
 
-pub place-fits : (s : List ℕ) (p : ℕ) → sound s ≡ true → p ≤ acceptedCount s → (p ≡ 0 → ⊥) → p - 1 < 64
+pub place-fits : (s : List ℕ) (p : ℕ) → sound s ≡ true → p ≤ acceptedCount s → (p ≡ 0 → ⊥) → p - 1 < mostHeld
 place-fits s p t m z = let h = few-writes s t in omega arith
 
 module _ (s d : List ℕ) (p : ℕ) (q : p ≡ ready (rulesIn s) (writesIn s) (storedIn s)) where
@@ -168,7 +169,7 @@ module _ (s d : List ℕ) where
       go false b c p q r z = absurd (omega arith)
 
   module _ (n : ℕ) (e : n ≡ callFault s d) (z : n ≡ 0) where
-    pub clean-few : (length s ≡ 1024) × (acceptedCount s ≤ 64)
+    pub clean-few : (length s ≡ 1024) × (acceptedCount s ≤ mostHeld)
     clean-few = let c = clean n e z in (c .0, few-writes s (c .1 .1))
 
     -- with the table that it leaves
@@ -210,19 +211,19 @@ pub ruleset placing = (needs, place-none, place-some)
 
 -- which writes are stored after a step, by the place that it answers
 mask-stepped : (s d : List ℕ) (mask r : ℕ) → sound s ≡ true → r ≡ coded (stepped s d .outcome) → mask ≡ maskOf (storedIn s) (acceptedCount s)
-    → (r ≤ 64) × (cond (eqb r 0) mask (withBit mask (r - 1)) ≡ maskOf (storedIn (stepped s d .state)) (acceptedCount (stepped s d .state)))
+    → (r ≤ mostHeld) × (cond (eqb r 0) mask (withBit mask (r - 1)) ≡ maskOf (storedIn (stepped s d .state)) (acceptedCount (stepped s d .state)))
 unfolding stepped storing coded
 mask-stepped s d mask r t e m = go (ready (rulesIn s) (writesIn s) (storedIn s)) refl e
   where
     go : (k : ℕ) → ready (rulesIn s) (writesIn s) (storedIn s) ≡ k → r ≡ coded (storing k s d .outcome)
-        → (r ≤ 64) × (cond (eqb r 0) mask (withBit mask (r - 1)) ≡ maskOf (storedIn (storing k s d .state)) (acceptedCount (storing k s d .state)))
+        → (r ≤ mostHeld) × (cond (eqb r 0) mask (withBit mask (r - 1)) ≡ maskOf (storedIn (storing k s d .state)) (acceptedCount (storing k s d .state)))
     go zero q e = (omega arith, rw e m)
     go (suc i) q e =
         let a = ready-earliest (rulesIn s) (writesIn s) (storedIn s) i q .accepted in
         let l = writes-length s in
         let w = few-writes s t in
         let h : i < acceptedCount s = omega arith in
-        let few : i < 64 = omega arith in
+        let few : i < mostHeld = omega arith in
         let y : suc i - 1 ≡ i = omega arith in
         let size = sound-size s t in (
           omega arith,
@@ -231,7 +232,7 @@ mask-stepped s d mask r t e m = go (ready (rulesIn s) (writesIn s) (storedIn s))
         )
 
 -- a step keeps the rules and the writes, and so the needs
-tabled-marked : (s rows : List ℕ) (i : ℕ) → sound s ≡ true → i < 64 → Tabled s rows → Tabled (marked s i) rows
+tabled-marked : (s rows : List ℕ) (i : ℕ) → sound s ≡ true → i < mostHeld → Tabled s rows → Tabled (marked s i) rows
 unfolding Tabled
 tabled-marked s rows i t h e =
     let size = sound-size s t in
@@ -288,7 +289,7 @@ module _ (s d : List ℕ) (m k : ℕ) where
     unfolding codedLeft
     step-answer = ap (λ g. g .answer) e
 
-    pub drain-place : (mask : ℕ) → sound s′ ≡ true → mask ≡ maskOf (storedIn s′) (acceptedCount s′) → r ≤ 64
+    pub drain-place : (mask : ℕ) → sound s′ ≡ true → mask ≡ maskOf (storedIn s′) (acceptedCount s′) → r ≤ mostHeld
     drain-place mask t h = mask-stepped s′ d′ mask r t step-answer h .0
 
     pub drain-mask : (mask next : ℕ) → sound s′ ≡ true → mask ≡ maskOf (storedIn s′) (acceptedCount s′) → next ≡ cond (eqb r 0) mask (withBit mask (r - 1))

@@ -5,6 +5,7 @@ use mathlib.Core.Bool.{Bool, cond, not, _&&_}
 use mathlib.Core.List.{List, [], _∷_, _++_}
 use lib.Dec.{eqb, leb}
 use lib.ListN.{length}
+use Rattle.model.specs.Limits.{mostHeld}
 use Rattle.model.specs.declared.Rule.{Rule}
 use Rattle.model.specs.declared.Write.{Write}
 use Rattle.model.specs.Answer.{refusal, coded}
@@ -59,5 +60,5 @@ handFaultBy long good full late ring = cond (not long) 14 (cond (not good) 15 (c
 
 unfoldable pub handFault : Write → List ℕ → ℕ
 handFault w s =
-    handFaultBy (eqb (length s) 1024) (sound s) (leb 64 (acceptedCount s)) (late (rulesIn s) (writesIn s) (storedIn s) w)
+    handFaultBy (eqb (length s) 1024) (sound s) (leb mostHeld (acceptedCount s)) (late (rulesIn s) (writesIn s) (storedIn s) w)
     (needsRing (rulesIn s) (writesIn s ++ (w ∷ [])))

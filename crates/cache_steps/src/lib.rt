@@ -5,6 +5,7 @@ ghost use Prim.Native.Nat.{_-_, _<_, _≤_};
 ghost use lib.Dec.{eqb};
 ghost use lib.ListN.{length};
 ghost use Rattle.relation.specs.Bits.{bit, withBit, maskOf};
+ghost use Rattle.model.specs.Limits.{mostHeld};
 ghost use Rattle.cache_model.specs.Needs.{ready};
 ghost use Rattle.cache_model.specs.State.{acceptedCount, storedCount, writeIn, rulesIn, writesIn, storedIn, marked, storedOn};
 ghost use Rattle.cache_model.specs.Sound.{sound};
@@ -15,7 +16,7 @@ ghost use Rattle.cache_steps.specs.Given.{callLeaves, codedLeft, callFau
 
 // Whether write i is not in the mask of the stored writes, and its row is part of that mask.
 fn is_ready(row: u64, mask: u64, i: usize) -> bool
-    requires { ⌜ i < 64 ⌝ }
+    requires { ⌜ i < mostHeld ⌝ }
     ensures { λ r. ⌜ r ≡ not (bit mask i) && partOf row mask ⌝ }
 {
     if relation::has_bit(mask, i) {
@@ -27,7 +28,7 @@ fn is_ready(row: u64, mask: u64, i: usize) -> bool
 // The earliest waiting write whose needs are all stored, counted from 1, or 0. rows has the needs,
 // mask the stored writes.
 fn ready(state: &[u8], rows: &[u64; 64], mask: u64) -> usize
-    requires { ⌜ (length (now state) ≡ 1024) × ((acceptedCount (now state) ≤ 64) × (Tabled (now state) (now rows) × (mask ≡ maskOf (storedIn (now state)) (acceptedCount (now state))))) ⌝ }
+    requires { ⌜ (length (now state) ≡ 1024) × ((acceptedCount (now state) ≤ mostHeld) × (Tabled (now state) (now rows) × (mask ≡ maskOf (storedIn (now state)) (acceptedCount (now state))))) ⌝ }
     ensures { λ r. ⌜ (r ≡ ready (rulesIn (now (state .entry))) (writesIn (now (state .entry))) (storedIn (now (state .entry)))) × (r ≤ acceptedCount (now (state .entry))) ⌝ }
 {
     let n = cache_contents::wide(state[1]);
@@ -43,7 +44,7 @@ fn ready(state: &[u8], rows: &[u64; 64], mask: u64) -> usize
 
 // Write i is stored on the disk, and marked.
 fn store_write(state: &mut [u8], disk: &mut [u8], i: usize)
-    requires { ⌜ (length (now state) ≡ 1024) × ((length (now disk) ≡ 1024) × ((i < 64) × (storedCount (now state) ≤ 64))) ⌝ }
+    requires { ⌜ (length (now state) ≡ 1024) × ((length (now disk) ≡ 1024) × ((i < mostHeld) × (storedCount (now state) ≤ mostHeld))) ⌝ }
     ensures { λ _. ⌜ (now (state .exit) ≡ marked (now (state .entry)) i) × (now (disk .exit) ≡ storedOn (now (disk .entry)) (writeIn (now (state .entry)) i)) ⌝ }
 {
     cache_stores::store_block(disk, cache_contents::write_in(state, i));
@@ -82,7 +83,7 @@ pub fn fault(rows: &mut [u64; 64], state: &[u8], disk: &[u8]) -> u64
 
 // mask, with the write at a place from 1; 0 is none.
 fn with_place(mask: u64, place: u64) -> u64
-    requires { ⌜ place ≤ 64 ⌝ }
+    requires { ⌜ place ≤ mostHeld ⌝ }
     ensures { λ r. ⌜ r ≡ cond (eqb place 0) mask (withBit mask (place - 1)) ⌝ }
 {
     if 0 < place {

@@ -1,1 +1,2 @@
+pub mod AppendSteps
 pub mod StoreSteps

@@ -1,11 +1,15 @@
-// What is written to disk and state: numbers, one block, a write's flag.
+// What is written to disk and state: numbers, one block, a write's flag, a write's bytes and one more in
+// the count.
 use model::Write;
 ghost use mathlib.Core.Path.{_≡_};
+ghost use mathlib.Core.List.{[], _∷_};
 ghost use Prim.Native.Nat.{_+_, _<_, _≤_};
 ghost use lib.ListN.{length};
 ghost use lib.Seq.{sets};
+ghost use Rattle.model.specs.Limits.{mostHeld};
 ghost use Rattle.file_format.specs.Bytes.{bytes4};
-ghost use Rattle.cache_model.specs.State.{storedCount, marked, storedOn};
+ghost use Rattle.cache_model.specs.State.{acceptedCount, storedCount, marked, storedOn, entryBytes, handed};
+ghost use Rattle.cache_model.specs.Calls.{given};
 
 // A number in four bytes, big-endian.
 pub fn put_word(bytes: &mut [u8], at: usize, n: u32)
@@ -28,10 +32,54 @@ pub fn store_block(disk: &mut [u8], w: Write)
 
 // Write i is stored.
 pub fn mark(state: &mut [u8], i: usize)
-    requires { ⌜ (length (now state) ≡ 1024) × ((i < 64) × (storedCount (now state) ≤ 64)) ⌝ }
+    requires { ⌜ (length (now state) ≡ 1024) × ((i < mostHeld) × (storedCount (now state) ≤ mostHeld)) ⌝ }
     ensures { λ _. ⌜ now (state .exit) ≡ marked (now (state .entry)) i ⌝ }
 {
     let stored = state[2] + 1;
     state[110 + 12 * i] = 1;
     state[2] = stored;
+}
+
+// Hand-in's five values as a write.
+pub fn given(address: u8, name: u8, epoch: u32, first: u16, second: u16) -> Write
+    ensures { λ r. ⌜ r ≡ given address name epoch first second ⌝ }
+{
+    Write {
+        address,
+        name,
+        epoch,
+        block: first as u32 * 65536 + second as u32,
+    }
+}
+
+// Two bytes.
+fn put_pair(bytes: &mut [u8], at: usize, x: u8, y: u8)
+    requires { ⌜ at + 2 ≤ length (now bytes) ⌝ }
+    ensures { λ _. ⌜ now (bytes .exit) ≡ sets (now (bytes .entry)) at (x ∷ y ∷ []) ⌝ }
+{
+    bytes[at] = x;
+    bytes[at + 1] = y;
+}
+
+// A waiting write's 12 bytes.
+fn put_entry(state: &mut [u8], at: usize, w: Write)
+    requires { ⌜ at + 12 ≤ length (now state) ⌝ }
+    ensures { λ _. ⌜ now (state .exit) ≡ sets (now (state .entry)) at (entryBytes w) ⌝ }
+{
+    put_pair(state, at, w.address, w.name);
+    put_word(state, at + 2, w.epoch);
+    put_word(state, at + 6, w.block);
+    put_pair(state, at + 10, 0, 0);
+}
+
+// w is appended, and waits. Answers its place from 1.
+pub fn append(state: &mut [u8], w: Write) -> u64
+    requires { ⌜ (length (now state) ≡ 1024) × (acceptedCount (now state) < mostHeld) ⌝ }
+    ensures { λ r. ⌜ (r ≡ acceptedCount (now (state .entry)) + 1) × (now (state .exit) ≡ handed (now (state .entry)) w) ⌝ }
+{
+    let place = state[1] + 1;
+    let at = 100 + 12 * cache_contents::wide(state[1]);
+    put_entry(state, at, w);
+    state[1] = place;
+    place as u64
 }

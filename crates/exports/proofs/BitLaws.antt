@@ -14,6 +14,7 @@ use Rattle.relation.specs.Lists.{any}
 use Rattle.relation.proofs.ListLaws.{and-left, and-right, or-none-left, or-none-right}
 use Rattle.model.specs.declared.Rule.{Rule}
 use Rattle.model.specs.declared.Write.{Write}
+use Rattle.model.specs.Limits.{mostMain, mostInitialPuts, mostMainPuts, mostSchedules, mostCandidates, mostHeld}
 use Rattle.model.specs.Answer.{Outcome, answer, refused}
 use Rattle.model.specs.Cyclic.{cyclic}
 use Rattle.model.specs.Disk.{secondOf}
@@ -22,24 +23,22 @@ use Rattle.model.specs.Schedule.{valid}
 use Rattle.model.specs.Test.{Test, File, schedules, Bad, bad, validCount, badCount}
 use Rattle.model.proofs.TestLaws.{count-most}
 use Rattle.file_format.specs.Bytes.{blockIn}
-use Rattle.file_format.specs.File.{readOf}
-use Rattle.file_format.specs.Held.{noTest, testOf}
-use Rattle.file_format.specs.Scan.{scanOf}
-use Rattle.file_format.specs.declared.Scan.{Scan}
-use Rattle.file_format.specs.declared.Scan.the-variants.{Accepted, Refused}
+use Rattle.file_format.specs.File.{putLength, endLength, readOf}
+use Rattle.file_format.specs.declared.Extent.{Extent}
+use Rattle.file_format.specs.Held.{noTest, testOf, extentOf}
+use Rattle.file_format.specs.Scan.{Places, scanOf}
 use Rattle.file_reader.specs.Limits.{TestLimits}
 use Rattle.file_reader.proofs.CallerLaws.{holding-limits, refused-limits}
-use Rattle.file_reader.proofs.TellsLaws.{tells}
 use Rattle.judge_counting.specs.declared.Verdict.{Verdict}
 use Rattle.judge_counting.specs.declared.Verdict.the-variants.{Holds, Fails}
 use Rattle.judge_cases.specs.Judge.{Case, caseOf, caseIn, Decides}
 use Rattle.judge_answers.specs.Judged.{judgementCode, verdictCode, JudgeAnswer, VerdictAnswer}
-use Rattle.file_calls.specs.File.{sizes, readAnswer, located, locateAnswer, cyclicIn, cyclicAnswer}
-use Rattle.file_calls.proofs.FileLaws.{packed}
+use Rattle.file_calls.specs.File.{sizes, readAnswer, packedExtent, Packed, located, locateAnswer, cyclicIn, cyclicAnswer}
+use Rattle.file_calls.proofs.FileLaws.{placed-packed}
 use Rattle.judge_text.specs.Decimal.{decimal}
-use Rattle.judge_text.specs.Lines.{refusedLine, testLine, lines, textOf, programText, holdsText, failsText}
+use Rattle.judge_text.specs.Lines.{refusedLine, testLine, lines, textOf, programText, holdsText, failsText, mostDigits, numbers, testLength, refusedLength, textLength}
 use Rattle.judge_text.proofs.WriteLaws.{decimal-most}
-use Rattle.find_call.specs.Finder.{Found, wrote, findAmong, findIn, findOf}
+use Rattle.find_call.specs.Finder.{Found, wrote, findAmong, findIn, findOf, foundLength}
 use Rattle.model.specs.Check.{damaged}
 use Rattle.log_get.specs.Get.{keyed, headOf, tailOf, getFrom, getOf, valueCode}
 use Rattle.file_format.specs.Encode.{testBytes}
@@ -87,10 +86,10 @@ unfolding handInOf ToldApart
 hand-in-apart w state =
     left-either (not (eqb (length state) stateSize)) _ _ (λ e. turned-down 14 0)
     (λ e. left-either (not (sound state)) _ _ (λ e. turned-down 15 0)
-    (λ e. left-either (leb 64 (acceptedCount state)) _ _ (λ e. turned-down 16 0)
+    (λ e. left-either (leb mostHeld (acceptedCount state)) _ _ (λ e. turned-down 16 0)
     (λ few. left-either (late (rulesIn state) (writesIn state) (storedIn state) w) _ _ (λ e. turned-down 17 0)
     (λ e. left-either (needsRing (rulesIn state) (writesIn state ++ (w ∷ []))) _ _ (λ e. turned-down 18 0)
-    (λ e. let l = leb-false 64 (acceptedCount state) few in omega arith)))))
+    (λ e. let l = leb-false mostHeld (acceptedCount state) few in omega arith)))))
 
 checked-apart : (call : List ℕ → List ℕ → Left) (state disk : List ℕ) → (sound state ≡ true → ToldApart (call state disk .outcome)) → ToldApart (checked call state disk .outcome)
 unfolding checked
@@ -155,20 +154,22 @@ read-apart file = go (readOf file) refl
         let a = l .rules in let b = l .tests in
         unfold sizes ToldApart in omega arith
 
+-- an extent of a file in one number
+extent-below : (e : Extent) → Packed e → ToldApart (answer (packedExtent e))
+unfolding ToldApart
+extent-below e q = let a = q .at in let b = q .initial in let c = q .main in let d = q .checks in omega arith
+
 locate-apart : (file : List ℕ) (k : ℕ) → ToldApart (locateAnswer file k)
-unfolding locateAnswer
-locate-apart file k = go (scanOf file (k - 1)) refl
+unfolding locateAnswer located
+locate-apart file k = go (scanOf file) refl
   where
-    go : (x : Scan) → scanOf file (k - 1) ≡ x → ToldApart (located k x)
-    go (Refused number place) e = unfold located in turned-down number place
-    go (Accepted rules tests extent) e =
-        unfold located in
-        by-case (λ (o : Outcome ℕ). o) (leb 1 k && leb k tests) _ _
-        (λ h. let l = leb-true 1 k (and-left (leb 1 k) (leb k tests) h) in
-        let m = leb-true k tests (and-right (leb 1 k) (leb k tests) h) in
-        let p = packed file (k - 1) (scanOf file (k - 1)) (tells file (k - 1)) rules tests extent e (omega arith) in
-        let a = p .at in let b = p .initial in let c = p .main in let d = p .checks in
-        unfold ToldApart in omega arith)
+    go : (x : Outcome Places) → scanOf file ≡ x → ToldApart (located k x)
+    go (refused number place) e = turned-down number place
+    go (answer p) e =
+        by-case (λ (o : Outcome ℕ). o) (leb 1 k && leb k (length (p .tests))) _ _
+        (λ h. let l = leb-true 1 k (and-left (leb 1 k) (leb k (length (p .tests))) h) in
+        let m = leb-true k (length (p .tests)) (and-right (leb 1 k) (leb k (length (p .tests))) h) in
+        extent-below (extentOf (p .tests) (k - 1)) (placed-packed file p e (k - 1) (omega arith)))
         (λ h. turned-down 9 0)
 
 one-apart : (b : Bool) → ToldApart (answer (cond b 1 0))
@@ -184,7 +185,7 @@ cyclic-apart file = go (readOf file)
     go (refused number place) = unfold cyclicIn in turned-down number place
     go (answer f) = unfold cyclicIn in one-apart (cyclic (f .rules))
 
--- ---- judge and verdict: a test has at most 4,096 schedules
+-- ---- judge and verdict: a test has at most so many schedules
 
 test-limits : (ts : List Test) → ((t : Test) → List·Memᴰ t ts → TestLimits t) → (i : ℕ) → TestLimits (getD ts i noTest)
 test-limits [] h i = unfold noTest in record { initial = omega arith; main = omega arith; checks = omega arith }
@@ -192,18 +193,18 @@ test-limits (t ∷ ts) h zero = h t (List·Memᴰ·head refl)
 test-limits (t ∷ ts) h (suc i) = test-limits ts (λ u m. h u (List·Memᴰ·tail m)) i
 
 few-of : (f : File) (k : ℕ) (c : Case) → ((t : Test) → List·Memᴰ t (f .tests) → TestLimits t) → (a b : Bool)
-    → cond a (refused 8 0) (cond b (answer (record { rules = f .rules; test = testOf f (k - 1) })) (refused 9 0)) ≡ answer c → schedules (c .test) ≤ 4096
+    → cond a (refused 8 0) (cond b (answer (record { rules = f .rules; test = testOf f (k - 1) })) (refused 9 0)) ≡ answer c → schedules (c .test) ≤ mostSchedules
 few-of f k c h true b q = let z : _≡_ {A = ℕ} 0 1 = cc in absurd (omega arith)
 few-of f k c h false false q = let z : _≡_ {A = ℕ} 0 1 = cc in absurd (omega arith)
 few-of f k c h false true q =
     let z : record { rules = f .rules; test = testOf f (k - 1) } ≡ c = cc in
-    rw (← z) (pow-mono {i = length (testOf f (k - 1) .main)} {j = 12} (test-limits (f .tests) h (k - 1) .main))
+    rw (← z) (pow-mono {i = length (testOf f (k - 1) .main)} {j = mostMain} (test-limits (f .tests) h (k - 1) .main))
 
-few : (file : List ℕ) (k : ℕ) (c : Case) → caseIn file k ≡ answer c → schedules (c .test) ≤ 4096
+few : (file : List ℕ) (k : ℕ) (c : Case) → caseIn file k ≡ answer c → schedules (c .test) ≤ mostSchedules
 unfolding caseIn
 few file k c = go (readOf file) refl
   where
-    go : (o : Outcome File) → readOf file ≡ o → caseOf o k ≡ answer c → schedules (c .test) ≤ 4096
+    go : (o : Outcome File) → readOf file ≡ o → caseOf o k ≡ answer c → schedules (c .test) ≤ mostSchedules
     go (refused number place) h q = unfold caseOf in let z : _≡_ {A = ℕ} 0 1 = cc in absurd (omega arith)
     go (answer f) h q = few-of f k c (holding-limits file f h .0 .each) (cyclic (f .rules)) (leb 1 k && leb k (length (f .tests))) (unfold caseOf in q)
 
@@ -216,7 +217,7 @@ judge-below file k c r e (j, p, q) =
     let s = shown (ℕ-discrete (j .bad) 0) in
     omega arith
   where
-    shown : Dec (j .bad ≡ 0) → j .shown ≤ 4096
+    shown : Dec (j .bad ≡ 0) → j .shown ≤ mostSchedules
     shown (yes z) = let n = p .none z in omega arith
     shown (no n) = let l = p .shown n .0 in let m = few file k c e in omega arith
 
@@ -228,23 +229,23 @@ verdict-below file k c r e (v, p, q) = rw q (go v p)
     go Holds p = omega arith
     go (Fails s) p = let l = p .0 in let m = few file k c e in omega arith
 
--- ---- lines: at most 16 of 24 bytes, or one of 20
+-- ---- lines: one for each test, or that of a refusal
 
-line-most : (k valid bad : ℕ) → k < 100000 → valid < 100000 → bad < 100000 → length (testLine k valid bad) ≤ 24
+line-most : (k valid bad : ℕ) → k < numbers → valid < numbers → bad < numbers → length (testLine k valid bad) ≤ testLength
 unfolding testLine
 line-most k valid bad h i j =
-    let a = decimal-most 4 k h in
-    let b = decimal-most 4 valid i in
-    let c = decimal-most 4 bad j in
+    let a = decimal-most (mostDigits - 1) k h in
+    let b = decimal-most (mostDigits - 1) valid i in
+    let c = decimal-most (mostDigits - 1) bad j in
     rw (length-append (decimal k) _, length-append (decimal valid) _, length-append (decimal bad) _, length-append (cond (eqb bad 0) holdsText failsText) _)
     (go (eqb bad 0) a b c)
   where
-    go : (x : Bool) → length (decimal k) ≤ 5 → length (decimal valid) ≤ 5 → length (decimal bad) ≤ 5
-        → length (decimal k) + suc (length (decimal valid) + suc (length (decimal bad) + suc (length (cond x holdsText failsText) + 1))) ≤ 24
+    go : (x : Bool) → length (decimal k) ≤ mostDigits → length (decimal valid) ≤ mostDigits → length (decimal bad) ≤ mostDigits
+        → length (decimal k) + suc (length (decimal valid) + suc (length (decimal bad) + suc (length (cond x holdsText failsText) + 1))) ≤ testLength
     go true a b c = omega arith
     go false a b c = omega arith
 
-lines-most : (f : ℕ → List ℕ) (n : ℕ) → ((i : ℕ) → i < n → length (f i) ≤ 24) → length (lines f n) ≤ 24 * n
+lines-most : (f : ℕ → List ℕ) (n : ℕ) → ((i : ℕ) → i < n → length (f i) ≤ testLength) → length (lines f n) ≤ testLength * n
 unfolding lines
 lines-most f zero h = omega arith
 lines-most f (suc n) h =
@@ -252,19 +253,19 @@ lines-most f (suc n) h =
     let b = h n (omega arith) in
     rw (length-append (lines f n) (f n)) (omega arith)
 
-refused-most : (number place : ℕ) → number < 100000 → place < 100000 → length (refusedLine number place) ≤ 20
+refused-most : (number place : ℕ) → number < numbers → place < numbers → length (refusedLine number place) ≤ refusedLength
 unfolding refusedLine
 refused-most number place h i =
-    let a = decimal-most 4 number h in
-    let b = decimal-most 4 place i in
+    let a = decimal-most (mostDigits - 1) number h in
+    let b = decimal-most (mostDigits - 1) place i in
     rw (length-append (decimal number) _, length-append (decimal place) _) (omega arith)
 
-text-most : (file : List ℕ) → length (programText file) ≤ 400
+text-most : (file : List ℕ) → length (programText file) ≤ textLength
 unfolding programText validCount badCount
 text-most file = go (readOf file) refl
   where
     tests : (f : File) → readOf file ≡ answer f → (b : Bool)
-        → length (cond b (refusedLine 8 0) (lines (λ i. testLine (suc i) (validCount (f .rules) (testOf f i)) (badCount (f .rules) (testOf f i))) (length (f .tests)))) ≤ 400
+        → length (cond b (refusedLine 8 0) (lines (λ i. testLine (suc i) (validCount (f .rules) (testOf f i)) (badCount (f .rules) (testOf f i))) (length (f .tests)))) ≤ textLength
     tests f h true = let l = refused-most 8 0 (omega arith) (omega arith) in omega arith
     tests f h false =
         let limits = holding-limits file f h .0 in
@@ -273,14 +274,14 @@ text-most file = go (readOf file) refl
         (λ i. testLine (suc i) (validCount (f .rules) (testOf f i)) (badCount (f .rules) (testOf f i)))
         (length (f .tests))
         (λ i k.
-        let m = pow-mono {i = length (testOf f i .main)} {j = 12} (test-limits (f .tests) (limits .each) i .main) in
+        let m = pow-mono {i = length (testOf f i .main)} {j = mostMain} (test-limits (f .tests) (limits .each) i .main) in
         let a = count-most (valid (f .rules) (testOf f i .main)) (schedules (testOf f i)) in
         let b = count-most (bad (f .rules) (testOf f i)) (schedules (testOf f i)) in
         line-most (suc i) (validCount (f .rules) (testOf f i)) (badCount (f .rules) (testOf f i)) (omega arith) (omega arith) (omega arith))
         in
         omega arith
 
-    go : (o : Outcome File) → readOf file ≡ o → length (textOf o) ≤ 400
+    go : (o : Outcome File) → readOf file ≡ o → length (textOf o) ≤ textLength
     go (refused number place) h =
         let l = refused-limits file number place h in
         let a = l .1 in let b = l .2 in
@@ -288,9 +289,9 @@ text-most file = go (readOf file) refl
         unfold textOf in omega arith
     go (answer f) h = unfold textOf in tests f h (cyclic (f .rules))
 
-lines-below : (file buffer : List ℕ) → 400 ≤ length buffer → printedOf file buffer .answer < bit63
+lines-below : (file buffer : List ℕ) → textLength ≤ length buffer → printedOf file buffer .answer < bit63
 unfolding printedOf
-lines-below file buffer h = let l = text-most file in rw (le-ltb (length buffer) 400 h) (omega arith)
+lines-below file buffer h = let l = text-most file in rw (le-ltb (length buffer) textLength h) (omega arith)
 
 -- ---- find: at most 16 rules
 
@@ -310,7 +311,7 @@ find-apart : (file buffer : List ℕ) → ToldApart (findOf file buffer .outcome
 unfolding findOf
 find-apart file buffer = go (readOf file)
   where
-    wrote-apart : (candidates : List Rule) (o : Option ℕ) → length candidates ≤ 16 → ToldApart (wrote candidates o buffer .outcome)
+    wrote-apart : (candidates : List Rule) (o : Option ℕ) → length candidates ≤ mostCandidates → ToldApart (wrote candidates o buffer .outcome)
     wrote-apart candidates none h = unfold wrote in turned-down 13 0
     wrote-apart candidates (some m) h = let l = picked-most candidates m in unfold wrote ToldApart in omega arith
 
@@ -319,9 +320,9 @@ find-apart file buffer = go (readOf file)
     go (answer f) =
         unfold findIn findAmong in
         found-either (ltb 0 (length (f .rules))) _ _ (λ e. turned-down 10 0)
-        (λ e. found-either (ltb (length buffer) 96) _ _ (λ e. turned-down 12 0)
-        (λ e. found-either (ltb 16 (length (candidatesOf (f .tests)))) _ _ (λ e. turned-down 11 0)
-        (λ l. wrote-apart (candidatesOf (f .tests)) (chosen (f .tests) (candidatesOf (f .tests))) (ltb-false 16 (length (candidatesOf (f .tests))) l))))
+        (λ e. found-either (ltb (length buffer) foundLength) _ _ (λ e. turned-down 12 0)
+        (λ e. found-either (ltb mostCandidates (length (candidatesOf (f .tests)))) _ _ (λ e. turned-down 11 0)
+        (λ l. wrote-apart (candidatesOf (f .tests)) (chosen (f .tests) (candidatesOf (f .tests))) (ltb-false mostCandidates (length (candidatesOf (f .tests))) l))))
 
 -- ---- trace: at most 38 puts
 
@@ -333,18 +334,18 @@ unfolding traceOf ToldApart
 trace-apart initial main buffer =
     let i : List Put = putsOf initial in
     let m : List Put = putsOf main in
-    let size : ℕ = 26 * (length i + length m) + 7 in
+    let size : ℕ = putLength * (length i + length m) + endLength in
     let done : Traced = traced (answer size) (testBytes (logTest i m) ++ drop size buffer) in
     let short : Traced = cond (ltb (length buffer) size) (traced (refused 12 0) buffer) done in
     let empty : Traced = cond (any emptyPut i || any emptyPut m) (traced (refused 20 0) buffer) short in
-    traced-either (not (eqb (length initial % 4) 0) || not (eqb (length main % 4) 0)) _ (cond (ltb 32 (length i) || ltb 6 (length m)) (traced (refused 6 0) buffer) empty)
+    traced-either (not (eqb (length initial % 4) 0) || not (eqb (length main % 4) 0)) _ (cond (ltb mostInitialPuts (length i) || ltb mostMainPuts (length m)) (traced (refused 6 0) buffer) empty)
     (λ e. turned-down 19 0)
-    (λ e. traced-either (ltb 32 (length i) || ltb 6 (length m)) _ empty (λ e. turned-down 6 0)
+    (λ e. traced-either (ltb mostInitialPuts (length i) || ltb mostMainPuts (length m)) _ empty (λ e. turned-down 6 0)
     (λ few. traced-either (any emptyPut i || any emptyPut m) _ short (λ e. turned-down 20 0)
     (λ e. traced-either (ltb (length buffer) size) _ done (λ e. turned-down 12 0)
     (λ e.
-    let a = ltb-false 32 (length i) (or-none-left (ltb 32 (length i)) (ltb 6 (length m)) few) in
-    let b = ltb-false 6 (length m) (or-none-right (ltb 32 (length i)) (ltb 6 (length m)) few) in
+    let a = ltb-false mostInitialPuts (length i) (or-none-left (ltb mostInitialPuts (length i)) (ltb mostMainPuts (length m)) few) in
+    let b = ltb-false mostMainPuts (length m) (or-none-right (ltb mostInitialPuts (length i)) (ltb mostMainPuts (length m)) few) in
     omega arith))))
 
 -- ---- all of them

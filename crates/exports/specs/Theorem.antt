@@ -13,6 +13,7 @@ use Rattle.judge_cases.specs.Judge.{Case, caseIn}
 use Rattle.judge_answers.specs.Judged.{JudgeAnswer, VerdictAnswer}
 use Rattle.file_calls.specs.File.{readAnswer, locateAnswer, cyclicAnswer}
 use Rattle.find_call.specs.Finder.{findOf}
+use Rattle.judge_text.specs.Lines.{textLength}
 use Rattle.workbench.specs.Printed.{printedOf}
 
 -- 2 to the power 63
@@ -37,6 +38,6 @@ pub record NoneReachesBit63 : Type 0 where
   pub cyclic : (file : List ℕ) → ToldApart (cyclicAnswer file)
   pub judge : (file : List ℕ) (k : ℕ) (c : Case) (r : ℕ) → caseIn file k ≡ answer c → JudgeAnswer (answer c) r → r < bit63
   pub verdict : (file : List ℕ) (k : ℕ) (c : Case) (r : ℕ) → caseIn file k ≡ answer c → VerdictAnswer (answer c) r → r < bit63
-  pub lines : (file buffer : List ℕ) → 400 ≤ length buffer → printedOf file buffer .answer < bit63
+  pub lines : (file buffer : List ℕ) → textLength ≤ length buffer → printedOf file buffer .answer < bit63
   pub find : (file buffer : List ℕ) → ToldApart (findOf file buffer .outcome)
   pub trace : (initial main buffer : List ℕ) → ToldApart (traceOf initial main buffer .outcome)

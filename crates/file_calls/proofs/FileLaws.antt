@@ -1,95 +1,123 @@
 -- From the scan's answer to the routine's, outcome by outcome.
-use mathlib.Core.Path.{_≡_}
+use mathlib.Core.Path.{_≡_, sym, ap, _∙_}
 use mathlib.Core.List.{List}
 use mathlib.Core.Bool.{Bool, true, false, cond, not, _&&_}
 use Prim.Native.Nat.{ℕ, _+_, _*_, _-_, _≤_, _<_}
 use native.Mathlib.Omega.{arith}
 use lib.Dec.{leb}
-use lib.ListN.{length}
+use lib.ListN.{length, take}
+use lib.Seq.{getD-take, length-take-le}
 use borrow.Author.Needs.{needs}
 use borrow.Author.Tests.{not-true, not-false}
-use Rattle.model.specs.Answer.{answer, coded, refusal}
+use Rattle.model.specs.declared.Refusal.{Refusal}
+use Rattle.model.specs.Limits.{words, mostRules, mostTests}
+use Rattle.model.specs.Answer.{answer, refused, coded, refusal}
 use Rattle.model.specs.Cyclic.{cyclic}
-use Rattle.rule_match.specs.declared.Rules.{Rules}
-use Rattle.rule_match.specs.Held.{rulesOf}
 use Rattle.file_format.specs.declared.Extent.{Extent}
 use Rattle.file_format.specs.declared.Scan.{Scan}
 use Rattle.file_format.specs.declared.Scan.the-variants.{Accepted, Refused}
-use Rattle.file_format.specs.File.{readOf}
-use Rattle.file_format.specs.Scan.{scanOf, rulesAt}
-use Rattle.file_format.specs.Held.{Tells}
-use Rattle.file_reader.proofs.CallerLaws.{refused-read, refused-most, accepted-read, accepted-rules, accepted-tests, accepted-most, accepted-inside, accepted-at, accepted-long, listed-below}
-use Rattle.file_calls.specs.File.{sizes, readAnswer, located, locateAnswer, cyclicIn, cyclicAnswer, Packed}
+use Rattle.file_format.specs.File.{isRule}
+use Rattle.file_format.specs.Scan.{rulesAt, ruleField, Places, scanOf}
+use Rattle.file_format.specs.Held.{Fields, extentOf, noExtent, ScansTo}
+use Rattle.file_reader.proofs.CallerLaws.{held-inside, held-most, refused-scan, refused-read, refused-most, accepted-places, accepted-room, accepted-rules, accepted-tests, accepted-fields, accepted-file, accepted-read, accepted-at, accepted-placed, listed-below}
+use Rattle.rule_match.specs.declared.Rules.{Rules}
+use Rattle.rule_match.specs.Held.{rulesOf}
+use Rattle.file_loading.proofs.LoadSteps.{fields-length}
+use Rattle.file_calls.specs.File.{sizes, readAnswer, packedExtent, located, locateAnswer, cyclicIn, cyclicAnswer, Packed}
 
-module _ (s : List ℕ) (wanted : ℕ) (x : Scan) (t : Tells s wanted (readOf s) x) where
-  pub refusal-fits : (number place : ℕ) → x ≡ Refused number place → (number < 256) × (place < 4294967296)
-  refusal-fits number place e =
-      let l = refused-most s wanted number place (rw e at t) in
-      let a = l .0 in let b = l .1 in
-      (omega arith, omega arith)
+-- an extent of a file has room in the answer
+pub placed-packed : (s : List ℕ) (p : Places) → scanOf s ≡ answer p → (i : ℕ) → i < length (p .tests) → Packed (extentOf (p .tests) i)
+placed-packed s p e i h =
+    let j = held-inside s p e i h in
+    let a = j .at in let m = held-most s p e .2 in
+    record { at = omega arith; initial = j .initial-most; main = j .main-most; checks = j .checks-most }
 
-  pub read-refused : (number place r : ℕ) → x ≡ Refused number place → r ≡ refusal number place → r ≡ coded (readAnswer s)
-  unfolding readAnswer sizes coded
-  read-refused number place r e q = rw (refused-read s wanted number place (rw e at t)) q
+module _ (s : List ℕ) (x : Scan) (ts : List Extent) (g : ScansTo (scanOf s) x ts) where
+  module _ (why : Refusal) (r : ℕ) (e : x ≡ Refused why) where
+    pub refusal-fits : why .place < words
+    refusal-fits = let b = refused-most s x ts g why e .1 in omega arith
 
-  pub sizes-fit : (rules tests : ℕ) (found : Extent) → x ≡ Accepted rules tests found → (rules ≤ 32) × (tests ≤ 16)
-  sizes-fit rules tests found e =
-      let l = accepted-most s wanted rules tests found (rw e at t) in
-      (l .0, l .1)
+    module _ (q : r ≡ refusal (why .number) (why .place)) where
+      pub read-refused : r ≡ coded (readAnswer s)
+      unfolding readAnswer sizes coded
+      read-refused = rw (refused-read s x ts g why e) q
 
-  pub read-accepted : (rules tests : ℕ) (found : Extent) → x ≡ Accepted rules tests found → rules + 256 * tests ≡ coded (readAnswer s)
-  unfolding readAnswer sizes coded
-  read-accepted rules tests found e =
-      let h = rw e at t in
-      rw (accepted-read s wanted rules tests found h, accepted-rules s wanted rules tests found h, accepted-tests s wanted rules tests found h)
+      pub cyclic-refused : r ≡ coded (cyclicAnswer s)
+      unfolding cyclicAnswer cyclicIn coded
+      cyclic-refused = rw (refused-read s x ts g why e) q
 
-  pub rules-fit : (rules tests : ℕ) (found : Extent) → x ≡ Accepted rules tests found → (rules ≤ 32) × (6 * rules ≤ length s)
-  rules-fit rules tests found e =
-      let h = rw e at t in
-      (accepted-most s wanted rules tests found h .0, accepted-long s wanted rules tests found h)
+      pub locate-refused : (k : ℕ) → r ≡ coded (locateAnswer s k)
+      unfolding locateAnswer located coded
+      locate-refused k = rw (refused-scan s x ts g why e) q
 
-  cyclic-read : (rules tests : ℕ) (found : Extent) (r : Rules) → x ≡ Accepted rules tests found → rulesOf r ≡ rulesAt s rules
-      → cyclicAnswer s ≡ answer (cond (cyclic (rulesOf r)) 1 0)
-  unfolding cyclicAnswer cyclicIn
-  cyclic-read rules tests found r e q =
-      let h = rw e at t in
-      rw (accepted-read s wanted rules tests found h, accepted-at s wanted rules tests found h, q)
+  module _ (rules n : ℕ) (e : x ≡ Accepted rules n) where
+    pub rules-few : rules ≤ mostRules
+    rules-few = accepted-rules s x ts g rules n e
 
-  module _ (rules tests : ℕ) (found : Extent) (r : Rules) (b : Bool) (e : x ≡ Accepted rules tests found) (q : rulesOf r ≡ rulesAt s rules) (p : b ≡ cyclic (rulesOf r)) where
-    pub cyclic-yes : b ≡ true → 1 ≡ coded (cyclicAnswer s)
-    unfolding coded
-    cyclic-yes h = rw (cyclic-read rules tests found r e q, ← p, h)
+    pub tests-few : n ≤ mostTests
+    tests-few = accepted-tests s x ts g rules n e
 
-    pub cyclic-no : b ≡ false → 0 ≡ coded (cyclicAnswer s)
-    unfolding coded
-    cyclic-no h = rw (cyclic-read rules tests found r e q, ← p, h)
+    pub tests-scaled : 256 * n < 18446744073709551616
+    tests-scaled = let m = tests-few in omega arith
 
-  pub cyclic-refused : (number place r : ℕ) → x ≡ Refused number place → r ≡ refusal number place → r ≡ coded (cyclicAnswer s)
-  unfolding cyclicAnswer cyclicIn coded
-  cyclic-refused number place r e q = rw (refused-read s wanted number place (rw e at t)) q
+    pub sizes-fit : rules + 256 * n < 18446744073709551616
+    sizes-fit = let m = tests-few in let l = rules-few in omega arith
 
-  pub packed : (rules tests : ℕ) (found : Extent) → x ≡ Accepted rules tests found → wanted < tests → Packed found
-  packed rules tests found e h =
-      let a = accepted-most s wanted rules tests found (rw e at t) .2 in
-      let i = accepted-inside s wanted rules tests found (rw e at t) h in
-      let w = i .writes in
-      record { at = omega arith; initial = i .initial-most; main = i .main-most; checks = i .checks-most }
+    pub rules-fields : Fields isRule s 0 rules
+    rules-fields = accepted-fields s x ts g rules n e
 
-  pub packs : (k rules tests : ℕ) (found : Extent) (b : Bool) → wanted ≡ k - 1 → x ≡ Accepted rules tests found → b ≡ leb 1 k && leb k tests → not b ≡ false → Packed found
-  packs k rules tests found b z e h n = packed rules tests found e (listed-below k wanted tests b z h n)
+    pub count-few : (r : Rules) → r .count ≡ rules → r .count ≤ mostRules
+    count-few r k = let m = rules-few in omega arith
 
-module _ (s : List ℕ) (k w : ℕ) (x : Scan) (z : w ≡ k - 1) (q₀ : x ≡ scanOf s w) where
-  pub locate-refused : (number place r : ℕ) → x ≡ Refused number place → r ≡ refusal number place → r ≡ coded (locateAnswer s k)
-  unfolding locateAnswer located coded
-  locate-refused number place r e h = rw (← z, ← q₀, e) h
+    pub read-accepted : rules + 256 * n ≡ coded (readAnswer s)
+    unfolding readAnswer sizes coded
+    read-accepted =
+        let f = accepted-file s x ts g rules n e in
+        let a : length (f .rules) ≡ rules = ap length (accepted-at s x ts g rules n e) ∙ fields-length ruleField s 0 rules in
+        rw (accepted-read s x ts g rules n e, a, accepted-placed s x ts g rules n e .count)
 
-  module _ (rules tests : ℕ) (found : Extent) (r : ℕ) (b : Bool) (e : x ≡ Accepted rules tests found) (h : b ≡ leb 1 k && leb k tests) where
-    pub locate-none : not b ≡ true → r ≡ refusal 9 0 → r ≡ coded (locateAnswer s k)
-    unfolding locateAnswer located coded
-    locate-none n q = rw (← z, ← q₀, e, ← h, not-true b n) q
+    module _ (r : Rules) (b : Bool) (q : rulesOf r ≡ rulesAt s rules) (p : b ≡ cyclic (rulesOf r)) where
+      cyclic-read : cyclicAnswer s ≡ answer (cond b 1 0)
+      unfolding cyclicAnswer cyclicIn
+      cyclic-read = rw (accepted-read s x ts g rules n e, accepted-at s x ts g rules n e, ← q) (ap (λ (c : Bool). answer (cond c 1 0)) (sym p))
 
-    pub locate-found : not b ≡ false → r ≡ found .at + 65536 * found .initial + 16777216 * found .main + 4294967296 * found .checks → r ≡ coded (locateAnswer s k)
-    unfolding locateAnswer located coded
-    locate-found n q = rw (← z, ← q₀, e, ← h, not-false b n) q
+      pub cyclic-yes : b ≡ true → 1 ≡ coded (cyclicAnswer s)
+      unfolding coded
+      cyclic-yes h = sym (ap coded (cyclic-read ∙ ap (λ (c : Bool). answer (cond c 1 0)) h))
 
-pub ruleset answers = (needs, refusal-fits, read-refused, sizes-fit, read-accepted, packs, locate-refused, locate-none, locate-found, cyclic-yes, cyclic-no, cyclic-refused)
+      pub cyclic-no : b ≡ false → 0 ≡ coded (cyclicAnswer s)
+      unfolding coded
+      cyclic-no h = sym (ap coded (cyclic-read ∙ ap (λ (c : Bool). answer (cond c 1 0)) h))
+
+    module _ (k : ℕ) (b : Bool) (h : b ≡ leb 1 k && leb k n) where
+      count : length (take n ts) ≡ n
+      count = length-take-le n ts (let m = tests-few in let l = accepted-room s x ts g rules n e in omega arith)
+
+      here : locateAnswer s k ≡ cond b (answer (packedExtent (extentOf (take n ts) (k - 1)))) (refused 9 0)
+      unfolding locateAnswer located
+      here = rw (accepted-places s x ts g rules n e, count) (ap (λ (c : Bool). cond c (answer (packedExtent (extentOf (take n ts) (k - 1)))) (refused 9 0)) (sym h))
+
+      pub locate-none : (r : ℕ) → not b ≡ true → r ≡ refusal 9 0 → r ≡ coded (locateAnswer s k)
+      unfolding coded
+      locate-none r i q = q ∙ sym (ap coded (here ∙ ap (λ (c : Bool). cond c (answer (packedExtent (extentOf (take n ts) (k - 1)))) (refused 9 0)) (not-true b i)))
+
+    module _ (k w : ℕ) (b : Bool) (z : w ≡ k - 1) (h : b ≡ leb 1 k && leb k n) where
+      pub locate-below : not b ≡ false → w < mostTests
+      locate-below i = let a = listed-below k w n b z h i in let m = tests-few in omega arith
+
+      pub locate-scaled : not b ≡ false → w * 32 < 18446744073709551616
+      locate-scaled i = let a = locate-below i in omega arith
+
+      pub packs : not b ≡ false → Packed (extentOf ts w)
+      packs i =
+          let a = listed-below k w n b z h i in
+          rw (← getD-take n ts w noExtent a) (placed-packed s _ (accepted-places s x ts g rules n e) w (omega (arith, count k b h)))
+
+      pub locate-found : (r : ℕ) → not b ≡ false → r ≡ packedExtent (extentOf ts w) → r ≡ coded (locateAnswer s k)
+      unfolding coded
+      locate-found r i q =
+          let a = listed-below k w n b z h i in
+          let same : extentOf (take n ts) (k - 1) ≡ extentOf ts w = rw (← z) (getD-take n ts w noExtent a) in
+          q ∙ sym (ap coded (here k b h ∙ ap (λ (c : Bool). cond c (answer (packedExtent (extentOf (take n ts) (k - 1)))) (refused 9 0)) (not-false b i)) ∙ ap packedExtent same)
+
+pub ruleset answers = (needs, refusal-fits, read-refused, cyclic-refused, locate-refused, rules-few, tests-few, tests-scaled, sizes-fit, rules-fields, count-few, read-accepted, cyclic-yes, cyclic-no, locate-none, locate-below, locate-scaled, packs, locate-found)

@@ -3,27 +3,24 @@
 use file_format::Extent;
 use file_format::Scan;
 ghost use mathlib.Core.Path.{_≡_};
-ghost use Prim.Native.Nat.{_+_, _*_};
 ghost use Rattle.model.specs.Answer.{coded};
-ghost use Rattle.file_calls.specs.File.{readAnswer, locateAnswer, cyclicAnswer, Packed};
+ghost use Rattle.file_calls.specs.File.{readAnswer, packedExtent, locateAnswer, cyclicAnswer, Packed};
 
 // How many rules, and 256 times how many tests, a file holds.
 pub fn read_counts(file: &[u8]) -> u64
     ensures { λ r. ⌜ r ≡ coded (readAnswer (now (file .entry))) ⌝ }
 {
-    match file_reader::read(file, 0) {
-        Scan::Accepted {
-            rules,
-            tests,
-            found: _,
-        } => rules as u64 + 256 * (tests as u64),
-        Scan::Refused { number, place } => model::refuse(number as u64, place as u64),
+    let read = file_reader::read(file);
+    let scan = read.scan;
+    match scan {
+        Scan::Accepted { rules, tests } => rules as u64 + 256 * (tests as u64),
+        Scan::Refused(why) => model::code_of(why),
     }
 }
 
 fn pack(e: Extent) -> u64
     requires { ⌜ Packed e ⌝ }
-    ensures { λ r. ⌜ r ≡ e .at + 65536 * e .initial + 16777216 * e .main + 4294967296 * e .checks ⌝ }
+    ensures { λ r. ⌜ r ≡ packedExtent e ⌝ }
 {
     let at = e.at as u64;
     let initial = e.initial as u64;
@@ -37,18 +34,17 @@ fn pack(e: Extent) -> u64
 pub fn locate_test(file: &[u8], test: u64) -> u64
     ensures { λ r. ⌜ r ≡ coded (locateAnswer (now (file .entry)) test) ⌝ }
 {
-    match file_reader::read(file, file_reader::from_zero(test)) {
-        Scan::Accepted {
-            rules: _,
-            tests,
-            found,
-        } => {
+    let read = file_reader::read(file);
+    let places = read.tests;
+    let scan = read.scan;
+    match scan {
+        Scan::Accepted { rules: _, tests } => {
             if !file_reader::has_test(tests, test) {
                 return model::refuse(9, 0);
             }
-            pack(found)
+            pack(places[file_reader::from_zero(test)])
         }
-        Scan::Refused { number, place } => model::refuse(number as u64, place as u64),
+        Scan::Refused(why) => model::code_of(why),
     }
 }
 
@@ -56,17 +52,15 @@ pub fn locate_test(file: &[u8], test: u64) -> u64
 pub fn cyclic_rules(file: &[u8]) -> u64
     ensures { λ r. ⌜ r ≡ coded (cyclicAnswer (now (file .entry))) ⌝ }
 {
-    match file_reader::read(file, 0) {
-        Scan::Accepted {
-            rules,
-            tests: _,
-            found: _,
-        } => {
+    let read = file_reader::read(file);
+    let scan = read.scan;
+    match scan {
+        Scan::Accepted { rules, tests: _ } => {
             if rule_cycles::is_cyclic(file_loading::file_rules(file, rules)) {
                 return 1;
             }
             0
         }
-        Scan::Refused { number, place } => model::refuse(number as u64, place as u64),
+        Scan::Refused(why) => model::code_of(why),
     }
 }

@@ -17,7 +17,7 @@ use Rattle.model.specs.Answer.{answer, refused}
 use Rattle.model.specs.Test.{test, File, file}
 use Rattle.file_format.specs.declared.Counts.{Counts}
 use Rattle.file_format.specs.Bytes.{byte, Small, half}
-use Rattle.file_format.specs.File.{isTag, bodyLength, outOfOrder, faultOf, fieldEnd, bodyAt, ruleOf, writeOf, checkOf, Progress, progress, countsOf, grown, finished, readFrom, readOf, nothing}
+use Rattle.file_format.specs.File.{isTag, bodyLength, outOfOrder, faultOf, fieldEnd, bodyAt, ruleOf, writeOf, checkOf, Progress, progress, countsOf, grown, finished, readFrom, readOf, nothing, headLength, ruleLength, writeLength}
 use Rattle.file_reader.specs.Limits.{Within}
 use Rattle.file_format.specs.Encode.{fieldBytes, ruleFields, writeFields, checkFieldBytes, checkFields, testBytes, testsBytes, fileBytes, FileFits}
 use Rattle.file_reader.proofs.LimitLaws.{Clean, clean, by-tag, within-counted}
@@ -31,10 +31,10 @@ use Rattle.file_encoding.proofs.PartLaws.{Bounded, write-forth, rule-fo
 
 -- ---- one element more
 
-rules-last : (rs : List Rule) (b : List ℕ) → length b ≡ 3 → ruleFields (rs ++ (ruleOf b ∷ [])) ≡ ruleFields rs ++ fieldBytes 3 b
+rules-last : (rs : List Rule) (b : List ℕ) → length b ≡ ruleLength → ruleFields (rs ++ (ruleOf b ∷ [])) ≡ ruleFields rs ++ fieldBytes 3 b
 rules-last rs b e = rw (run-last rule-run rs (ruleOf b), rule-forth b e)
 
-writes-last : (tag : ℕ) (ws : List Write) (b : List ℕ) → Bounded b → length b ≡ 10 → writeFields tag (ws ++ (writeOf b ∷ [])) ≡ writeFields tag ws ++ fieldBytes tag b
+writes-last : (tag : ℕ) (ws : List Write) (b : List ℕ) → Bounded b → length b ≡ writeLength → writeFields tag (ws ++ (writeOf b ∷ [])) ≡ writeFields tag ws ++ fieldBytes tag b
 writes-last tag ws b h e = rw (run-last (write-run tag) ws (writeOf b), write-forth b h e)
 
 -- ---- the bytes of what has been read
@@ -107,7 +107,7 @@ module _ (s : List ℕ) (small : Bounded s) (at : ℕ) (c : Counts) (k : Clean s
   size-of-body : length (bodyAt s at) ≡ bodyLength (byte s at)
   size-of-body = length-take-le _ _ (rw length-drop (k .room))
 
-  head-at : take 3 (drop at s) ≡ byte s at ∷ half s (at + 1) / 256 ∷ half s (at + 1) % 256 ∷ []
+  head-at : take headLength (drop at s) ≡ byte s at ∷ half s (at + 1) / 256 ∷ half s (at + 1) % 256 ∷ []
   unfolding half
   head-at =
       let a = small (at + 1) in
@@ -120,7 +120,7 @@ module _ (s : List ℕ) (small : Bounded s) (at : ℕ) (c : Counts) (k : Clean s
   field-at : take (fieldEnd s at) s ≡ take at s ++ fieldBytes (byte s at) (bodyAt s at)
   unfolding fieldBytes
   field-at =
-      rw (take-add (at + 3) (bodyLength (byte s at)) s, take-add at 3 s, head-at, size-of-body, k .size, append-assoc)
+      rw (take-add (at + headLength) (bodyLength (byte s at)) s, take-add at headLength s, head-at, size-of-body, k .size, append-assoc)
 
 -- ---- reading
 
@@ -149,7 +149,7 @@ written-start s =
 module _ (s : List ℕ) (small : Bounded s) where
   written-on : (at : ℕ) (p : Progress) → Written s at p → Clean s at (countsOf p) → Written s (fieldEnd s at) (grown (byte s at) (bodyAt s at) p)
   written-on at p w k =
-      let b = bounded-part (bodyLength (byte s at)) (at + 3) s small in
+      let b = bounded-part (bodyLength (byte s at)) (at + headLength) s small in
       record {
         within = rw (← counts-grown (bodyAt s at) p (byte s at) (k .tag)) (within-counted (countsOf p) (w .within) (byte s at) (k .tag) (k .limit));
         fits = fitting-on p (w .fits) (bodyAt s at) b (byte s at) (k .tag) (k .body);

@@ -9,6 +9,7 @@ use lib.ListN.{take, drop}
 use lib.Seq.{getD-drop}
 use lib.Dec.{ltb}
 use borrow.Author.Tests.{ltb-false}
+use Rattle.model.specs.Limits.{words}
 use Rattle.model.specs.declared.Rule.{Rule}
 use Rattle.model.specs.declared.Check.{Check}
 use Rattle.model.specs.Test.{Test, test}
@@ -37,7 +38,7 @@ bounded-part n m s h = front n (drop m s) (λ i. rw getD-drop (h (m + i)))
 -- ---- one body
 
 module _ (b : List ℕ) (h : Bounded b) where
-  word-fits : (i : ℕ) → word b i < 4294967296
+  word-fits : (i : ℕ) → word b i < words
   unfolding word half
   word-fits i = omega (arith, h i, h (i + 1), h (i + 2), h (i + 2 + 1))
 

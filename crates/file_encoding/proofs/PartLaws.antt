@@ -7,11 +7,12 @@ use lib.ListN.{length}
 use lib.Seq.{ext-getD}
 use Rattle.relation.specs.Lists.{tabulate}
 use Rattle.relation.proofs.ListLaws.{length-tabulate, getD-tabulate}
+use Rattle.model.specs.Limits.{words}
 use Rattle.model.specs.declared.Write.{Write}
 use Rattle.model.specs.declared.Rule.{Rule}
 use Rattle.model.specs.declared.Check.the-variants.{Pair}
 use Rattle.file_format.specs.Bytes.{byte, half, word, bytes4, writeBytes, ruleBytes}
-use Rattle.file_format.specs.File.{writeOf, ruleOf, checkOf}
+use Rattle.file_format.specs.File.{writeOf, ruleOf, checkOf, ruleLength, writeLength, pairLength, addressLength}
 use Rattle.file_format.proofs.ByteLaws.{number}
 use Rattle.file_format.specs.Encode.{WriteFits, fieldBytes, checkFieldBytes}
 
@@ -36,7 +37,7 @@ pub rule-back : (r : Rule) → ruleOf (ruleBytes r) ≡ r
 unfolding ruleOf ruleBytes
 rule-back r = refl
 
-pub pair-back : (a v b w : ℕ) → v < 4294967296 → w < 4294967296 → checkOf 5 (a ∷ (bytes4 v ++ (b ∷ bytes4 w))) ≡ Pair a v b w
+pub pair-back : (a v b w : ℕ) → v < words → w < words → checkOf 5 (a ∷ (bytes4 v ++ (b ∷ bytes4 w))) ≡ Pair a v b w
 unfolding checkOf word half
 pair-back a v b w h k = rw (number v h, number w k)
 
@@ -54,22 +55,22 @@ module _ (b : List ℕ) (small : Bounded b) where
   unfolding word half
   word-digits i = digits _ _ _ _ (small i) (small (i + 1)) (small (i + 2)) (small (i + 2 + 1))
 
-  pub write-forth : length b ≡ 10 → writeBytes (writeOf b) ≡ b
+  pub write-forth : length b ≡ writeLength → writeBytes (writeOf b) ≡ b
   unfolding writeBytes writeOf tabulate
-  write-forth e = ap₂ (λ (x y : List ℕ). byte b 0 ∷ byte b 1 ∷ (x ++ y)) (word-digits 2) (word-digits 6) ∙ spelled b 10 e
+  write-forth e = ap₂ (λ (x y : List ℕ). byte b 0 ∷ byte b 1 ∷ (x ++ y)) (word-digits 2) (word-digits 6) ∙ spelled b writeLength e
 
-  pub pair-forth : length b ≡ 10 → checkFieldBytes (checkOf 5 b) ≡ fieldBytes 5 b
+  pub pair-forth : length b ≡ pairLength → checkFieldBytes (checkOf 5 b) ≡ fieldBytes 5 b
   unfolding checkFieldBytes checkOf tabulate
-  pair-forth e = ap₂ (λ (x y : List ℕ). fieldBytes 5 (byte b 0 ∷ (x ++ (byte b 5 ∷ y)))) (word-digits 1) (word-digits 6) ∙ ap (fieldBytes 5) (spelled b 10 e)
+  pair-forth e = ap₂ (λ (x y : List ℕ). fieldBytes 5 (byte b 0 ∷ (x ++ (byte b 5 ∷ y)))) (word-digits 1) (word-digits 6) ∙ ap (fieldBytes 5) (spelled b pairLength e)
 
-pub rule-forth : (b : List ℕ) → length b ≡ 3 → ruleBytes (ruleOf b) ≡ b
+pub rule-forth : (b : List ℕ) → length b ≡ ruleLength → ruleBytes (ruleOf b) ≡ b
 unfolding ruleBytes ruleOf tabulate
-rule-forth b e = spelled b 3 e
+rule-forth b e = spelled b ruleLength e
 
-pub range-forth : (b : List ℕ) → length b ≡ 1 → checkFieldBytes (checkOf 4 b) ≡ fieldBytes 4 b
+pub range-forth : (b : List ℕ) → length b ≡ addressLength → checkFieldBytes (checkOf 4 b) ≡ fieldBytes 4 b
 unfolding checkFieldBytes checkOf tabulate
-range-forth b e = ap (fieldBytes 4) (spelled b 1 e)
+range-forth b e = ap (fieldBytes 4) (spelled b addressLength e)
 
-pub pointer-forth : (b : List ℕ) → length b ≡ 1 → checkFieldBytes (checkOf 6 b) ≡ fieldBytes 6 b
+pub pointer-forth : (b : List ℕ) → length b ≡ addressLength → checkFieldBytes (checkOf 6 b) ≡ fieldBytes 6 b
 unfolding checkFieldBytes checkOf tabulate
-pointer-forth b e = ap (fieldBytes 6) (spelled b 1 e)
+pointer-forth b e = ap (fieldBytes 6) (spelled b addressLength e)

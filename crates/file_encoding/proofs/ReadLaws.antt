@@ -9,6 +9,7 @@ use lib.ListN.{length, take, drop, length-append, length-drop}
 use lib.Seq.{getD-drop, drop-drop, take-at, drop-at}
 use lib.Dec.{eqb, leb}
 use borrow.Author.Tests.{eq-eqb, lt-ltb, le-ltb, lt-leb}
+use Rattle.model.specs.Limits.{mostRules, mostTests, mostInitial, mostMain, mostChecks}
 use Rattle.model.specs.declared.Write.{Write}
 use Rattle.model.specs.declared.Rule.{Rule}
 use Rattle.model.specs.declared.Check.{Check}
@@ -18,7 +19,7 @@ use Rattle.model.specs.Rules.{Known}
 use Rattle.model.specs.Test.{Test, test, File, file}
 use Rattle.file_format.specs.declared.Counts.{Counts}
 use Rattle.file_format.specs.Bytes.{byte, half, bytes4, writeBytes, ruleBytes}
-use Rattle.file_format.specs.File.{isTag, isCheck, bodyLength, outOfOrder, overTest, overLimit, ruleFault, bodyFault, faultOf, checkOf, Progress, progress, countsOf, grown, finished, readFrom, readOf, nothing}
+use Rattle.file_format.specs.File.{isTag, isCheck, bodyLength, outOfOrder, overTest, overLimit, ruleFault, bodyFault, faultOf, checkOf, Progress, progress, countsOf, grown, finished, readFrom, readOf, nothing, headLength}
 use Rattle.file_reader.specs.Limits.{TestLimits, FileLimits}
 use Rattle.file_format.specs.Encode.{fieldBytes, ruleFields, checkFieldBytes, testBytes, testsBytes, fileBytes, RuleFits, WriteFits, CheckFits, TestFits, FileFits}
 use Rattle.file_reader.proofs.LimitLaws.{Clean}
@@ -53,17 +54,17 @@ module _ (tag : ℕ) (body rest s : List ℕ) (at : ℕ) (e : drop at s ≡ fiel
   unfolding half fieldBytes
   half-at = let z : at + 1 + 1 ≡ at + 2 = omega arith in rw (z, byte-at 1, byte-at 2) (div-add-mod' (length body) 256)
 
-  all-at : length s - at ≡ 3 + (length body + length rest)
+  all-at : length s - at ≡ headLength + (length body + length rest)
   unfolding fieldBytes
   all-at = let l = rw (length-drop, length-append) at (ap length e) in omega arith
 
-  body-at : (n : ℕ) → length body ≡ n → take n (drop (at + 3) s) ≡ body
+  body-at : (n : ℕ) → length body ≡ n → take n (drop (at + headLength) s) ≡ body
   unfolding fieldBytes
-  body-at n z = rw (← drop-drop 3 at s, e) (take-at body rest n z)
+  body-at n z = rw (← drop-drop headLength at s, e) (take-at body rest n z)
 
-  behind : (n : ℕ) → length body ≡ n → drop (at + 3 + n) s ≡ rest
+  behind : (n : ℕ) → length body ≡ n → drop (at + headLength + n) s ≡ rest
   unfolding fieldBytes
-  behind n z = rw (← drop-drop n (at + 3) s, ← drop-drop 3 at s, e) (drop-at body rest n z)
+  behind n z = rw (← drop-drop n (at + headLength) s, ← drop-drop headLength at s, e) (drop-at body rest n z)
 
   clean-at : (c : Counts) → Fine tag body c → Clean s at c
   clean-at c k =
@@ -93,7 +94,7 @@ gives-field tag body rest p f k g (suc fuel) s at e l =
     let a = all-at tag body rest s at e in
     let n = length-append (fieldBytes tag body) rest in
     rw (lt-ltb at (length s) (omega arith), fault-none s at (countsOf p) (clean-at tag body rest s at e (countsOf p) k), tag-at tag body rest s at e, body-at tag body rest s at e (bodyLength tag) (k .size))
-    (g fuel s (at + 3 + bodyLength tag) (behind tag body rest s at e (bodyLength tag) (k .size)) (omega arith))
+    (g fuel s (at + headLength + bodyLength tag) (behind tag body rest s at e (bodyLength tag) (k .size)) (omega arith))
 
 -- ---- ends and rules
 
@@ -107,17 +108,17 @@ gives-done rules tests (suc fuel) s at e l =
     let n = rw length-drop at (ap length e) in
     rw (le-ltb at (length s) (omega arith))
 
-gives-rule : (f : File) (r : Rule) (done : List Rule) (rest : List ℕ) → RuleFits r → length done < 32
+gives-rule : (f : File) (r : Rule) (done : List Rule) (rest : List ℕ) → RuleFits r → length done < mostRules
     → Gives rest (progress (done ++ (r ∷ [])) [] false none) f → Gives (ruleField r ++ rest) (progress done [] false none) f
 unfolding grown countsOf isTag bodyLength outOfOrder overLimit bodyFault ruleFault ruleBytes
 gives-rule f r done rest h l g =
     gives-field 3 (ruleBytes r) rest (progress done [] false none) f
-    (record { known = refl; size = refl; order = refl; limit = lt-leb 32 (length done) l; fault = rw (le-ltb 2 (r .predicate) (h .predicate)) })
+    (record { known = refl; size = refl; order = refl; limit = lt-leb mostRules (length done) l; fault = rw (le-ltb 2 (r .predicate) (h .predicate)) })
     (rw (rule-back r) g)
 
 -- ---- tests
 
-module _ (f : File) (rules : List Rule) (tests : List Test) (room : length tests < 16) where
+module _ (f : File) (rules : List Rule) (tests : List Test) (room : length tests < mostTests) where
   -- with this much of a test read, whether or not it has begun
   abbrev During : List ℕ → Test → Type 0
   During rest t = (b : Bool) → Gives rest (progress rules tests b t) f
@@ -129,37 +130,37 @@ module _ (f : File) (rules : List Rule) (tests : List Test) (room : length tests
   unfolding countsOf overLimit bodyFault
   fine tag body t b k n z o l = record { known = k; size = z; order = o; limit = rw n (go b _ l); fault = rw n }
     where
-      go : (b over : Bool) → over ≡ false → cond b over (leb 16 (length tests)) ≡ false
+      go : (b over : Bool) → over ≡ false → cond b over (leb mostTests (length tests)) ≡ false
       go true over e = e
-      go false over e = lt-leb 16 (length tests) room
+      go false over e = lt-leb mostTests (length tests) room
 
-  gives-initial : (w : Write) (done : List Write) (rest : List ℕ) → WriteFits w → length done < 64
+  gives-initial : (w : Write) (done : List Write) (rest : List ℕ) → WriteFits w → length done < mostInitial
       → During rest (test (done ++ (w ∷ [])) [] []) → During (writeField 1 w ++ rest) (test done [] [])
   unfolding grown countsOf isTag bodyLength outOfOrder overTest writeBytes
   gives-initial w done rest h l g b =
       gives-field 1 (writeBytes w) rest (progress rules tests b (test done [] [])) f
-      (fine 1 (writeBytes w) (test done [] []) b refl refl refl refl (lt-leb 64 (length done) l)) (rw (write-back w h) (g true))
+      (fine 1 (writeBytes w) (test done [] []) b refl refl refl refl (lt-leb mostInitial (length done) l)) (rw (write-back w h) (g true))
 
-  gives-main : (initial : List Write) (w : Write) (done : List Write) (rest : List ℕ) → WriteFits w → length done < 12
+  gives-main : (initial : List Write) (w : Write) (done : List Write) (rest : List ℕ) → WriteFits w → length done < mostMain
       → During rest (test initial (done ++ (w ∷ [])) []) → During (writeField 2 w ++ rest) (test initial done [])
   unfolding grown countsOf isTag bodyLength outOfOrder overTest writeBytes
   gives-main initial w done rest h l g b =
       gives-field 2 (writeBytes w) rest (progress rules tests b (test initial done [])) f
-      (fine 2 (writeBytes w) (test initial done []) b refl refl refl refl (lt-leb 12 (length done) l)) (rw (write-back w h) (g true))
+      (fine 2 (writeBytes w) (test initial done []) b refl refl refl refl (lt-leb mostMain (length done) l)) (rw (write-back w h) (g true))
 
-  gives-check : (initial main : List Write) (c : Check) (done : List Check) (rest : List ℕ) → CheckFits c → length done < 16
+  gives-check : (initial main : List Write) (c : Check) (done : List Check) (rest : List ℕ) → CheckFits c → length done < mostChecks
       → During rest (test initial main (done ++ (c ∷ []))) → During (checkFieldBytes c ++ rest) (test initial main done)
   unfolding grown countsOf isTag isCheck bodyLength outOfOrder overTest checkFieldBytes checkOf CheckFits
   gives-check initial main (Range a) done rest h l g b =
       gives-field 4 (a ∷ []) rest (progress rules tests b (test initial main done)) f
-      (fine 4 (a ∷ []) (test initial main done) b refl refl refl refl (lt-leb 16 (length done) l)) (g true)
+      (fine 4 (a ∷ []) (test initial main done) b refl refl refl refl (lt-leb mostChecks (length done) l)) (g true)
   gives-check initial main (Pair a v d w) done rest h l g b =
       let body = a ∷ (bytes4 v ++ (d ∷ bytes4 w)) in
       gives-field 5 body rest (progress rules tests b (test initial main done)) f
-      (fine 5 body (test initial main done) b refl refl refl refl (lt-leb 16 (length done) l)) (rw (pair-back a v d w (h .1) (h .3)) (g true))
+      (fine 5 body (test initial main done) b refl refl refl refl (lt-leb mostChecks (length done) l)) (rw (pair-back a v d w (h .1) (h .3)) (g true))
   gives-check initial main (Pointer a) done rest h l g b =
       gives-field 6 (a ∷ []) rest (progress rules tests b (test initial main done)) f
-      (fine 6 (a ∷ []) (test initial main done) b refl refl refl refl (lt-leb 16 (length done) l)) (g true)
+      (fine 6 (a ∷ []) (test initial main done) b refl refl refl refl (lt-leb mostChecks (length done) l)) (g true)
 
   gives-end : (t : Test) (rest : List ℕ) → Gives rest (progress rules (tests ++ (t ∷ [])) false none) f → During (fieldBytes 7 [] ++ rest) t
   unfolding grown countsOf isTag isCheck bodyLength outOfOrder overTest
@@ -170,9 +171,9 @@ module _ (f : File) (rules : List Rule) (tests : List Test) (room : length tests
   unfolding testBytes
   gives-test t rest l k g =
       rw (append-assoc, append-assoc, append-assoc)
-      (run-on (write-run 1) WriteFits 64 (λ r done. During r (test done [] [])) gives-initial (t .initial) [] _ (k .initial) (omega arith)
-      (run-on (write-run 2) WriteFits 12 (λ r done. During r (test (t .initial) done [])) (gives-main (t .initial)) (t .main) [] _ (k .main) (omega arith)
-      (run-on check-run CheckFits 16 (λ r done. During r (test (t .initial) (t .main) done)) (gives-check (t .initial) (t .main)) (t .checks) [] _ (k .checks) (omega arith)
+      (run-on (write-run 1) WriteFits mostInitial (λ r done. During r (test done [] [])) gives-initial (t .initial) [] _ (k .initial) (omega arith)
+      (run-on (write-run 2) WriteFits mostMain (λ r done. During r (test (t .initial) done [])) (gives-main (t .initial)) (t .main) [] _ (k .main) (omega arith)
+      (run-on check-run CheckFits mostChecks (λ r done. During r (test (t .initial) (t .main) done)) (gives-check (t .initial) (t .main)) (t .checks) [] _ (k .checks) (omega arith)
       (gives-end t rest g))))
 
 -- ---- files
@@ -181,9 +182,9 @@ module _ (f : File) (rules : List Rule) (tests : List Test) (room : length tests
 pub read-bytes : (f : File) → FileLimits f → FileFits f → readOf (fileBytes f) ≡ answer f
 unfolding readOf nothing fileBytes
 read-bytes f l k =
-    run-on rule-run RuleFits 32 (λ rest done. Gives rest (progress done [] false none) f) (gives-rule f) (f .rules) [] _ (k .rules) (omega arith)
+    run-on rule-run RuleFits mostRules (λ rest done. Gives rest (progress done [] false none) f) (gives-rule f) (f .rules) [] _ (k .rules) (omega arith)
     (rw append-nil at
-    (run-on test-run (λ t. TestLimits t × TestFits t) 16 (λ rest done. Gives rest (progress (f .rules) done false none) f)
+    (run-on test-run (λ t. TestLimits t × TestFits t) mostTests (λ rest done. Gives rest (progress (f .rules) done false none) f)
     (λ t done rest h room g. gives-test f (f .rules) done room t rest (h .0) (h .1) g false)
     (f .tests) [] [] (λ t m. (l .each t m, k .tests t m)) (omega arith) (gives-done (f .rules) (f .tests))))
     (suc (length (fileBytes f))) (fileBytes f) 0 refl (omega arith)

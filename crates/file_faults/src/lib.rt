@@ -3,7 +3,7 @@ use file_format::Counts;
 ghost use mathlib.Core.Path.{_≡_};
 ghost use Prim.Native.Nat.{_<_};
 ghost use lib.ListN.{length};
-ghost use Rattle.file_format.specs.File.{isTag, isCheck, bodyLength, outOfOrder, overLimit, overTest, ruleFault, bodyFault, faultOf};
+ghost use Rattle.file_format.specs.File.{ruleLength, isTag, isCheck, bodyLength, outOfOrder, overLimit, overTest, ruleFault, bodyFault, faultOf};
 
 fn is_tag(tag: u8) -> bool
     ensures { λ r. ⌜ r ≡ isTag tag ⌝ }
@@ -48,13 +48,13 @@ fn over_test(tag: u8, c: Counts) -> bool
     ensures { λ r. ⌜ r ≡ overTest tag c ⌝ }
 {
     if tag == 1 {
-        return 64 <= c.initial;
+        return model::MOST_INITIAL <= c.initial;
     }
     if tag == 2 {
-        return 12 <= c.main;
+        return model::MOST_MAIN <= c.main;
     }
     if is_check(tag) {
-        return 16 <= c.checks;
+        return model::MOST_CHECKS <= c.checks;
     }
     false
 }
@@ -63,17 +63,17 @@ fn over_limit(tag: u8, c: Counts) -> bool
     ensures { λ r. ⌜ r ≡ overLimit tag c ⌝ }
 {
     if tag == 3 {
-        return 32 <= c.rules;
+        return model::MOST_RULES <= c.rules;
     }
     if c.begun {
         return over_test(tag, c);
     }
-    16 <= c.tests
+    model::MOST_TESTS <= c.tests
 }
 
 // The reader of a rule's body: the refusal of an unknown predicate.
 fn rule_fault(body: &[u8]) -> u8
-    requires { ⌜ length (now body) ≡ 3 ⌝ }
+    requires { ⌜ length (now body) ≡ ruleLength ⌝ }
     ensures { λ r. ⌜ r ≡ ruleFault (now (body .entry)) ⌝ }
 {
     if 2 < body[1] {
@@ -98,7 +98,7 @@ pub fn fault(s: &[u8], at: usize, c: Counts) -> u8
     ensures { λ r. ⌜ r ≡ faultOf (now (s .entry)) at c ⌝ }
 {
     let left = s.len() - at;
-    if left < 3 {
+    if left < file_format::HEAD_LENGTH {
         return 1;
     }
     let tag = s[at];
@@ -115,7 +115,7 @@ pub fn fault(s: &[u8], at: usize, c: Counts) -> u8
     if file_format::half_at(s, at + 1) != n {
         return 3;
     }
-    let b = at + 3;
+    let b = at + file_format::HEAD_LENGTH;
     if s.len() - b < n {
         return 1;
     }

@@ -1,54 +1,76 @@
 -- Fields by their places: a reader that is handed the middle part of a file reads the field there.
 use mathlib.Core.Path.{_≡_, refl, ap, _∙_}
 use mathlib.Core.Bool.{Bool, true, false, _&&_, false≢true}
-use mathlib.Core.List.{List, _∷_}
-use Prim.Native.Nat.{ℕ, suc, _+_, _-_, _*_, _<_}
-use native.Mathlib.Nat.{add-zero}
+use mathlib.Core.List.{List}
+use Prim.Native.Nat.{ℕ, _+_, _-_, _≤_, _<_}
 use native.Mathlib.Omega.{arith}
-use lib.ListN.{length, take, drop}
+use lib.ListN.{length, take, drop, length-drop}
+use lib.Seq.{length-take-le}
 use lib.Dec.{leb}
 use borrow.Author.Needs.{needs}
-use borrow.Author.Tests.{leb-true}
-use Rattle.relation.proofs.ListLaws.{tabulate-cons, tabulate-ext}
+use borrow.Author.Tests.{leb-true, ne-eqb}
 use Rattle.model.specs.declared.Rule.{Rule}
 use Rattle.model.specs.declared.Write.{Write}
 use Rattle.model.specs.declared.Check.{Check}
 use Rattle.model.specs.declared.Check.the-variants.{Range, Pointer}
 use Rattle.file_format.specs.Bytes.{byte}
-use Rattle.file_format.specs.File.{isCheck, bodyLength, ruleOf, writeOf, checkOf}
-use Rattle.file_format.specs.Scan.{ruleField, writeField, checkField, writesAt}
-
-module _ (s : List ℕ) (at : ℕ) where
-  pub rule-part : (r : Rule) → r ≡ ruleOf (take (at + 6 - (at + 3)) (drop (at + 3) s)) → r ≡ ruleField s at
-  unfolding ruleField
-  rule-part r e =
-      let z : at + 6 - (at + 3) ≡ 3 = omega arith in
-      rw z at e
-
-  pub write-part : (r : Write) → r ≡ writeOf (take (at + 13 - (at + 3)) (drop (at + 3) s)) → r ≡ writeField s at
-  unfolding writeField
-  write-part r e =
-      let z : at + 13 - (at + 3) ≡ 10 = omega arith in
-      rw z at e
-
-  pub check-part : (r : Check) (n : ℕ) → n ≡ bodyLength (byte s at) → r ≡ checkOf (byte s at) (take (at + 3 + n - (at + 3)) (drop (at + 3) s)) → r ≡ checkField s at
-  unfolding checkField
-  check-part r n q e =
-      let z : at + 3 + n - (at + 3) ≡ bodyLength (byte s at) = omega arith in
-      rw z at e
+use Rattle.file_format.specs.File.{isRule, isWrite, isCheck, headLength, ruleLength, writeLength, bodyLength, bodyAt, fieldEnd, ruleOf, writeOf, checkOf, pairLength}
+use Rattle.file_format.specs.Scan.{ruleField, writeField, checkField}
 
 and-both : (a b : Bool) → a && b ≡ true → (a ≡ true) × (b ≡ true)
 and-both true b e = (refl, e)
 and-both false b e = absurd (false≢true e)
+
+module _ (s : List ℕ) (at n : ℕ) (q : n ≡ bodyLength (byte s at)) where
+  -- the part that is lent is the body
+  lent : take (at + headLength + n - (at + headLength)) (drop (at + headLength) s) ≡ bodyAt s at
+  lent = let z : at + headLength + n - (at + headLength) ≡ bodyLength (byte s at) = omega arith in rw z
+
+  pub rule-part : (r : Rule) → r ≡ ruleOf (take (at + headLength + n - (at + headLength)) (drop (at + headLength) s)) → r ≡ ruleField s at
+  unfolding ruleField
+  rule-part r e = e ∙ ap ruleOf lent
+
+  pub write-part : (r : Write) → r ≡ writeOf (take (at + headLength + n - (at + headLength)) (drop (at + headLength) s)) → r ≡ writeField s at
+  unfolding writeField
+  write-part r e = e ∙ ap writeOf lent
+
+  pub check-part : (r : Check) → r ≡ checkOf (byte s at) (take (at + headLength + n - (at + headLength)) (drop (at + headLength) s)) → r ≡ checkField s at
+  unfolding checkField
+  check-part r e = e ∙ ap (checkOf (byte s at)) lent
+
+  module _ (fits : fieldEnd s at ≤ length s) where
+    -- it is as long as the body
+    lent-long : length (take (at + headLength + n - (at + headLength)) (drop (at + headLength) s)) ≡ bodyLength (byte s at)
+    lent-long =
+        let d = length-drop (at + headLength) s in
+        length-take-le (at + headLength + n - (at + headLength)) (drop (at + headLength) s) (omega (arith, d)) ∙ omega arith
+
+    pub rule-long : isRule (byte s at) ≡ true → length (take (at + headLength + n - (at + headLength)) (drop (at + headLength) s)) ≡ ruleLength
+    unfolding isRule bodyLength
+    rule-long h = lent-long ∙ rw h
+
+    pub write-long : isWrite (byte s at) ≡ true → length (take (at + headLength + n - (at + headLength)) (drop (at + headLength) s)) ≡ writeLength
+    unfolding isWrite bodyLength
+    write-long h =
+        let w = and-both (leb 1 (byte s at)) (leb (byte s at) 2) h in
+        let l = leb-true 1 (byte s at) (w .0) in let u = leb-true (byte s at) 2 (w .1) in
+        lent-long
+        ∙ rw (
+          ne-eqb (byte s at) 3 (λ (e : byte s at ≡ 3). absurd (omega arith)),
+          ne-eqb (byte s at) 4 (λ (e : byte s at ≡ 4). absurd (omega arith)),
+          ne-eqb (byte s at) 5 (λ (e : byte s at ≡ 5). absurd (omega arith)),
+          ne-eqb (byte s at) 6 (λ (e : byte s at ≡ 6). absurd (omega arith)),
+          ne-eqb (byte s at) 7 (λ (e : byte s at ≡ 7). absurd (omega arith)),
+        )
 
 module _ (tag : ℕ) (b : List ℕ) where
   pub one-byte-range : tag ≡ 4 → length b ≡ bodyLength tag → 0 < length b
   unfolding bodyLength
   one-byte-range e h = let q : length b ≡ 1 = h ∙ rw e in omega arith
 
-  pub ten-bytes : tag ≡ 5 → length b ≡ bodyLength tag → length b ≡ 10
+  pub pair-bytes : tag ≡ 5 → length b ≡ bodyLength tag → length b ≡ pairLength
   unfolding bodyLength
-  ten-bytes e h = h ∙ rw e
+  pair-bytes e h = h ∙ rw e
 
   is-pointer : isCheck tag ≡ true → (tag ≡ 4 → ⊥) → (tag ≡ 5 → ⊥) → tag ≡ 6
   unfolding isCheck
@@ -72,12 +94,4 @@ module _ (tag : ℕ) (b : List ℕ) where
   unfolding checkOf
   pointer-read h p q = rw (is-pointer h p q)
 
-pub ruleset fields = (needs, rule-part, write-part, check-part, one-byte-range, ten-bytes, one-byte-pointer, range-read, pair-read, pointer-read)
-
--- ---- writes from the front
-
-pub writes-cons : (s : List ℕ) (at n : ℕ) → writesAt s at (suc n) ≡ writeField s at ∷ writesAt s (at + 13) n
-unfolding writesAt
-writes-cons s at n =
-    tabulate-cons (λ i. writeField s (at + 13 * i)) n
-    ∙ rw (add-zero at, tabulate-ext (λ i. writeField s (at + 13 * suc i)) (λ i. writeField s (at + 13 + 13 * i)) n (λ i h. ap (writeField s) (omega arith)))
+pub ruleset fields = (needs, rule-part, write-part, check-part, rule-long, write-long, one-byte-range, pair-bytes, one-byte-pointer, range-read, pair-read, pointer-read)

@@ -4,14 +4,15 @@ use model::Rule;
 use model::Write;
 ghost use mathlib.Core.Path.{_≡_};
 ghost use mathlib.Core.Bool.{true};
-ghost use Prim.Native.Nat.{_+_, _<_, _≤_};
-ghost use lib.ListN.{length, getD};
+ghost use Prim.Native.Nat.{_≤_};
+ghost use lib.ListN.{length};
+ghost use Rattle.file_format.specs.Bytes.{byte};
 ghost use Rattle.file_format.specs.Scan.{ruleField, writeField, checkField};
-ghost use Rattle.file_format.specs.File.{isCheck, bodyLength, ruleOf, writeOf, checkOf, fieldEnd};
+ghost use Rattle.file_format.specs.File.{isRule, isWrite, isCheck, ruleLength, writeLength, bodyLength, ruleOf, writeOf, checkOf, fieldEnd, pairLength};
 
 // The readers of a rule's, a write's and a check's body.
-fn read_rule(body: &[u8]) -> Rule
-    requires { ⌜ length (now body) ≡ 3 ⌝ }
+pub fn read_rule(body: &[u8]) -> Rule
+    requires { ⌜ length (now body) ≡ ruleLength ⌝ }
     ensures { λ r. ⌜ r ≡ ruleOf (now (body .entry)) ⌝ }
 {
     Rule {
@@ -21,8 +22,8 @@ fn read_rule(body: &[u8]) -> Rule
     }
 }
 
-fn read_write(body: &[u8]) -> Write
-    requires { ⌜ length (now body) ≡ 10 ⌝ }
+pub fn read_write(body: &[u8]) -> Write
+    requires { ⌜ length (now body) ≡ writeLength ⌝ }
     ensures { λ r. ⌜ r ≡ writeOf (now (body .entry)) ⌝ }
 {
     Write {
@@ -34,7 +35,7 @@ fn read_write(body: &[u8]) -> Write
 }
 
 fn read_pair(body: &[u8]) -> Check
-    requires { ⌜ length (now body) ≡ 10 ⌝ }
+    requires { ⌜ length (now body) ≡ pairLength ⌝ }
     ensures { λ r. ⌜ r ≡ checkOf 5 (now (body .entry)) ⌝ }
 {
     Check::Pair {
@@ -58,31 +59,32 @@ fn read_check(tag: u8, body: &[u8]) -> Check
     Check::Pointer(body[0])
 }
 
-// The rule, the write and the check whose field stands at `at`.
+// The rule, the write and the check whose field stands at `at`: each reader gets the field's body, a
+// part of the file.
 pub fn rule_at(s: &[u8], at: usize) -> Rule
-    requires { ⌜ at + 6 ≤ length (now s) ⌝ }
+    requires { ⌜ (isRule (byte (now s) at) ≡ true) × (fieldEnd (now s) at ≤ length (now s)) ⌝ }
     ensures { λ r. ⌜ r ≡ ruleField (now (s .entry)) at ⌝ }
 {
-    let b = at + 3;
-    let e = at + 6;
+    let b = at + file_format::HEAD_LENGTH;
+    let e = b + file_format::body_length(s[at]);
     read_rule(&s[b..e])
 }
 
 pub fn write_at(s: &[u8], at: usize) -> Write
-    requires { ⌜ at + 13 ≤ length (now s) ⌝ }
+    requires { ⌜ (isWrite (byte (now s) at) ≡ true) × (fieldEnd (now s) at ≤ length (now s)) ⌝ }
     ensures { λ r. ⌜ r ≡ writeField (now (s .entry)) at ⌝ }
 {
-    let b = at + 3;
-    let e = at + 13;
+    let b = at + file_format::HEAD_LENGTH;
+    let e = b + file_format::body_length(s[at]);
     read_write(&s[b..e])
 }
 
 pub fn check_at(s: &[u8], at: usize) -> Check
-    requires { ⌜ (at < length (now s)) × ((fieldEnd (now s) at ≤ length (now s)) × (isCheck (getD (now s) at 0) ≡ true)) ⌝ }
+    requires { ⌜ (isCheck (byte (now s) at) ≡ true) × (fieldEnd (now s) at ≤ length (now s)) ⌝ }
     ensures { λ r. ⌜ r ≡ checkField (now (s .entry)) at ⌝ }
 {
     let tag = s[at];
-    let b = at + 3;
+    let b = at + file_format::HEAD_LENGTH;
     let e = b + file_format::body_length(tag);
     read_check(tag, &s[b..e])
 }

@@ -3,6 +3,7 @@ use Prim.Native.Nat.{ℕ, _+_, _*_, _/_, _%_, _<_}
 use mathlib.Core.List.{List, [], _∷_, _++_}
 use lib.ListN.{length, getD}
 use Rattle.relation.specs.Lists.{tabulate}
+use Rattle.model.specs.Limits.{diskBlocks}
 use Rattle.model.specs.declared.Write.{Write}
 use Rattle.model.specs.declared.Rule.{Rule}
 
@@ -30,7 +31,7 @@ blockIn disk a = word disk (4 * a)
 
 -- its 256 blocks
 unfoldable pub blocksOf : List ℕ → List ℕ
-blocksOf disk = tabulate (blockIn disk) 256
+blocksOf disk = tabulate (blockIn disk) diskBlocks
 
 -- tag 02's body: address 1, name 1, epoch 4, first 2, second 2
 unfoldable pub writeBytes : Write → List ℕ

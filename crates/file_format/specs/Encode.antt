@@ -2,6 +2,7 @@
 use Prim.Native.Nat.{ℕ, _/_, _%_, _<_, _≤_}
 use mathlib.Core.List.{List, [], _∷_, _++_, List·Memᴰ}
 use lib.ListN.{length}
+use Rattle.model.specs.Limits.{names, words, diskBlocks}
 use Rattle.model.specs.declared.Write.{Write}
 use Rattle.model.specs.declared.Rule.{Rule}
 use Rattle.model.specs.declared.Check.{Check}
@@ -46,20 +47,20 @@ fileBytes f = ruleFields (f .rules) ++ testsBytes (f .tests)
 -- ---- the widths of the parts
 
 pub record RuleFits (r : Rule) : Type 0 where
-  pub first : r .first < 256
+  pub first : r .first < names
   pub predicate : r .predicate ≤ 2
-  pub second : r .second < 256
+  pub second : r .second < names
 
 pub record WriteFits (w : Write) : Type 0 where
-  pub address : w .address < 256
-  pub name : w .name < 256
-  pub epoch : w .epoch < 4294967296
-  pub block : w .block < 4294967296
+  pub address : w .address < diskBlocks
+  pub name : w .name < names
+  pub epoch : w .epoch < words
+  pub block : w .block < words
 
 unfoldable pub CheckFits : Check → Type 0
-CheckFits (Range a) = a < 256
-CheckFits (Pair a v b w) = (a < 256) × (v < 4294967296) × (b < 256) × (w < 4294967296)
-CheckFits (Pointer a) = a < 256
+CheckFits (Range a) = a < diskBlocks
+CheckFits (Pair a v b w) = (a < diskBlocks) × (v < words) × (b < diskBlocks) × (w < words)
+CheckFits (Pointer a) = a < diskBlocks
 
 pub record TestFits (t : Test) : Type 0 where
   pub initial : (w : Write) → List·Memᴰ w (t .initial) → WriteFits w

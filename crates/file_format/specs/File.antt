@@ -1,5 +1,5 @@
 -- Reading a file: fields of a one-byte tag, a two-byte length and a body, all big-endian.
-use Prim.Native.Nat.{ℕ, zero, suc, _+_, _-_}
+use Prim.Native.Nat.{ℕ, zero, suc, _+_, _-_, _*_}
 use mathlib.Core.Bool.{Bool, true, false, cond, not, _&&_, _||_}
 use mathlib.Core.List.{List, [], _∷_, _++_}
 use lib.ListN.{length, take, drop}
@@ -9,6 +9,7 @@ use Rattle.model.specs.declared.Rule.{Rule}
 use Rattle.model.specs.declared.Check.{Check}
 use Rattle.model.specs.declared.Check.the-variants.{Range, Pair, Pointer}
 use Rattle.model.specs.Answer.{Outcome, answer, refused}
+use Rattle.model.specs.Limits.{mostRules, mostTests, mostInitial, mostMain, mostChecks}
 use Rattle.model.specs.Test.{Test, test, File, file}
 use Rattle.file_format.specs.declared.Counts.{Counts}
 use Rattle.file_format.specs.Bytes.{byte, half, word}
@@ -18,11 +19,46 @@ use Rattle.file_format.specs.Bytes.{byte, half, word}
 unfoldable pub isTag : ℕ → Bool
 isTag tag = leb 1 tag && leb tag 7
 
+unfoldable pub isWrite : ℕ → Bool
+isWrite tag = leb 1 tag && leb tag 2
+
+unfoldable pub isRule : ℕ → Bool
+isRule tag = eqb tag 3
+
 unfoldable pub isCheck : ℕ → Bool
 isCheck tag = leb 4 tag && leb tag 6
 
+-- the bytes of a field before its body, and those of a body: a rule's, a write's, a pair check's, and one address; no body is longer than a write's
+abbrev pub headLength : ℕ
+headLength = 3
+
+abbrev pub ruleLength : ℕ
+ruleLength = 3
+
+abbrev pub writeLength : ℕ
+writeLength = 10
+
+abbrev pub pairLength : ℕ
+pairLength = 10
+
+abbrev pub addressLength : ℕ
+addressLength = 1
+
+-- the bytes of a put's fields, which are two writes, and those of a range check and an end of test
+abbrev pub putLength : ℕ
+putLength = 2 * (headLength + writeLength)
+
+abbrev pub endLength : ℕ
+endLength = headLength + addressLength + headLength
+
 unfoldable pub bodyLength : ℕ → ℕ
-bodyLength tag = cond (eqb tag 3) 3 (cond (eqb tag 4) 1 (cond (eqb tag 6) 1 (cond (eqb tag 7) 0 10)))
+bodyLength tag =
+    cond (eqb tag 3) ruleLength
+    (cond (eqb tag 4) addressLength
+    (cond (eqb tag 5) pairLength
+    (cond (eqb tag 6) addressLength
+    (cond (eqb tag 7) 0
+    writeLength))))
 
 -- a write's body: address 1, name 1, epoch 4, first 2, second 2
 unfoldable pub writeOf : List ℕ → Write
@@ -69,17 +105,17 @@ outOfOrder tag c =
     (cond (eqb tag 2) (ltb 0 (c .checks))
     false))
 
--- 6, within a test: most 64 initial, 12 main, 16 checks
+-- 6, within a test: its initial writes, main writes and checks
 unfoldable pub overTest : ℕ → Counts → Bool
 overTest tag c =
-    cond (eqb tag 1) (leb 64 (c .initial))
-    (cond (eqb tag 2) (leb 12 (c .main))
-    (cond (isCheck tag) (leb 16 (c .checks))
+    cond (eqb tag 1) (leb mostInitial (c .initial))
+    (cond (eqb tag 2) (leb mostMain (c .main))
+    (cond (isCheck tag) (leb mostChecks (c .checks))
     false))
 
--- 6: most 32 rules and 16 tests; the 17th test is refused at its first field
+-- 6: rules and tests; one test too many is refused at its first field
 unfoldable pub overLimit : ℕ → Counts → Bool
-overLimit tag c = cond (eqb tag 3) (leb 32 (c .rules)) (cond (c .begun) (overTest tag c) (leb 16 (c .tests)))
+overLimit tag c = cond (eqb tag 3) (leb mostRules (c .rules)) (cond (c .begun) (overTest tag c) (leb mostTests (c .tests)))
 
 -- 5: a predicate above 2
 unfoldable pub ruleFault : List ℕ → ℕ
@@ -90,18 +126,18 @@ bodyFault tag b = cond (eqb tag 3) (ruleFault b) 0
 
 -- the body of the field at a place
 abbrev pub bodyAt : List ℕ → ℕ → List ℕ
-bodyAt s at = take (bodyLength (byte s at)) (drop (at + 3) s)
+bodyAt s at = take (bodyLength (byte s at)) (drop (at + headLength) s)
 
 -- the number of the refusal that the field at a place meets, in the order of the list; 0: none.
 -- 1 one or two bytes left; 2 unknown tag; 4 out of order; 6 over a limit; 3 wrong length; 1 body cut; 5 predicate
 unfoldable pub faultOf : List ℕ → ℕ → Counts → ℕ
 faultOf s at c =
-    cond (ltb (length s - at) 3) 1
+    cond (ltb (length s - at) headLength) 1
     (cond (not (isTag (byte s at))) 2
     (cond (outOfOrder (byte s at) c) 4
     (cond (overLimit (byte s at) c) 6
     (cond (not (eqb (half s (at + 1)) (bodyLength (byte s at)))) 3
-    (cond (ltb (length s - (at + 3)) (bodyLength (byte s at))) 1
+    (cond (ltb (length s - (at + headLength)) (bodyLength (byte s at))) 1
     (bodyFault (byte s at) (bodyAt s at)))))))
 
 -- ---- reading field by field
@@ -122,9 +158,9 @@ finished s p = cond (p .begun) (refused 7 (length s)) (answer (file (p .rules) (
 
 -- where the field at a place ends
 abbrev pub fieldEnd : List ℕ → ℕ → ℕ
-fieldEnd s at = at + 3 + bodyLength (byte s at)
+fieldEnd s at = at + headLength + bodyLength (byte s at)
 
--- the fields from a place on. A field has at least three bytes, so there are fewer than the fuel says
+-- the fields from a place on. A field has at least its head, so there are fewer than the fuel says
 unfoldable pub readFrom : ℕ → List ℕ → ℕ → Progress → Outcome File
 readFrom zero s at p = refused 0 0
 readFrom (suc fuel) s at p =

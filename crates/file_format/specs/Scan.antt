@@ -1,60 +1,62 @@
 -- Where the rules and the tests of a file stand: what the code keeps instead of the lists.
-use Prim.Native.Nat.{ℕ, zero, suc, _+_, _*_}
+use Prim.Native.Nat.{ℕ, zero, suc, _+_}
 use mathlib.Core.Bool.{Bool, true, false, cond}
-use mathlib.Core.List.{List}
-use lib.ListN.{length, take, drop}
+use mathlib.Core.List.{List, [], _∷_, _++_}
+use lib.ListN.{length}
 use lib.Dec.{eqb, ltb}
 use Rattle.relation.specs.Lists.{tabulate}
 use Rattle.model.specs.declared.Write.{Write}
 use Rattle.model.specs.declared.Rule.{Rule}
 use Rattle.model.specs.declared.Check.{Check}
+use Rattle.model.specs.Answer.{Outcome, answer, refused}
 use Rattle.model.specs.Test.{Test, test}
 use Rattle.file_format.specs.declared.Counts.{Counts}
 use Rattle.file_format.specs.declared.Extent.{Extent}
 use Rattle.file_format.specs.declared.ScanState.{ScanState}
-use Rattle.file_format.specs.declared.Scan.{Scan}
-use Rattle.file_format.specs.declared.Scan.the-variants.{Accepted, Refused}
 use Rattle.file_format.specs.Bytes.{byte}
 use Rattle.file_format.specs.File.{faultOf, fieldEnd, bodyAt, ruleOf, writeOf, checkOf}
 
 -- ---- fields by their places
 
 unfoldable pub ruleField : List ℕ → ℕ → Rule
-ruleField s at = ruleOf (take 3 (drop (at + 3) s))
+ruleField s at = ruleOf (bodyAt s at)
 
 unfoldable pub writeField : List ℕ → ℕ → Write
-writeField s at = writeOf (take 10 (drop (at + 3) s))
+writeField s at = writeOf (bodyAt s at)
 
 unfoldable pub checkField : List ℕ → ℕ → Check
 checkField s at = checkOf (byte s at) (bodyAt s at)
 
+-- where field i of those from a place on stands: it begins where the one before it ends
+unfoldable pub fieldPlace : List ℕ → ℕ → ℕ → ℕ
+fieldPlace s at zero = at
+fieldPlace s at (suc i) = fieldEnd s (fieldPlace s at i)
+
+-- what the n fields from a place on hold, each read at its place
+unfoldable pub fieldsAt : {A : Type 0} → (List ℕ → ℕ → A) → List ℕ → ℕ → ℕ → List A
+fieldsAt field s at n = tabulate (λ i. field s (fieldPlace s at i)) n
+
 -- the first n fields of a file as rules
-unfoldable pub rulesAt : List ℕ → ℕ → List Rule
-rulesAt s n = tabulate (λ i. ruleField s (6 * i)) n
+abbrev pub rulesAt : List ℕ → ℕ → List Rule
+rulesAt s n = fieldsAt ruleField s 0 n
 
--- n writes from a place on
-unfoldable pub writesAt : List ℕ → ℕ → ℕ → List Write
-writesAt s at n = tabulate (λ i. writeField s (at + 13 * i)) n
+-- n writes, n checks from a place on
+abbrev pub writesAt : List ℕ → ℕ → ℕ → List Write
+writesAt s at n = fieldsAt writeField s at n
 
--- where check i of those from a place on stands
-unfoldable pub checkPlace : List ℕ → ℕ → ℕ → ℕ
-checkPlace s at zero = at
-checkPlace s at (suc i) = fieldEnd s (checkPlace s at i)
-
--- n checks from a place on
-unfoldable pub checksAt : List ℕ → ℕ → ℕ → List Check
-checksAt s at n = tabulate (λ i. checkField s (checkPlace s at i)) n
+abbrev pub checksAt : List ℕ → ℕ → ℕ → List Check
+checksAt s at n = fieldsAt checkField s at n
 
 -- where the main writes and the checks of a test begin
-abbrev pub mainPlace : Extent → ℕ
-mainPlace e = e .at + 13 * e .initial
+abbrev pub mainPlace : List ℕ → Extent → ℕ
+mainPlace s e = fieldPlace s (e .at) (e .initial)
 
-abbrev pub checksPlace : Extent → ℕ
-checksPlace e = e .at + 13 * e .initial + 13 * e .main
+abbrev pub checksPlace : List ℕ → Extent → ℕ
+checksPlace s e = fieldPlace s (mainPlace s e) (e .main)
 
 -- the test that stands at an extent
 unfoldable pub testAt : List ℕ → Extent → Test
-testAt s e = test (writesAt s (e .at) (e .initial)) (writesAt s (mainPlace e) (e .main)) (checksAt s (checksPlace e) (e .checks))
+testAt s e = test (writesAt s (e .at) (e .initial)) (writesAt s (mainPlace s e) (e .main)) (checksAt s (checksPlace s e) (e .checks))
 
 -- ---- the scan, step by step
 
@@ -78,31 +80,38 @@ counted tag c =
 unfoldable pub testFrom : ℕ → ℕ → ℕ → ℕ
 testFrom tag from next = cond (eqb tag 3) next (cond (eqb tag 7) next from)
 
--- the extent of the wanted test, once its end is read
-unfoldable pub found : ℕ → ℕ → ScanState → Extent
-found tag wanted st =
-    let c = st .counts in
-    cond (eqb tag 7) (cond (eqb (c .tests) wanted) (extent (st .from) (c .initial) (c .main) (c .checks)) (st .found)) (st .found)
+-- where the test in hand stands
+abbrev pub inHand : ScanState → Extent
+inHand st = extent (st .from) (st .counts .initial) (st .counts .main) (st .counts .checks)
 
-unfoldable pub advanced : ℕ → ℕ → ℕ → ScanState → ScanState
-advanced tag next wanted st =
-    record { counts = counted tag (st .counts); from = testFrom tag (st .from) next; found = found tag wanted st }
+-- where the finished tests stand, once the end of one more is read
+unfoldable pub found : ℕ → ScanState → List Extent → List Extent
+found tag st tests = cond (eqb tag 7) (tests ++ (inHand st ∷ [])) tests
 
-unfoldable pub ended : ℕ → ScanState → Scan
-ended size st =
-    let c = st .counts in
-    cond (c .begun) (Refused 7 size) (Accepted (c .rules) (c .tests) (st .found))
+unfoldable pub advanced : ℕ → ℕ → ScanState → ScanState
+advanced tag next st = record { counts = counted tag (st .counts); from = testFrom tag (st .from) next }
 
-unfoldable pub scanFrom : ℕ → List ℕ → ℕ → ℕ → ScanState → Scan
-scanFrom zero s wanted at st = Refused 0 0
-scanFrom (suc fuel) s wanted at st =
+-- what a scan gives: how many rules a file has, and where each of its tests stands
+pub record Places : Type 0 where
+  pub rules : ℕ
+  pub tests : List Extent
+
+abbrev pub places : ℕ → List Extent → Places
+places rules tests = record { rules = rules; tests = tests }
+
+unfoldable pub ended : ℕ → ScanState → List Extent → Outcome Places
+ended size st tests = cond (st .counts .begun) (refused 7 size) (answer (places (st .counts .rules) tests))
+
+unfoldable pub scanFrom : ℕ → List ℕ → ℕ → ScanState → List Extent → Outcome Places
+scanFrom zero s at st tests = refused 0 0
+scanFrom (suc fuel) s at st tests =
     let fault = faultOf s at (st .counts) in
-    let rest = scanFrom fuel s wanted (fieldEnd s at) (advanced (byte s at) (fieldEnd s at) wanted st) in
-    cond (ltb at (length s)) (cond (eqb fault 0) rest (Refused fault at)) (ended (length s) st)
+    let rest = scanFrom fuel s (fieldEnd s at) (advanced (byte s at) (fieldEnd s at) st) (found (byte s at) st tests) in
+    cond (ltb at (length s)) (cond (eqb fault 0) rest (refused fault at)) (ended (length s) st tests)
 
 unfoldable pub started : ScanState
-started = record { counts = counts 0 0 false 0 0 0; from = 0; found = extent 0 0 0 0 }
+started = record { counts = counts 0 0 false 0 0 0; from = 0 }
 
--- what a file holds, with the place of test `wanted`, counted from 0
-unfoldable pub scanOf : List ℕ → ℕ → Scan
-scanOf s wanted = scanFrom (suc (length s)) s wanted 0 started
+-- where all that a file holds stands, or the refusal
+unfoldable pub scanOf : List ℕ → Outcome Places
+scanOf s = scanFrom (suc (length s)) s 0 started []

@@ -1,10 +1,33 @@
 // A file's fields: a tag, a two-byte length and a body. What a file is, in specs/; here, numbers as
 // bytes, a field's length, and what a scan of a file keeps and gives.
+use model::Refusal;
 ghost use mathlib.Core.Path.{_≡_};
 ghost use Prim.Native.Nat.{_+_, _<_, _≤_};
 ghost use lib.ListN.{length};
 ghost use Rattle.file_format.specs.Bytes.{half, word};
-ghost use Rattle.file_format.specs.File.{bodyLength, fieldEnd};
+ghost use Rattle.file_format.specs.File.{writeLength, bodyLength, fieldEnd};
+
+// The bytes of a field before its body, and those of a body: a rule's, a write's, a pair check's, and
+// one address.
+pub const HEAD_LENGTH: usize = 3;
+
+pub const RULE_LENGTH: usize = 3;
+
+pub const WRITE_LENGTH: usize = 10;
+
+pub const PAIR_LENGTH: usize = 10;
+
+pub const ADDRESS_LENGTH: usize = 1;
+
+// The same as the second byte of a field's length.
+pub const RULE_LENGTH_BYTE: u8 = RULE_LENGTH as u8;
+
+pub const WRITE_LENGTH_BYTE: u8 = WRITE_LENGTH as u8;
+
+// Those of a put's two fields, and of a range check's field and an end of test.
+pub const PUT_LENGTH: usize = 2 * (HEAD_LENGTH + WRITE_LENGTH);
+
+pub const END_LENGTH: usize = HEAD_LENGTH + ADDRESS_LENGTH + HEAD_LENGTH;
 
 // How much of a file has been read: its rules, its finished tests, whether a test has begun,
 // and that test's fields.
@@ -25,24 +48,22 @@ pub struct Extent {
     pub checks: usize,
 }
 
-// A scan in progress: the counts, where the test in hand begins, and the wanted test once it is read.
+// A scan in progress: the counts, and where the test in hand begins.
 pub struct ScanState {
     pub counts: Counts,
     pub from: usize,
-    pub found: Extent,
 }
 
-// What a scan finds: the counts of rules and tests and where the wanted test stands, or a refusal.
+// What a scan finds: how many rules and tests a file holds, or a refusal.
 pub enum Scan {
-    Accepted {
-        rules: usize,
-        tests: usize,
-        found: Extent,
-    },
-    Refused {
-        number: u8,
-        place: usize,
-    },
+    Accepted { rules: usize, tests: usize },
+    Refused(Refusal),
+}
+
+// That, and where the tests stand, the first ones of an array.
+pub struct Scanned {
+    pub scan: Scan,
+    pub tests: [Extent; model::MOST_TESTS],
 }
 
 fn wide(x: u8) -> usize
@@ -61,21 +82,24 @@ pub fn half_at(s: &[u8], i: usize) -> usize
 
 // How long the body of a field with this tag is.
 pub fn body_length(tag: u8) -> usize
-    ensures { λ r. ⌜ (r ≡ bodyLength tag) × (r ≤ 10) ⌝ }
+    ensures { λ r. ⌜ (r ≡ bodyLength tag) × (r ≤ writeLength) ⌝ }
 {
     if tag == 3 {
-        return 3;
+        return RULE_LENGTH;
     }
     if tag == 4 {
-        return 1;
+        return ADDRESS_LENGTH;
+    }
+    if tag == 5 {
+        return PAIR_LENGTH;
     }
     if tag == 6 {
-        return 1;
+        return ADDRESS_LENGTH;
     }
     if tag == 7 {
         return 0;
     }
-    10
+    WRITE_LENGTH
 }
 
 // Four bytes, big-endian.
@@ -91,5 +115,5 @@ pub fn end_of(s: &[u8], at: usize) -> usize
     requires { ⌜ (at < length (now s)) × (fieldEnd (now s) at ≤ length (now s)) ⌝ }
     ensures { λ r. ⌜ r ≡ fieldEnd (now (s .entry)) at ⌝ }
 {
-    at + 3 + body_length(s[at])
+    at + HEAD_LENGTH + body_length(s[at])
 }

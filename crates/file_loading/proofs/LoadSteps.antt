@@ -1,64 +1,75 @@
--- One rule more, one check more: the array's front is what stands in the file.
+-- One field more: the array's front is what stands in the file.
 use mathlib.Core.Path.{_≡_, refl}
-use mathlib.Core.Bool.{true}
+use mathlib.Core.Bool.{Bool, true}
 use mathlib.Core.List.{List}
-use Prim.Native.Nat.{ℕ, _+_, _*_, _≤_, _<_}
+use Prim.Native.Nat.{ℕ, _+_, _≤_, _<_}
 use native.Mathlib.Numerals.{add-one}
 use native.Mathlib.Omega.{arith}
 use lib.ListN.{length, take, set}
 use lib.Seq.{take-suc-set}
 use borrow.Author.Needs.{needs}
 use Rattle.relation.specs.Lists.{tabulate}
-use Rattle.model.specs.declared.Rule.{Rule}
-use Rattle.model.specs.declared.Check.{Check}
+use Rattle.relation.proofs.ListLaws.{length-tabulate}
 use Rattle.file_format.specs.Bytes.{byte}
-use Rattle.file_format.specs.File.{isCheck, fieldEnd}
-use Rattle.file_format.specs.Scan.{ruleField, rulesAt, checkField, checkPlace, checksAt}
-use Rattle.file_loading.specs.Loaded.{ChecksIn}
+use Rattle.file_format.specs.File.{isRule, isWrite, isCheck, fieldEnd}
+use Rattle.file_format.specs.Scan.{fieldPlace, fieldsAt}
+use Rattle.file_format.specs.Held.{Fields}
 
-module _ (s : List ℕ) where
-  pub rules-none : (l : List Rule) → take 0 l ≡ rulesAt s 0
-  unfolding rulesAt tabulate
-  rules-none l = refl
+pub fields-length : {A : Type 0} (field : List ℕ → ℕ → A) (s : List ℕ) (at n : ℕ) → length (fieldsAt field s at n) ≡ n
+unfolding fieldsAt
+fields-length field s at n = length-tabulate (λ i. field s (fieldPlace s at i)) n
 
-  pub rules-more : (l : List Rule) (i n : ℕ) (r : Rule) → length l ≡ 32 → i < n → n ≤ 32 → take i l ≡ rulesAt s i → r ≡ ruleField s (6 * i)
-      → take (i + 1) (set l i r) ≡ rulesAt s (i + 1)
-  unfolding rulesAt tabulate
-  rules-more l i n r h lt le e q = rw (add-one i, take-suc-set l i r (omega arith), e, q)
+module _ (s : List ℕ) (from : ℕ) where
+  -- ---- the places, one behind the other
 
-  pub rules-all : (l : List Rule) (i n : ℕ) → i ≤ n → n ≤ i → take i l ≡ rulesAt s i → take n l ≡ rulesAt s n
-  rules-all l i n h k e = let z : i ≡ n = omega arith in rw z at e
+  pub place-none : from ≡ fieldPlace s from 0
+  unfolding fieldPlace
+  place-none = refl
 
-  module _ (from : ℕ) where
-    pub checks-none : (l : List Check) → take 0 l ≡ checksAt s from 0
-    unfolding checksAt tabulate
-    checks-none l = refl
+  pub next-place : (at i r : ℕ) → at ≡ fieldPlace s from i → r ≡ fieldEnd s at → r ≡ fieldPlace s from (i + 1)
+  unfolding fieldPlace
+  next-place at i r e q = rw (add-one i, ← e) q
 
-    pub place-none : from ≡ checkPlace s from 0
-    unfolding checkPlace
-    place-none = refl
+  pub place-all : (at i n : ℕ) → i ≤ n → n ≤ i → at ≡ fieldPlace s from i → at ≡ fieldPlace s from n
+  place-all at i n h k e = let z : i ≡ n = omega arith in rw z at e
 
-    pub place-more : (at i r : ℕ) → at ≡ checkPlace s from i → r ≡ fieldEnd s at → r ≡ checkPlace s from (i + 1)
-    unfolding checkPlace
-    place-more at i r e q = rw (add-one i, ← e) q
+  -- what stands at the place reached is a field of its kind inside the file
+  module _ (is : ℕ → Bool) (at i n : ℕ) (f : Fields is s from n) (h : i < n) (e : at ≡ fieldPlace s from i) where
+    pub field-is : is (byte s at) ≡ true
+    field-is = rw e (f i h .0)
 
-    pub checks-more : (l : List Check) (at i n : ℕ) (c : Check) → length l ≡ 16 → i < n → n ≤ 16 → at ≡ checkPlace s from i → take i l ≡ checksAt s from i → c ≡ checkField s at
-        → take (i + 1) (set l i c) ≡ checksAt s from (i + 1)
-    unfolding checksAt tabulate
-    checks-more l at i n c h lt le p e q = rw (add-one i, take-suc-set l i c (omega arith), e, q, p)
+    pub field-ends : fieldEnd s at ≤ length s
+    field-ends = rw e (f i h .1)
 
-    pub checks-all : (l : List Check) (i n : ℕ) → i ≤ n → n ≤ i → take i l ≡ checksAt s from i → take n l ≡ checksAt s from n
-    checks-all l i n h k e = let z : i ≡ n = omega arith in rw z at e
+    pub field-starts : at < length s
+    field-starts = let l = field-ends in omega arith
 
-    -- what stands at the place reached is a check inside the file
-    module _ (at i n : ℕ) (e : at ≡ checkPlace s from i) (h : i < n) (k : ChecksIn s from n) where
-      pub check-is : isCheck (byte s at) ≡ true
-      check-is = rw e (k i h .0)
+  -- ---- what stands there
 
-      pub check-ends : fieldEnd s at ≤ length s
-      check-ends = rw e (k i h .1)
+  module _ {A : Type 0} (field : List ℕ → ℕ → A) where
+    pub fields-none : (l : List A) → take 0 l ≡ fieldsAt field s from 0
+    unfolding fieldsAt tabulate
+    fields-none l = refl
 
-      pub check-starts : at < length s
-      check-starts = let l = check-ends in omega arith
+    pub fields-more : (l : List A) (at i n most : ℕ) (r : A) → length l ≡ most → i < n → n ≤ most → at ≡ fieldPlace s from i → take i l ≡ fieldsAt field s from i → r ≡ field s at
+        → take (i + 1) (set l i r) ≡ fieldsAt field s from (i + 1)
+    unfolding fieldsAt tabulate
+    fields-more l at i n most r h lt le p e q = rw (add-one i, take-suc-set l i r (omega arith), e, q, p)
 
-pub ruleset steps = (needs, rules-none, rules-more, rules-all, checks-none, place-none, place-more, checks-more, checks-all, check-is, check-ends, check-starts)
+    pub fields-all : (l : List A) (i n : ℕ) → i ≤ n → n ≤ i → take i l ≡ fieldsAt field s from i → take n l ≡ fieldsAt field s from n
+    fields-all l i n h k e = let z : i ≡ n = omega arith in rw z at e
+
+-- the same for each kind, so that a search finds it
+module _ (s : List ℕ) (from at i n : ℕ) where
+  pub rule-is : Fields isRule s from n → i < n → at ≡ fieldPlace s from i → isRule (byte s at) ≡ true
+  rule-is = field-is s from isRule at i n
+
+  pub write-is : Fields isWrite s from n → i < n → at ≡ fieldPlace s from i → isWrite (byte s at) ≡ true
+  write-is = field-is s from isWrite at i n
+
+  pub check-is : Fields isCheck s from n → i < n → at ≡ fieldPlace s from i → isCheck (byte s at) ≡ true
+  check-is = field-is s from isCheck at i n
+
+pub ruleset places = (needs, place-none, next-place, place-all, rule-is, write-is, check-is, field-ends, field-starts)
+
+pub ruleset steps = (places, fields-none, fields-more, fields-all)

@@ -8,20 +8,22 @@ use native.Mathlib.Omega.{arith}
 use lib.ListN.{length}
 use lib.Dec.{eqb, ltb, leb}
 use borrow.Author.Tests.{eqb-true, ltb-false, leb-false, leb-true, not-false}
+use Rattle.relation.proofs.ListLaws.{or-none-right}
+use Rattle.model.specs.Limits.{mostRules, mostTests, mostInitial, mostMain, mostChecks}
 use Rattle.file_format.specs.declared.Counts.{Counts}
 use Rattle.file_format.specs.Bytes.{byte, half}
-use Rattle.file_format.specs.File.{isTag, isCheck, bodyLength, outOfOrder, overTest, overLimit, bodyFault, faultOf, fieldEnd, bodyAt}
+use Rattle.file_format.specs.File.{headLength, ruleLength, isTag, isCheck, bodyLength, outOfOrder, overTest, overLimit, bodyFault, faultOf, fieldEnd, bodyAt}
 use Rattle.file_format.specs.Scan.{counted}
-use Rattle.file_reader.specs.Limits.{Within, longest}
+use Rattle.file_reader.specs.Limits.{Within, longestField, longestTest, longest}
 
 -- what is known of a field that is not refused
 pub record Clean (s : List ℕ) (at : ℕ) (c : Counts) : Type 0 where
-  pub whole : 3 ≤ length s - at
+  pub whole : headLength ≤ length s - at
   pub tag : isTag (byte s at) ≡ true
   pub order : outOfOrder (byte s at) c ≡ false
   pub limit : overLimit (byte s at) c ≡ false
   pub size : half s (at + 1) ≡ bodyLength (byte s at)
-  pub room : bodyLength (byte s at) ≤ length s - (at + 3)
+  pub room : bodyLength (byte s at) ≤ length s - (at + headLength)
   pub body : bodyFault (byte s at) (bodyAt s at) ≡ 0
 
 peel : (b : Bool) (k rest : ℕ) → cond b (suc k) rest ≡ 0 → (b ≡ false) × (rest ≡ 0)
@@ -32,12 +34,12 @@ module _ (s : List ℕ) (at : ℕ) (c : Counts) where
   pub clean : faultOf s at c ≡ 0 → Clean s at c
   unfolding faultOf
   clean e =
-      let a = peel (ltb (length s - at) 3) 0 _ e in
+      let a = peel (ltb (length s - at) headLength) 0 _ e in
       let b = peel (not (isTag (byte s at))) 1 _ (a .1) in
       let d = peel (outOfOrder (byte s at) c) 3 _ (b .1) in
       let f = peel (overLimit (byte s at) c) 5 _ (d .1) in
       let g = peel (not (eqb (half s (at + 1)) (bodyLength (byte s at)))) 2 _ (f .1) in
-      let h = peel (ltb (length s - (at + 3)) (bodyLength (byte s at))) 0 _ (g .1) in
+      let h = peel (ltb (length s - (at + headLength)) (bodyLength (byte s at))) 0 _ (g .1) in
       record {
         whole = ltb-false _ _ (a .0);
         tag = not-false _ (b .0);
@@ -74,45 +76,45 @@ by-tag P a b c d e f g (suc (suc (suc (suc (suc (suc (suc (suc n)))))))) h =
     rest false y q = absurd (false≢true q)
 
 -- a field of a test: there is room for the test, and it is the test's first or within the test's limit
-room : (c : Counts) → Within c → (o : Bool) → cond (c .begun) o (leb 16 (c .tests)) ≡ false
-    → (c .tests < 16) × ((o ≡ false) ⊎ ((c .initial ≡ 0) × (c .main ≡ 0) × (c .checks ≡ 0)))
+room : (c : Counts) → Within c → (o : Bool) → cond (c .begun) o (leb mostTests (c .tests)) ≡ false
+    → (c .tests < mostTests) × ((o ≡ false) ⊎ ((c .initial ≡ 0) × (c .main ≡ 0) × (c .checks ≡ 0)))
 room c w o e = go (c .begun) refl e
   where
-    go : (b : Bool) → c .begun ≡ b → cond b o (leb 16 (c .tests)) ≡ false
-        → (c .tests < 16) × ((o ≡ false) ⊎ ((c .initial ≡ 0) × (c .main ≡ 0) × (c .checks ≡ 0)))
+    go : (b : Bool) → c .begun ≡ b → cond b o (leb mostTests (c .tests)) ≡ false
+        → (c .tests < mostTests) × ((o ≡ false) ⊎ ((c .initial ≡ 0) × (c .main ≡ 0) × (c .checks ≡ 0)))
     go true q h = (w .begun q, inl h)
     go false q h = (leb-false _ _ h, inr (w .none q))
 
-under : (k n : ℕ) {A : Type 0} → (A → n ≡ 0) → (leb (suc k) n ≡ false) ⊎ A → n < suc k
-under k n z (inl h) = leb-false _ _ h
-under k n z (inr a) = let e = z a in omega arith
+under : (k n : ℕ) {A : Type 0} → 0 < k → (A → n ≡ 0) → (leb k n ≡ false) ⊎ A → n < k
+under k n p z (inl h) = leb-false _ _ h
+under k n p z (inr a) = let e = z a in omega arith
 
 module _ (c : Counts) (w : Within c) where
   rule-within : overLimit 3 c ≡ false → Within (counted 3 c)
   unfolding overLimit counted
   rule-within l =
-      let h = leb-false 32 (c .rules) l in
+      let h = leb-false mostRules (c .rules) l in
       record { rules = omega arith; tests = w .tests; begun = w .begun; initial = w .initial; main = w .main; checks = w .checks; none = w .none }
 
   initial-within : overLimit 1 c ≡ false → Within (counted 1 c)
   unfolding overLimit overTest counted
   initial-within l =
-      let r = room c w (leb 64 (c .initial)) l in
-      let h = under 63 (c .initial) (λ z. z .0) (r .1) in
+      let r = room c w (leb mostInitial (c .initial)) l in
+      let h = under mostInitial (c .initial) (omega arith) (λ z. z .0) (r .1) in
       record { rules = w .rules; tests = w .tests; begun = λ q. r .0; initial = omega arith; main = w .main; checks = w .checks; none = λ q. absurd (true≢false q) }
 
   main-within : overLimit 2 c ≡ false → Within (counted 2 c)
   unfolding overLimit overTest counted
   main-within l =
-      let r = room c w (leb 12 (c .main)) l in
-      let h = under 11 (c .main) (λ z. z .1) (r .1) in
+      let r = room c w (leb mostMain (c .main)) l in
+      let h = under mostMain (c .main) (omega arith) (λ z. z .1) (r .1) in
       record { rules = w .rules; tests = w .tests; begun = λ q. r .0; initial = w .initial; main = omega arith; checks = w .checks; none = λ q. absurd (true≢false q) }
 
-  check-within : cond (c .begun) (leb 16 (c .checks)) (leb 16 (c .tests)) ≡ false
+  check-within : cond (c .begun) (leb mostChecks (c .checks)) (leb mostTests (c .tests)) ≡ false
       → Within (record { rules = c .rules; tests = c .tests; begun = true; initial = c .initial; main = c .main; checks = c .checks + 1 })
   check-within l =
-      let r = room c w (leb 16 (c .checks)) l in
-      let h = under 15 (c .checks) (λ z. z .2) (r .1) in
+      let r = room c w (leb mostChecks (c .checks)) l in
+      let h = under mostChecks (c .checks) (omega arith) (λ z. z .2) (r .1) in
       record { rules = w .rules; tests = w .tests; begun = λ q. r .0; initial = w .initial; main = w .main; checks = omega arith; none = λ q. absurd (true≢false q) }
 
   end-within : overLimit 7 c ≡ false → Within (counted 7 c)
@@ -128,22 +130,31 @@ module _ (c : Counts) (w : Within c) where
       by-tag (λ tag. overLimit tag c ≡ false → Within (counted tag c)) initial-within main-within rule-within
       check-within check-within check-within end-within
 
+  -- there is room for the test that a field belongs to
+  pub counted-room : (tag : ℕ) → isTag tag ≡ true → outOfOrder tag c ≡ false → overLimit tag c ≡ false → c .tests < mostTests
+  unfolding overLimit overTest isCheck outOfOrder
+  counted-room =
+      by-tag (λ tag. outOfOrder tag c ≡ false → overLimit tag c ≡ false → c .tests < mostTests)
+      (λ o l. room c w _ l .0) (λ o l. room c w _ l .0)
+      (λ o l. let h = ltb-false 0 (c .tests) (or-none-right (c .begun) (ltb 0 (c .tests)) o) in omega arith)
+      (λ o l. room c w _ l .0) (λ o l. room c w _ l .0) (λ o l. room c w _ l .0) (λ o l. room c w _ l .0)
+
 -- how far a file can have been read at these counts
 unfoldable pub spread : Counts → ℕ
-spread c = 6 * c .rules + ((64 + 12 + 16) * 13 + 3) * c .tests + 13 * (c .initial + c .main + c .checks)
+spread c = (headLength + ruleLength) * c .rules + longestTest * c .tests + longestField * (c .initial + c .main + c .checks)
 
-pub spread-counted : (c : Counts) → Within c → (at tag : ℕ) → isTag tag ≡ true → at ≤ spread c → at + 3 + bodyLength tag ≤ spread (counted tag c)
+pub spread-counted : (c : Counts) → Within c → (at tag : ℕ) → isTag tag ≡ true → at ≤ spread c → at + headLength + bodyLength tag ≤ spread (counted tag c)
 unfolding spread counted bodyLength
 spread-counted c w at tag h l =
     let i = w .initial in let m = w .main in let k = w .checks in
-    by-tag (λ tag. at + 3 + bodyLength tag ≤ spread (counted tag c))
+    by-tag (λ tag. at + headLength + bodyLength tag ≤ spread (counted tag c))
     (omega arith) (omega arith) (omega arith) (omega arith) (omega arith) (omega arith) (omega arith) tag h
 
 pub spread-longest : (c : Counts) → Within c → spread c ≤ longest
 unfolding spread
 spread-longest c w = go (c .begun) refl
   where
-    go : (b : Bool) → c .begun ≡ b → 6 * c .rules + ((64 + 12 + 16) * 13 + 3) * c .tests + 13 * (c .initial + c .main + c .checks) ≤ longest
+    go : (b : Bool) → c .begun ≡ b → (headLength + ruleLength) * c .rules + longestTest * c .tests + longestField * (c .initial + c .main + c .checks) ≤ longest
     go true q =
         let r = w .rules in let t = w .begun q in let i = w .initial in let m = w .main in let k = w .checks in
         omega arith

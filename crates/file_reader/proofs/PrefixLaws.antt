@@ -16,7 +16,7 @@ use Rattle.model.specs.Test.{Test, file}
 use Rattle.file_format.specs.declared.Counts.{Counts}
 use Rattle.model.specs.Answer.{answer, refused}
 use Rattle.file_format.specs.Bytes.{byte, half}
-use Rattle.file_format.specs.File.{isTag, bodyLength, outOfOrder, overLimit, ruleFault, bodyFault, faultOf, bodyAt, fieldEnd, ruleOf, Progress, countsOf, grown, finished, readFrom, readOf, nothing}
+use Rattle.file_format.specs.File.{headLength, writeLength, isTag, bodyLength, outOfOrder, overLimit, ruleFault, bodyFault, faultOf, bodyAt, fieldEnd, ruleOf, Progress, countsOf, grown, finished, readFrom, readOf, nothing}
 use Rattle.file_reader.specs.Limits.{Within, longest, longestField, TestLimits, Limited}
 use Rattle.file_reader.specs.Theorem.{WithinLimits, PrefixEnough}
 use Rattle.file_reader.proofs.LimitLaws.{Clean, clean, by-tag, within-counted, spread, spread-counted, spread-longest}
@@ -24,9 +24,9 @@ use Rattle.file_reader.proofs.TellsLaws.{counts-grown}
 
 -- ---- one field
 
-body-most : (tag : ℕ) → isTag tag ≡ true → bodyLength tag ≤ 10
+body-most : (tag : ℕ) → isTag tag ≡ true → bodyLength tag ≤ writeLength
 unfolding bodyLength
-body-most = by-tag (λ tag. bodyLength tag ≤ 10) (omega arith) (omega arith) (omega arith) (omega arith) (omega arith) (omega arith) (omega arith)
+body-most = by-tag (λ tag. bodyLength tag ≤ writeLength) (omega arith) (omega arith) (omega arith) (omega arith) (omega arith) (omega arith) (omega arith)
 
 -- a part of a prefix is that part of the whole
 part-of-prefix : {A : Type 0} (b k n : ℕ) (s : List A) → b + k ≤ n → take k (drop b (take n s)) ≡ take k (drop b s)
@@ -158,19 +158,19 @@ module _ (s : List ℕ) (n at : ℕ) (c : Counts) (h : at + longestField ≤ n) 
   fault-prefix : faultOf (take n s) at c ≡ faultOf s at c
   unfolding faultOf
   fault-prefix =
-      rw (size-prefix, byte-prefix at (omega arith), half-prefix, le-ltb (n - at) 3 (omega arith), le-ltb (length s - at) 3 (omega arith))
+      rw (size-prefix, byte-prefix at (omega arith), half-prefix, le-ltb (n - at) headLength (omega arith), le-ltb (length s - at) headLength (omega arith))
       (go (isTag (byte s at)) refl)
     where
       tail : ℕ → ℕ → ℕ
       tail room body = cond (outOfOrder (byte s at) c) 4 (cond (overLimit (byte s at) c) 6 (cond (not (eqb (half s (at + 1)) (bodyLength (byte s at)))) 3 (cond (ltb room (bodyLength (byte s at))) 1 body)))
 
       go : (b : Bool) → isTag (byte s at) ≡ b
-          → _≡_ {A = ℕ} (cond (not b) 2 (tail (n - (at + 3)) (bodyFault (byte s at) (take (bodyLength (byte s at)) (drop (at + 3) (take n s))))))
-          (cond (not b) 2 (tail (length s - (at + 3)) (bodyFault (byte s at) (bodyAt s at))))
+          → _≡_ {A = ℕ} (cond (not b) 2 (tail (n - (at + headLength)) (bodyFault (byte s at) (take (bodyLength (byte s at)) (drop (at + headLength) (take n s))))))
+          (cond (not b) 2 (tail (length s - (at + headLength)) (bodyFault (byte s at) (bodyAt s at))))
       go false e = refl
       go true e =
           let m = body-most (byte s at) e in
-          rw (part-of-prefix (at + 3) (bodyLength (byte s at)) n s (omega arith), le-ltb (n - (at + 3)) (bodyLength (byte s at)) (omega arith), le-ltb (length s - (at + 3)) (bodyLength (byte s at)) (omega arith))
+          rw (part-of-prefix (at + headLength) (bodyLength (byte s at)) n s (omega arith), le-ltb (n - (at + headLength)) (bodyLength (byte s at)) (omega arith), le-ltb (length s - (at + headLength)) (bodyLength (byte s at)) (omega arith))
 
 prefix-from : (f g : ℕ) (s : List ℕ) (n at : ℕ) (p : Progress) → longest + longestField ≤ n → n ≤ length s → Reads at p
     → longest < at + f → longest < at + g → readFrom f (take n s) at p ≡ readFrom g s at p
@@ -184,13 +184,13 @@ prefix-from (suc f) (suc g) s n at p h le r a b =
   where
     go : (d : Bool) → eqb (faultOf s at (countsOf p)) 0 ≡ d
         → (Clean s at (countsOf p) → readFrom f (take n s) (fieldEnd s at) (grown (byte s at) (bodyAt s at) p) ≡ readFrom g s (fieldEnd s at) (grown (byte s at) (bodyAt s at) p))
-        → cond d (readFrom f (take n s) (fieldEnd s at) (grown (byte s at) (take (bodyLength (byte s at)) (drop (at + 3) (take n s))) p)) (refused (faultOf s at (countsOf p)) at)
+        → cond d (readFrom f (take n s) (fieldEnd s at) (grown (byte s at) (take (bodyLength (byte s at)) (drop (at + headLength) (take n s))) p)) (refused (faultOf s at (countsOf p)) at)
         ≡ cond d (readFrom g s (fieldEnd s at) (grown (byte s at) (bodyAt s at) p)) (refused (faultOf s at (countsOf p)) at)
     go true e ih =
         let k = clean s at (countsOf p) (eqb-true _ _ e) in
         let m = body-most (byte s at) (k .tag) in
         let l = at-most at p r in
-        rw (part-of-prefix (at + 3) (bodyLength (byte s at)) n s (omega arith)) (ih k)
+        rw (part-of-prefix (at + headLength) (bodyLength (byte s at)) n s (omega arith)) (ih k)
     go false e ih = refl
 
 pub prefix : PrefixEnough

@@ -2,55 +2,73 @@
 use mathlib.Core.Path.{_≡_, refl, sym, ap, _∙_}
 use mathlib.Core.Logic.{⊎-elim}
 use mathlib.Core.Bool.{Bool, true, false, cond, _||_, false≢true, true≢false}
-use mathlib.Core.List.{List, [], _∷_, _++_}
-use Prim.Native.Nat.{ℕ, zero, suc, _+_, _*_, _≤_, _<_}
+use mathlib.Core.List.{List, [], _∷_, _++_, map}
+use Prim.Native.Nat.{ℕ, zero, suc, _+_, _≤_, _<_}
 use native.Mathlib.Numerals.{add-one}
-use native.Mathlib.Nat.{eq-or-lt-of-le}
 use native.Mathlib.Omega.{arith}
-use lib.ListN.{length, getD, take, drop, length-append, List·getD-append}
+use lib.ListN.{length, length-append, List·getD-append}
 use lib.Seq.{getD-at}
 use lib.Dec.{eqb, ltb}
-use borrow.Author.Tests.{ltb-false, eqb-true, eqb-false}
+use borrow.Author.Tests.{ltb-false, eqb-true}
 use Rattle.relation.specs.Lists.{tabulate}
+use Rattle.relation.proofs.ListLaws.{below-extend, below-suc, map-snoc}
 use Rattle.model.specs.Test.{test, file}
 use Rattle.file_format.specs.declared.Counts.{Counts}
 use Rattle.file_format.specs.declared.Extent.{Extent}
 use Rattle.file_format.specs.declared.ScanState.{ScanState}
-use Rattle.file_format.specs.declared.Scan.{Scan}
-use Rattle.file_format.specs.declared.Scan.the-variants.{Accepted, Refused}
 use Rattle.model.specs.Answer.{answer, refused}
 use Rattle.file_format.specs.Bytes.{byte}
-use Rattle.file_format.specs.File.{isTag, isCheck, bodyLength, outOfOrder, faultOf, bodyAt, fieldEnd, ruleOf, writeOf, checkOf, Progress, progress, countsOf, grown, finished, readFrom, readOf, nothing}
-use Rattle.file_format.specs.Scan.{ruleField, writeField, checkField, rulesAt, writesAt, checkPlace, checksAt, testAt, extent, counts, counted, testFrom, found, advanced, ended, scanFrom, started, scanOf}
-use Rattle.file_format.specs.Held.{Inside, noTest, Tells}
+use Rattle.file_format.specs.File.{isTag, isRule, isWrite, isCheck, outOfOrder, faultOf, bodyAt, fieldEnd, checkOf, Progress, progress, countsOf, grown, finished, readFrom, readOf, nothing}
+use Rattle.file_format.specs.Scan.{ruleField, writeField, checkField, fieldPlace, fieldsAt, rulesAt, writesAt, mainPlace, checksPlace, testAt, extent, inHand, counts, counted, testFrom, found, advanced, places, ended, scanFrom, started, scanOf}
+use Rattle.file_format.specs.Held.{Fields, Inside, extentOf, noExtent, Tells}
 use Rattle.file_reader.specs.Limits.{Within}
 use Rattle.file_reader.specs.Theorem.{Told}
 use Rattle.file_reader.proofs.LimitLaws.{clean, clean-fits, by-tag, within-counted}
 
--- the extent of the test in hand
-abbrev inHand : ScanState → Extent
-inHand st = extent (st .from) (st .counts .initial) (st .counts .main) (st .counts .checks)
+-- ---- one field more, whatever it holds
+
+module _ (s : List ℕ) (from at n : ℕ) (here : at ≡ fieldPlace s from n) where
+  next-place : fieldEnd s at ≡ fieldPlace s from (n + 1)
+  unfolding fieldPlace
+  next-place = rw (add-one n, ← here)
+
+  fields-more : {A : Type 0} (field : List ℕ → ℕ → A) → fieldsAt field s from n ++ (field s at ∷ []) ≡ fieldsAt field s from (n + 1)
+  unfolding fieldsAt tabulate
+  fields-more field = rw (here, add-one n)
+
+  inside-more : (is : ℕ → Bool) → Fields is s from n → is (byte s at) ≡ true → fieldEnd s at ≤ length s → Fields is s from (n + 1)
+  inside-more is f k l =
+      rw (add-one n)
+      (below-extend (λ i. (is (byte s (fieldPlace s from i)) ≡ true) × (fieldEnd s (fieldPlace s from i) ≤ length s)) n f (rw (← here) (k, l)))
 
 -- a scan's state at a place against a reading's
-record Tracks (s : List ℕ) (wanted at : ℕ) (p : Progress) (st : ScanState) : Type 0 where
+record Tracks (s : List ℕ) (at : ℕ) (p : Progress) (st : ScanState) (tests : List Extent) : Type 0 where
   same : st .counts ≡ countsOf p
   within : Within (st .counts)
   rules : p .rules ≡ rulesAt s (st .counts .rules)
   current : p .current ≡ testAt s (inHand st)
-  place : at ≡ checkPlace s (st .from + 13 * st .counts .initial + 13 * st .counts .main) (st .counts .checks)
-  first : st .counts .tests ≡ 0 → st .counts .begun ≡ false → at ≡ 6 * st .counts .rules
-  before : wanted < st .counts .tests → (getD (p .tests) wanted noTest ≡ testAt s (st .found)) × Inside s (st .found)
-  fits : at ≤ length s
-  long : 6 * st .counts .rules ≤ length s
+  place : at ≡ fieldPlace s (checksPlace s (inHand st)) (st .counts .checks)
+  first : st .counts .tests ≡ 0 → st .counts .begun ≡ false → at ≡ fieldPlace s 0 (st .counts .rules)
+  before : p .tests ≡ map (testAt s) tests
+  each : (i : ℕ) → i < length tests → Inside s (extentOf tests i)
+  rules-in : Fields isRule s 0 (st .counts .rules)
   inside : Inside s (inHand st)
 
 inside-none : (s : List ℕ) (at : ℕ) → at ≤ length s → Inside s (extent at 0 0 0)
 inside-none s at h =
-    record { writes = omega arith; checks = λ i l. absurd (omega arith); initial-most = omega arith; main-most = omega arith; checks-most = omega arith }
+    record {
+      at = h;
+      initial = λ i l. absurd (omega arith);
+      main = λ i l. absurd (omega arith);
+      checks = λ i l. absurd (omega arith);
+      initial-most = omega arith;
+      main-most = omega arith;
+      checks-most = omega arith;
+    }
 
-tracks-start : (s : List ℕ) (wanted : ℕ) → Tracks s wanted 0 nothing started
-unfolding nothing started countsOf rulesAt writesAt checksAt checkPlace testAt tabulate
-tracks-start s wanted =
+tracks-start : (s : List ℕ) → Tracks s 0 nothing started []
+unfolding nothing started countsOf fieldsAt fieldPlace testAt tabulate
+tracks-start s =
     record {
       same = refl;
       within = record {
@@ -66,25 +84,11 @@ tracks-start s wanted =
       current = refl;
       place = refl;
       first = λ p q. refl;
-      before = λ h. absurd (omega arith);
-      fits = omega arith;
-      long = omega arith;
+      before = refl;
+      each = λ i l. absurd (omega arith);
+      rules-in = λ i l. absurd (omega arith);
       inside = inside-none s 0 (omega arith);
     }
-
--- ---- one more field in each list
-
-more-rules : (s : List ℕ) (at n : ℕ) → at ≡ 6 * n → rulesAt s n ++ (ruleOf (take 3 (drop (at + 3) s)) ∷ []) ≡ rulesAt s (n + 1)
-unfolding rulesAt ruleField tabulate
-more-rules s at n e = rw (e, add-one n)
-
-more-writes : (s : List ℕ) (from at n : ℕ) → at ≡ from + 13 * n → writesAt s from n ++ (writeOf (take 10 (drop (at + 3) s)) ∷ []) ≡ writesAt s from (n + 1)
-unfolding writesAt writeField tabulate
-more-writes s from at n e = rw (e, add-one n)
-
-more-checks : (s : List ℕ) (from at n : ℕ) → at ≡ checkPlace s from n → checksAt s from n ++ (checkOf (byte s at) (bodyAt s at) ∷ []) ≡ checksAt s from (n + 1)
-unfolding checksAt checkField tabulate
-more-checks s from at n e = rw (e, add-one n)
 
 pub counts-grown : (b : List ℕ) (p : Progress) (tag : ℕ) → isTag tag ≡ true → counted tag (countsOf p) ≡ countsOf (grown tag b p)
 unfolding countsOf grown counted
@@ -101,54 +105,55 @@ none-yet n e = let h = ltb-false 0 n e in omega arith
 
 -- ---- one more field of each kind
 
-module _ (s : List ℕ) (wanted at : ℕ) (p : Progress) (st : ScanState) (t : Tracks s wanted at p st) where
+module _ (s : List ℕ) (at : ℕ) (p : Progress) (st : ScanState) (tests : List Extent) (t : Tracks s at p st tests) where
   abbrev Goes : ℕ → Type 0
   Goes tag =
       byte s at ≡ tag → isTag tag ≡ true → outOfOrder tag (st .counts) ≡ false → Within (counted tag (st .counts)) → fieldEnd s at ≤ length s
-      → Tracks s wanted (fieldEnd s at) (grown tag (bodyAt s at) p) (advanced tag (fieldEnd s at) wanted st)
+      → Tracks s (fieldEnd s at) (grown tag (bodyAt s at) p) (advanced tag (fieldEnd s at) st) (found tag st tests)
 
   same-grown : (tag : ℕ) → isTag tag ≡ true → counted tag (st .counts) ≡ countsOf (grown tag (bodyAt s at) p)
   same-grown tag h = ap (counted tag) (t .same) ∙ counts-grown (bodyAt s at) p tag h
 
   on-rule : Goes 3
-  unfolding grown advanced counted testFrom found bodyLength outOfOrder testAt writesAt checksAt checkPlace tabulate
+  unfolding grown advanced counted testFrom found outOfOrder testAt ruleField isRule fieldPlace fieldsAt tabulate
   on-rule e h o w l =
       let q = or-none (st .counts .begun) (ltb 0 (st .counts .tests)) o in
       let none = t .within .none (q .0) in
-      let here : at ≡ 6 * st .counts .rules = t .first (none-yet _ (q .1)) (q .0) in
+      let here : at ≡ fieldPlace s 0 (st .counts .rules) = t .first (none-yet _ (q .1)) (q .0) in
       record {
         same = same-grown 3 h;
         within = w;
-        rules = rw (e, t .rules) (more-rules s at (st .counts .rules) here);
+        rules = rw (t .rules) (fields-more s 0 at (st .counts .rules) here ruleField);
         current = t .current ∙ rw (none .0, none .1, none .2);
-        place = rw (none .0, none .1, none .2) (omega arith);
-        first = λ a b. rw e (omega arith);
+        place = rw (none .0, none .1, none .2);
+        first = λ a b. next-place s 0 at (st .counts .rules) here;
         before = t .before;
-        fits = l;
-        long = let z : at + 3 + 3 ≤ length s = rw e at l in omega arith;
+        each = t .each;
+        rules-in = inside-more s 0 at (st .counts .rules) here isRule (t .rules-in) (rw e) l;
         inside = rw (none .0, none .1, none .2) (inside-none s (fieldEnd s at) l);
       }
 
   on-initial : Goes 1
-  unfolding grown advanced counted testFrom found bodyLength outOfOrder testAt checkPlace
+  unfolding grown advanced counted testFrom found outOfOrder testAt writeField isWrite fieldPlace fieldsAt tabulate
   on-initial e h o w l =
       let q = or-none (ltb 0 (st .counts .main)) (ltb 0 (st .counts .checks)) o in
       let m = none-yet (st .counts .main) (q .0) in
       let k = none-yet (st .counts .checks) (q .1) in
-      let at0 : at ≡ st .from + 13 * st .counts .initial + 13 * 0 = rw (m, k) at (t .place) in
-      let here : at ≡ st .from + 13 * st .counts .initial = omega arith in
+      let here : at ≡ fieldPlace s (st .from) (st .counts .initial) = rw (m, k) at (t .place) in
       record {
         same = same-grown 1 h;
         within = w;
         rules = t .rules;
-        current = rw (e, t .current, m, k, more-writes s (st .from) at (st .counts .initial) here) (unfold writesAt checksAt tabulate in refl);
-        place = rw (m, k, e) (omega arith);
+        current = rw (t .current, m, k) (ap (λ ws. test ws [] []) (fields-more s (st .from) at (st .counts .initial) here writeField));
+        place = rw (m, k) (next-place s (st .from) at (st .counts .initial) here);
         first = λ a b. absurd (true≢false b);
         before = t .before;
-        fits = l;
-        long = t .long;
+        each = t .each;
+        rules-in = t .rules-in;
         inside = record {
-          writes = rw m (let z : at + 3 + 10 ≤ length s = rw e at l in omega arith);
+          at = t .inside .at;
+          initial = inside-more s (st .from) at (st .counts .initial) here isWrite (t .inside .initial) (rw e) l;
+          main = rw m (λ i b. absurd (omega arith));
           checks = rw k (λ i b. absurd (omega arith));
           initial-most = w .initial;
           main-most = w .main;
@@ -157,22 +162,25 @@ module _ (s : List ℕ) (wanted at : ℕ) (p : Progress) (st : ScanState) (t : T
       }
 
   on-main : Goes 2
-  unfolding grown advanced counted testFrom found bodyLength outOfOrder testAt checkPlace
+  unfolding grown advanced counted testFrom found outOfOrder testAt writeField isWrite fieldPlace fieldsAt tabulate
   on-main e h o w l =
       let k = none-yet (st .counts .checks) o in
-      let at0 : at ≡ st .from + 13 * st .counts .initial + 13 * st .counts .main = rw k at (t .place) in
+      let here : at ≡ fieldPlace s (mainPlace s (inHand st)) (st .counts .main) = rw k at (t .place) in
       record {
         same = same-grown 2 h;
         within = w;
         rules = t .rules;
-        current = rw (e, t .current, k, more-writes s (st .from + 13 * st .counts .initial) at (st .counts .main) at0) (unfold checksAt tabulate in refl);
-        place = rw (k, e) (omega arith);
+        current = rw (t .current, k)
+            (ap (λ ws. test (writesAt s (st .from) (st .counts .initial)) ws []) (fields-more s (mainPlace s (inHand st)) at (st .counts .main) here writeField));
+        place = rw k (next-place s (mainPlace s (inHand st)) at (st .counts .main) here);
         first = λ a b. absurd (true≢false b);
         before = t .before;
-        fits = l;
-        long = t .long;
+        each = t .each;
+        rules-in = t .rules-in;
         inside = record {
-          writes = let z : at + 3 + 10 ≤ length s = rw e at l in omega arith;
+          at = t .inside .at;
+          initial = t .inside .initial;
+          main = inside-more s (mainPlace s (inHand st)) at (st .counts .main) here isWrite (t .inside .main) (rw e) l;
           checks = rw k (λ i b. absurd (omega arith));
           initial-most = w .initial;
           main-most = w .main;
@@ -181,56 +189,47 @@ module _ (s : List ℕ) (wanted at : ℕ) (p : Progress) (st : ScanState) (t : T
       }
 
   on-end : Goes 7
-  unfolding grown advanced counted testFrom found bodyLength outOfOrder testAt writesAt checksAt checkPlace tabulate
+  unfolding grown advanced counted testFrom found testAt fieldPlace fieldsAt tabulate
   on-end e h o w l =
       record {
         same = same-grown 7 h;
         within = w;
         rules = t .rules;
         current = refl;
-        place = omega arith;
+        place = refl;
         first = λ a b. absurd (omega arith);
-        before = λ b. go (eqb (st .counts .tests) wanted) refl b;
-        fits = l;
-        long = t .long;
+        before = rw (t .before, t .current) (sym (map-snoc (testAt s) tests (inHand st)));
+        each = λ i b. ⊎-elim
+            (λ (z : i ≡ length tests). rw (getD-at tests (inHand st) [] noExtent i (sym z)) (t .inside))
+            (λ (lt : i < length tests). rw (List·getD-append tests (inHand st ∷ []) noExtent i lt) (t .each i lt))
+            (below-suc i (length tests) (rw (length-append tests (inHand st ∷ []), add-one (length tests)) at b));
+        rules-in = t .rules-in;
         inside = inside-none s (fieldEnd s at) l;
       }
-    where
-      size : length (p .tests) ≡ st .counts .tests
-      size = unfold countsOf in sym (ap (λ (c : Counts). c .tests) (t .same))
-
-      go : (b : Bool) → eqb (st .counts .tests) wanted ≡ b → wanted < st .counts .tests + 1
-          → (getD (p .tests ++ (p .current ∷ [])) wanted noTest ≡ testAt s (cond b (inHand st) (st .found))) × Inside s (cond b (inHand st) (st .found))
-      go true q l = (getD-at (p .tests) (p .current) [] noTest wanted (size ∙ eqb-true _ _ q) ∙ t .current, t .inside)
-      go false q l =
-          let n = eqb-false _ _ q in
-          ⊎-elim (λ (z : wanted ≡ st .counts .tests). absurd (n (sym z)))
-          (λ (lt : wanted < st .counts .tests). let b : wanted < length (p .tests) = omega (arith, size) in (List·getD-append (p .tests) (p .current ∷ []) noTest wanted b ∙ t .before lt .0, t .before lt .1))
-          (eq-or-lt-of-le {n = wanted} {m = st .counts .tests} (omega arith))
 
   -- a check of any of the three forms
   on-check : (tag : ℕ) → byte s at ≡ tag → (c : Counts) → c ≡ counts (st .counts .rules) (st .counts .tests) true (st .counts .initial) (st .counts .main) (st .counts .checks + 1)
       → (p′ : Progress) → p′ ≡ progress (p .rules) (p .tests) true (test (p .current .initial) (p .current .main) (p .current .checks ++ (checkOf tag (bodyAt s at) ∷ [])))
       → c ≡ countsOf p′ → Within c → isCheck tag ≡ true → fieldEnd s at ≤ length s
-      → Tracks s wanted (fieldEnd s at) p′ (record { counts = c; from = st .from; found = st .found })
-  unfolding testAt checkPlace
+      → Tracks s (fieldEnd s at) p′ (record { counts = c; from = st .from }) tests
+  unfolding testAt checkField
   on-check tag e c ec p′ ep same w k l =
+      let from = checksPlace s (inHand st) in
       record {
         same = same;
         within = w;
         rules = rw (ep, ec) (t .rules);
-        current = rw (ep, ec, t .current, ← e, more-checks s (st .from + 13 * st .counts .initial + 13 * st .counts .main) at (st .counts .checks) (t .place));
-        place = rw (ec, add-one (st .counts .checks), ← t .place);
+        current = rw (ep, ec, t .current, ← e) (ap (λ cs. test (writesAt s (st .from) (st .counts .initial)) (writesAt s (mainPlace s (inHand st)) (st .counts .main)) cs) (fields-more s from at (st .counts .checks) (t .place) checkField));
+        place = rw ec (next-place s from at (st .counts .checks) (t .place));
         first = λ a b. absurd (true≢false (rw ec at b));
-        before = rw (ep, ec) (t .before);
-        fits = l;
-        long = rw ec (t .long);
+        before = rw ep (t .before);
+        each = t .each;
+        rules-in = rw ec (t .rules-in);
         inside = rw ec (record {
-          writes = t .inside .writes;
-          checks = λ i b. ⊎-elim
-              (λ (z : i ≡ st .counts .checks). rw (z, ← t .place) (rw e k, l))
-              (λ (lt : i < st .counts .checks). t .inside .checks i lt)
-              (eq-or-lt-of-le {n = i} {m = st .counts .checks} (omega arith));
+          at = t .inside .at;
+          initial = t .inside .initial;
+          main = t .inside .main;
+          checks = inside-more s from at (st .counts .checks) (t .place) isCheck (t .inside .checks) (rw e k) l;
           initial-most = rw ec at (w .initial);
           main-most = rw ec at (w .main);
           checks-most = rw ec at (w .checks);
@@ -246,45 +245,39 @@ module _ (s : List ℕ) (wanted at : ℕ) (p : Progress) (st : ScanState) (t : T
       (λ e h o w l. on-check 6 e _ refl _ refl (same-grown 6 h) w refl l)
       on-end
 
-  tracks-on : faultOf s at (st .counts) ≡ 0 → Tracks s wanted (fieldEnd s at) (grown (byte s at) (bodyAt s at) p) (advanced (byte s at) (fieldEnd s at) wanted st)
+  tracks-on : faultOf s at (st .counts) ≡ 0 → Tracks s (fieldEnd s at) (grown (byte s at) (bodyAt s at) p) (advanced (byte s at) (fieldEnd s at) st) (found (byte s at) st tests)
   tracks-on z =
       let k = clean s at (st .counts) z in
       goes (byte s at) (k .tag) refl (k .tag) (k .order) (within-counted (st .counts) (t .within) (byte s at) (k .tag) (k .limit)) (clean-fits s at (st .counts) k)
 
-  tells-end : Tells s wanted (finished s p) (ended (length s) st)
+  tells-end : Tells s (finished s p) (ended (length s) st tests)
   unfolding finished ended Tells
   tells-end = go (p .begun) (st .counts .begun) (unfold countsOf in ap (λ (c : Counts). c .begun) (t .same))
     where
-      size : length (p .tests) ≡ st .counts .tests
-      size = unfold countsOf in sym (ap (λ (c : Counts). c .tests) (t .same))
-
       go : (b d : Bool) → d ≡ b
-          → Tells s wanted (cond b (refused 7 (length s)) (answer (file (p .rules) (p .tests)))) (cond d (Refused 7 (length s)) (Accepted (st .counts .rules) (st .counts .tests) (st .found)))
+          → Tells s (cond b (refused 7 (length s)) (answer (file (p .rules) (p .tests)))) (cond d (refused 7 (length s)) (answer (places (st .counts .rules) tests)))
       go true true e = refl
-      go false false e = (file (p .rules) (p .tests), refl, t .rules, size, t .long, t .before)
+      go false false e = (file (p .rules) (p .tests), refl, t .rules, t .before, t .rules-in, t .each)
       go true false e = absurd (false≢true e)
       go false true e = absurd (true≢false e)
 
-tells-from : (f : ℕ) (s : List ℕ) (wanted at : ℕ) (p : Progress) (st : ScanState) → Tracks s wanted at p st
-    → Tells s wanted (readFrom f s at p) (scanFrom f s wanted at st)
+tells-from : (f : ℕ) (s : List ℕ) (at : ℕ) (p : Progress) (st : ScanState) (tests : List Extent) → Tracks s at p st tests
+    → Tells s (readFrom f s at p) (scanFrom f s at st tests)
 unfolding readFrom scanFrom
-tells-from zero s wanted at p st t = unfold Tells in refl
-tells-from (suc f) s wanted at p st t =
+tells-from zero s at p st tests t = unfold Tells in refl
+tells-from (suc f) s at p st tests t =
     rw (ap (faultOf s at) (t .same))
-    (go (ltb at (length s)) (eqb (faultOf s at (countsOf p)) 0) refl (λ z. tells-from f s wanted _ _ _ (tracks-on s wanted at p st t (ap (faultOf s at) (t .same) ∙ z))))
+    (go (ltb at (length s)) (eqb (faultOf s at (countsOf p)) 0) refl (λ z. tells-from f s _ _ _ _ (tracks-on s at p st tests t (ap (faultOf s at) (t .same) ∙ z))))
   where
     go : (b d : Bool) → eqb (faultOf s at (countsOf p)) 0 ≡ d
-        → (faultOf s at (countsOf p) ≡ 0 → Tells s wanted (readFrom f s (fieldEnd s at) (grown (byte s at) (bodyAt s at) p)) (scanFrom f s wanted (fieldEnd s at) (advanced (byte s at) (fieldEnd s at) wanted st)))
-        → Tells s wanted
+        → (faultOf s at (countsOf p) ≡ 0 → Tells s (readFrom f s (fieldEnd s at) (grown (byte s at) (bodyAt s at) p)) (scanFrom f s (fieldEnd s at) (advanced (byte s at) (fieldEnd s at) st) (found (byte s at) st tests)))
+        → Tells s
         (cond b (cond d (readFrom f s (fieldEnd s at) (grown (byte s at) (bodyAt s at) p)) (refused (faultOf s at (countsOf p)) at)) (finished s p))
-        (cond b (cond d (scanFrom f s wanted (fieldEnd s at) (advanced (byte s at) (fieldEnd s at) wanted st)) (Refused (faultOf s at (countsOf p)) at)) (ended (length s) st))
-    go false d e ih = tells-end s wanted at p st t
+        (cond b (cond d (scanFrom f s (fieldEnd s at) (advanced (byte s at) (fieldEnd s at) st) (found (byte s at) st tests)) (refused (faultOf s at (countsOf p)) at)) (ended (length s) st tests))
+    go false d e ih = tells-end s at p st tests t
     go true true e ih = ih (eqb-true _ _ e)
     go true false e ih = unfold Tells in refl
 
 pub tells : Told
 unfolding readOf scanOf
-tells s wanted = tells-from (suc (length s)) s wanted 0 nothing started (tracks-start s wanted)
-
-pub tells-of : (s : List ℕ) (wanted : ℕ) (r : Scan) → r ≡ scanOf s wanted → Tells s wanted (readOf s) r
-tells-of s wanted r e = rw e (tells s wanted)
+tells s = tells-from (suc (length s)) s 0 nothing started [] (tracks-start s)

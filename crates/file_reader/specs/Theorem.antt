@@ -16,6 +16,6 @@ WithinLimits = (s : List ℕ) → Limited s (readOf s)
 abbrev pub PrefixEnough : Type 0
 PrefixEnough = (s : List ℕ) (n : ℕ) → longest + longestField ≤ n → n ≤ length s → readOf (take n s) ≡ readOf s
 
--- the scan, which keeps counts and places only, tells what the file holds, or its refusal
+-- the scan, which keeps counts and places only, tells where all that the file holds stands, or its refusal
 abbrev pub Told : Type 0
-Told = (s : List ℕ) (wanted : ℕ) → Tells s wanted (readOf s) (scanOf s wanted)
+Told = (s : List ℕ) → Tells s (readOf s) (scanOf s)

@@ -3,15 +3,16 @@ use file_format::Counts;
 use file_format::Extent;
 use file_format::Scan;
 use file_format::ScanState;
+use file_format::Scanned;
+use model::Refusal;
 ghost use mathlib.Core.Path.{_≡_};
 ghost use mathlib.Core.Bool.{_&&_};
 ghost use Prim.Native.Nat.{_-_};
 ghost use lib.Dec.{leb};
-ghost use lib.ListN.{length};
-ghost use Rattle.file_format.specs.Scan.{counted, testFrom, found, advanced, ended, scanOf};
+ghost use lib.ListN.{take};
+ghost use Rattle.file_format.specs.Scan.{counted, testFrom, inHand, advanced, ended, scanOf};
+ghost use Rattle.file_format.specs.Held.{Scans};
 ghost use Rattle.file_reader.specs.Limits.{Within};
-ghost use Rattle.file_format.specs.Held.{Tells};
-ghost use Rattle.file_format.specs.File.{readOf};
 
 // The counts after one more field.
 fn count_field(tag: u8, c: Counts) -> Counts
@@ -80,59 +81,53 @@ fn begin_at(tag: u8, from: usize, next: usize) -> usize
     from
 }
 
-fn find_test(tag: u8, wanted: usize, st: ScanState) -> Extent
-    ensures { λ r. ⌜ r ≡ found tag wanted st ⌝ }
+// Where the test in hand stands.
+fn in_hand(st: ScanState) -> Extent
+    ensures { λ r. ⌜ r ≡ inHand st ⌝ }
 {
     let c = st.counts;
-    let before = st.found;
-    if tag == 7 {
-        if c.tests == wanted {
-            return Extent {
-                at: st.from,
-                initial: c.initial,
-                main: c.main,
-                checks: c.checks,
-            };
-        }
-        return before;
+    Extent {
+        at: st.from,
+        initial: c.initial,
+        main: c.main,
+        checks: c.checks,
     }
-    before
 }
 
-fn advance(tag: u8, next: usize, wanted: usize, st: ScanState) -> ScanState
+fn advance(tag: u8, next: usize, st: ScanState) -> ScanState
     requires { ⌜ Within (st .counts) ⌝ }
-    ensures { λ r. ⌜ r ≡ advanced tag next wanted st ⌝ }
+    ensures { λ r. ⌜ r ≡ advanced tag next st ⌝ }
 {
     let c = st.counts;
     ScanState {
         counts: count_field(tag, c),
         from: begin_at(tag, st.from, next),
-        found: find_test(tag, wanted, st),
     }
 }
 
-fn end_scan(length: usize, st: ScanState) -> Scan
-    ensures { λ r. ⌜ r ≡ ended length st ⌝ }
+fn end_scan(length: usize, tests: [Extent; model::MOST_TESTS], st: ScanState) -> Scanned
+    requires { ⌜ Within (st .counts) ⌝ }
+    ensures { λ r. ⌜ Scans (ended length st (take (st .counts .tests) tests)) r ⌝ }
 {
     let c = st.counts;
-    let found = st.found;
     if c.begun {
-        return Scan::Refused {
+        let why = Refusal {
             number: 7,
             place: length,
         };
+        let scan = Scan::Refused(why);
+        return Scanned { scan, tests };
     }
-    Scan::Accepted {
+    let scan = Scan::Accepted {
         rules: c.rules,
         tests: c.tests,
-        found,
-    }
+    };
+    Scanned { scan, tests }
 }
 
-// Reads a file: how many rules and tests it holds and where test `wanted`, counted from 0, stands;
-// or the refusal.
-pub fn read(s: &[u8], wanted: usize) -> Scan
-    ensures { λ r. ⌜ (r ≡ scanOf (now (s .entry)) wanted) × Tells (now (s .entry)) wanted (readOf (now (s .entry))) r ⌝ }
+// Reads a file: how many rules it holds and where its tests stand, or the refusal.
+pub fn read(s: &[u8]) -> Scanned
+    ensures { λ r. ⌜ Scans (scanOf (now (s .entry))) r ⌝ }
 {
     let mut st = ScanState {
         counts: Counts {
@@ -144,26 +139,31 @@ pub fn read(s: &[u8], wanted: usize) -> Scan
             checks: 0,
         },
         from: 0,
-        found: Extent {
-            at: 0,
-            initial: 0,
-            main: 0,
-            checks: 0,
-        },
     };
+    let mut tests = [Extent {
+        at: 0,
+        initial: 0,
+        main: 0,
+        checks: 0,
+    }; model::MOST_TESTS];
     let mut at = 0;
     while at < s.len() {
         let c = st.counts;
         let number = file_faults::fault(s, at, c);
         if number != 0 {
-            return Scan::Refused { number, place: at };
+            let why = Refusal { number, place: at };
+            let scan = Scan::Refused(why);
+            return Scanned { scan, tests };
         }
         let tag = s[at];
-        let next = at + 3 + file_format::body_length(tag);
-        st = advance(tag, next, wanted, st);
+        let next = at + file_format::HEAD_LENGTH + file_format::body_length(tag);
+        // The test in hand has its place behind the finished ones; its end makes it one of these.
+        let t = c.tests;
+        tests[t] = in_hand(st);
+        st = advance(tag, next, st);
         at = next;
     }
-    end_scan(s.len(), st)
+    end_scan(s.len(), tests, st)
 }
 
 // Test numbers count from 1; the reader's from 0.

@@ -7,6 +7,7 @@ use Prim.Native.Nat.{ℕ}
 use native.Mathlib.Omega.{arith}
 use lib.Dec.{ltb}
 use lib.ListN.{length}
+use Rattle.model.specs.Limits.{mostCandidates}
 use Rattle.model.specs.declared.Rule.{Rule}
 use Rattle.model.specs.Answer.{Outcome, answer, refused}
 use Rattle.model.specs.Test.{Test, File}
@@ -16,7 +17,7 @@ use Rattle.file_format.specs.File.{readOf}
 use Rattle.file_reader.proofs.CallerLaws.{refused-limits}
 use Rattle.find_laws.proofs.CandidateLaws.{collected}
 use Rattle.find_laws.proofs.ChosenLaws.{given, refused as unmet}
-use Rattle.find_call.specs.Finder.{Found, found, over, wrote, findAmong, findIn, findOf}
+use Rattle.find_call.specs.Finder.{foundLength, Found, found, over, wrote, findAmong, findIn, findOf}
 use Rattle.find_call.specs.Theorem.{FindsSmallest, Wanting, RefusalLeaves}
 
 -- ---- outcomes told apart
@@ -76,14 +77,14 @@ module _ (tests : List Test) (buffer : List ℕ) where
   right-among : Right (findAmong tests buffer)
   unfolding findAmong
   right-among =
-      right-cond (ltb 16 (length (candidatesOf tests))) _ _ (other 11 (λ (e : 11 ≡ 13). absurd (omega arith)))
+      right-cond (ltb mostCandidates (length (candidatesOf tests))) _ _ (other 11 (λ (e : 11 ≡ 13). absurd (omega arith)))
       (right-wrote (chosen tests (candidatesOf tests)) refl)
 
 right-file : (f : File) (buffer : List ℕ) → Right (f .tests) buffer (findIn (answer f) buffer)
 unfolding findIn
 right-file f buffer =
     right-cond (f .tests) buffer (ltb 0 (length (f .rules))) _ _ (other (f .tests) buffer 10 (λ (e : 10 ≡ 13). absurd (omega arith)))
-    (right-cond (f .tests) buffer (ltb (length buffer) 96) _ _ (other (f .tests) buffer 12 (λ (e : 12 ≡ 13). absurd (omega arith)))
+    (right-cond (f .tests) buffer (ltb (length buffer) foundLength) _ _ (other (f .tests) buffer 12 (λ (e : 12 ≡ 13). absurd (omega arith)))
     (right-among (f .tests) buffer))
 
 -- ---- all files

@@ -1,16 +1,24 @@
 -- Finding rules for a file's tests.
-use Prim.Native.Nat.{ℕ}
+use Prim.Native.Nat.{ℕ, _+_, _*_}
 use mathlib.Core.Bool.{cond}
 use mathlib.Core.List.{List, [], _∷_, _++_}
 use mathlib.Core.Option.{Option, none, some}
 use lib.Dec.{ltb}
 use lib.ListN.{length, drop}
+use Rattle.model.specs.Limits.{mostCandidates}
 use Rattle.model.specs.declared.Rule.{Rule}
 use Rattle.model.specs.Answer.{Outcome, answer, refused, coded}
 use Rattle.model.specs.Test.{Test, File}
 use Rattle.model.specs.Find.{candidatesOf, picked, chosen}
 use Rattle.file_format.specs.Encode.{ruleFields}
-use Rattle.file_format.specs.File.{readOf}
+use Rattle.file_format.specs.File.{headLength, ruleLength, readOf}
+
+-- the bytes of a rule's field, and those that a buffer has to have: room for all candidates
+abbrev pub fieldLength : ℕ
+fieldLength = headLength + ruleLength
+
+abbrev pub foundLength : ℕ
+foundLength = mostCandidates * fieldLength
 
 -- what a call leaves: its outcome and its buffer
 pub record Found : Type 0 where
@@ -29,21 +37,21 @@ unfoldable pub wrote : List Rule → Option ℕ → List ℕ → Found
 wrote candidates none buffer = found (refused 13 0) buffer
 wrote candidates (some m) buffer = found (answer (length (picked candidates m))) (over (ruleFields (picked candidates m)) buffer)
 
--- 11 over 16 candidates
+-- 11 more candidates than there may be
 unfoldable pub findAmong : List Test → List ℕ → Found
 findAmong tests buffer =
     let candidates = candidatesOf tests in
     let choice = chosen tests candidates in
     let done = wrote candidates choice buffer in
-    cond (ltb 16 (length candidates)) (found (refused 11 0) buffer) done
+    cond (ltb mostCandidates (length candidates)) (found (refused 11 0) buffer) done
 
--- 10 file has rules; 12 buffer under 96 bytes
+-- 10 file has rules; 12 buffer without room for all candidates
 unfoldable pub findIn : Outcome File → List ℕ → Found
 findIn (refused number place) buffer = found (refused number place) buffer
 findIn (answer f) buffer =
     let done = findAmong (f .tests) buffer in
     cond (ltb 0 (length (f .rules))) (found (refused 10 0) buffer)
-    (cond (ltb (length buffer) 96) (found (refused 12 0) buffer)
+    (cond (ltb (length buffer) foundLength) (found (refused 12 0) buffer)
     done)
 
 unfoldable pub findOf : List ℕ → List ℕ → Found
@@ -61,5 +69,5 @@ unfoldable pub foundCoded : Found → Coded
 foundCoded f = findLeaves (coded (f .outcome)) (f .buffer)
 
 -- a rule's field
-unfoldable pub ruleBlock : Rule → List ℕ
-ruleBlock r = 3 ∷ 0 ∷ 3 ∷ r .first ∷ r .predicate ∷ r .second ∷ []
+unfoldable pub ruleFieldBytes : Rule → List ℕ
+ruleFieldBytes r = 3 ∷ 0 ∷ ruleLength ∷ r .first ∷ r .predicate ∷ r .second ∷ []

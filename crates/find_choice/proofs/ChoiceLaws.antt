@@ -1,24 +1,27 @@
 -- The choice from the table: set by set it is `chosenBelow`, and the sets that pass are the sufficient ones, by `hits`.
-use mathlib.Core.Path.{_≡_, refl, sym, ap, _∙_}
+use mathlib.Core.Path.{_≡_, refl, sym, ap, subst, _∙_}
+use mathlib.Core.Logic.{inl, inr, ⊎-elim}
 use mathlib.Core.Bool.{Bool, true, false, cond, not, _&&_, and-true, and-false}
 use mathlib.Core.List.{List}
 use mathlib.Core.Option.{Option, none, some}
-use Prim.Native.Nat.{ℕ, zero, suc, _+_, _-_, _*_, _%_, _^_, _≤_, _<_}
-use native.Mathlib.Nat.{one-mul, lt-of-lt-of-le}
+use Prim.Native.Nat.{ℕ, zero, suc, _+_, _-_, _*_, _/_, _%_, _^_, _≤_, _<_}
+use native.Mathlib.Nat.{one-mul, lt-of-lt-of-le, add-zero, mod-lt}
 use native.Mathlib.Numerals.{add-one}
 use native.Mathlib.Omega.{arith}
 use lib.Bits.{bitOr, bitXor, or-add-and, xor-add-and}
 use lib.Count.{ones, ones-ones, ones-le}
-use lib.Dec.{eqb, leb}
+use lib.Dec.{eqb, leb, ltb, lit<}
 use lib.ListN.{length, getD}
 use lib.Pow.{pow-mono, pow-pos}
 use lib.Seq.{length-take-le}
-use borrow.Author.Tests.{le-leb, lt-leb, eq-eqb, ne-eqb, not-true, not-false}
+use borrow.Author.Tests.{ltb-true, ltb-false, lt-ltb, le-ltb, le-leb, lt-leb, eqb-true, not-true, not-false}
 use Rattle.relation.specs.Bits.{bit, withBit}
 use Rattle.relation.specs.Lists.{all, anyBelow}
 use Rattle.relation.proofs.BitLaws.{or-bit}
+use Rattle.relation.proofs.UnionLaws.{bit-ones}
 use Rattle.relation.proofs.ListLaws.{and-left, and-right, anyBelow-true, anyBelow-intro}
-use Rattle.relation.proofs.WithoutLaws.{bit-most, ones-without}
+use Rattle.relation.proofs.WithoutLaws.{bit-most, ones-without, ones-upper}
+use Rattle.model.specs.Limits.{mostRules, mostCandidates, candidateSets}
 use Rattle.model.specs.declared.Rule.{Rule}
 use Rattle.model.specs.Cyclic.{cyclic}
 use Rattle.model.specs.Test.{Test, testHolds}
@@ -29,9 +32,9 @@ use Rattle.find_laws.specs.Hit.{marked, spread}
 use Rattle.find_laws.proofs.ChosenLaws.{chosen-fewest}
 use Rattle.find_laws.proofs.HitLaws.{hits}
 use Rattle.find_laws.proofs.PartLaws.{cyclic-without}
-use Rattle.find_table.specs.Table.{Shows, Spreads}
-use Rattle.find_choice.specs.Choice.{passing, spare, better, choiceCode}
-use Rattle.find_table.proofs.SetLaws.{total-sets}
+use Rattle.find_table.specs.Table.{markAt, Shows, Spreads}
+use Rattle.find_choice.specs.Choice.{passing, spare, better, choiceCode, Hopeless}
+use Rattle.find_table.proofs.ForbidLaws.{power}
 
 -- ---- better_of
 
@@ -40,18 +43,18 @@ module _ (table : List ℕ) (cs : List Rule) (m best : ℕ) where
   unfolding better
   better-more h = rw (lt-leb (ones m) (ones best) h)
 
-  pub better-marked : getD table m 0 ≡ 1 → best ≡ better (passing table cs) m best
+  pub better-marked : (b : Bool) → b ≡ markAt table m → b ≡ true → best ≡ better (passing table cs) m best
   unfolding better passing
-  better-marked e = rw (eq-eqb (getD table m 0) 1 e, and-false (not (cyclic (picked cs m))), and-false (leb (ones m) (ones best)))
+  better-marked b e t = rw (← e, t, and-false (not (cyclic (picked cs m))), and-false (leb (ones m) (ones best)))
 
   module _ (set : Rules) (b : Bool) (q : rulesOf set ≡ picked cs m) (e : b ≡ cyclic (rulesOf set)) where
     pub better-cyclic : b ≡ true → best ≡ better (passing table cs) m best
     unfolding better passing
     better-cyclic t = rw (← q, ← e, t, and-false (leb (ones m) (ones best)))
 
-    pub better-yes : ones m ≤ ones best → (getD table m 0 ≡ 1 → ⊥) → b ≡ false → m ≡ better (passing table cs) m best
+    pub better-yes : (d : Bool) → ones m ≤ ones best → d ≡ markAt table m → d ≡ false → b ≡ false → m ≡ better (passing table cs) m best
     unfolding better passing
-    better-yes h n f = rw (le-leb (ones m) (ones best) h, ← q, ← e, f, ne-eqb (getD table m 0) 1 n)
+    better-yes d h n z f = rw (le-leb (ones m) (ones best) h, ← q, ← e, f, ← n, z)
 
 -- ---- is_spare, has_spare
 
@@ -60,29 +63,29 @@ module _ (table : List ℕ) (m i : ℕ) (b : Bool) (e : b ≡ bit m i) where
   unfolding spare
   spare-not t = rw (← e, not-true b t)
 
-  module _ (t : not b ≡ false) (few : i < 16) where
-    abbrev power : ℕ
-    power = 1 * 2 ^ i % 18446744073709551616
+  module _ (t : not b ≡ false) (few : i < mostCandidates) where
+    abbrev flag : ℕ
+    flag = 1 * 2 ^ i % 18446744073709551616
 
     set : bit m i ≡ true
     set = sym e ∙ not-false b t
 
     -- a flag that is set is taken away by turning it over
-    less-is : bitXor m power ≡ m - 2 ^ i
+    less-is : bitXor m flag ≡ m - 2 ^ i
     unfolding withBit
     less-is =
         let whole : bitOr m (2 ^ i) ≡ m = rw (one-mul (2 ^ i)) at (or-bit m i) ∙ rw set in
         let both = or-add-and m (2 ^ i) in
         let rest = xor-add-and m (2 ^ i) in
         let most = bit-most m i set in
-        rw (total-sets i (omega arith)) (omega arith)
+        rw (power i (omega arith)) (omega arith)
 
-    pub spare-within : m < 65536 → bitXor m power < 65536
+    pub spare-within : m < candidateSets → bitXor m flag < candidateSets
     spare-within h = rw less-is (omega arith)
 
-    pub spare-is : not (eqb (getD table (bitXor m power) 0) 1) ≡ spare table m i
+    pub spare-is : (d : Bool) → d ≡ markAt table (bitXor m flag) → not d ≡ spare table m i
     unfolding spare
-    spare-is = rw (less-is, set)
+    spare-is d k = rw (k, less-is, set)
 
 module _ (table : List ℕ) (m : ℕ) where
   pub spares-begun : anyBelow (spare table m) 0 ≡ false
@@ -132,13 +135,13 @@ module _ (p : ℕ → Bool) where
   unfolding choiceCode chosenBelow
   chosen-begun = refl
 
-  pub chosen-more : (m best next : ℕ) → best ≡ choiceCode (chosenBelow p m) → m < 65536 → next ≡ better p m best → next ≡ choiceCode (chosenBelow p (m + 1))
+  pub chosen-more : (m best next : ℕ) → best ≡ choiceCode (chosenBelow p m) → m < candidateSets → next ≡ better p m best → next ≡ choiceCode (chosenBelow p (m + 1))
   unfolding chosenBelow better preferred choiceCode
   chosen-more m best next e h q = q ∙ rw (add-one m, e) (go (p m) (chosenBelow p m))
     where
       least : leb (ones m) (ones 18446744073709551615) ≡ true
       least =
-          let a = ones-le 16 m h in
+          let a = ones-le mostCandidates m h in
           let b : ones 18446744073709551615 ≡ 64 = ones-ones 64 in
           le-leb (ones m) (ones 18446744073709551615) (omega arith)
 
@@ -151,8 +154,77 @@ module _ (p : ℕ → Bool) where
       go true none = rw least
       go true (some k) = rw (and-true (leb (ones m) (ones k))) (pick (leb (ones m) (ones k)) k)
 
+  -- numbers that change nothing
+  pub chosen-same : (d m best : ℕ) → best ≡ choiceCode (chosenBelow p m) → m + d ≤ candidateSets → ((k : ℕ) → m ≤ k → k < m + d → best ≡ better p k best)
+      → best ≡ choiceCode (chosenBelow p (m + d))
+  chosen-same zero m best e h f = rw (add-zero m) e
+  chosen-same (suc d) m best e h f =
+      let r = chosen-same d m best e (omega arith) (λ k a b. f k a (omega arith)) in
+      let z : m + suc d ≡ m + d + 1 = omega arith in
+      rw z (chosen-more (m + d) best best r (omega arith) (f (m + d) (omega arith) (omega arith)))
+
+  pub chosen-end : (m best end : ℕ) → best ≡ choiceCode (chosenBelow p m) → m ≤ end → end ≤ m → best ≡ choiceCode (chosenBelow p end)
+  chosen-end m best end e h l = let z : m ≡ end = omega arith in rw z at e
+
   pub chosen-done : (m best total n : ℕ) → best ≡ choiceCode (chosenBelow p m) → total ≡ 2 ^ n → m ≤ total → total ≤ m → best ≡ choiceCode (chosenBelow p (2 ^ n))
   chosen-done m best total n e t h l = let z : m ≡ 2 ^ n = omega arith in rw z at e
+
+-- ---- is_marked, is_hopeless
+
+pub marked-is : (table : List ℕ) (m : ℕ) (b : Bool) → b ≡ bit (getD table (m / 64) 0) (m % 64) → b ≡ markAt table m
+unfolding markAt
+marked-is table m b e = e
+
+module _ (table : List ℕ) (word best : ℕ) where
+  pub hopeless-more : ones best < ones word → Hopeless table word best true
+  hopeless-more h = record { each = λ t m e. let u : ones (m / 2 ^ 6) ≤ ones m = ones-upper m 6 in let z : ones (m / 64) ≡ ones word = ap ones e in inl (omega arith) }
+
+  pub hopeless-full : Hopeless table word best (eqb (getD table word 0) 18446744073709551615)
+  unfolding markAt
+  hopeless-full =
+      record { each = λ t m e. inr (rw (e, eqb-true (getD table word 0) 18446744073709551615 t) (bit-ones 64 (m % 64) (mod-lt m {m = 64} (lit< tt)))) }
+
+-- ---- the sets of a word
+
+pub least-first : (a b : ℕ) → a < b → a ≡ cond (ltb a b) a b
+least-first a b h = rw (lt-ltb a b h)
+
+pub least-second : (a b : ℕ) → b ≤ a → b ≡ cond (ltb a b) a b
+least-second a b h = rw (le-ltb a b h)
+
+module _ (m total end : ℕ) (h : m < total) (e : end ≡ cond (ltb (m / 64 * 64 + 64) total) (m / 64 * 64 + 64) total) where
+  bounds : (m < end) × (end ≤ total) × (end ≤ m / 64 * 64 + 64)
+  bounds = go (ltb (m / 64 * 64 + 64) total) refl e
+    where
+      go : (b : Bool) → ltb (m / 64 * 64 + 64) total ≡ b → end ≡ cond b (m / 64 * 64 + 64) total → (m < end) × (end ≤ total) × (end ≤ m / 64 * 64 + 64)
+      go true t q = let l = ltb-true (m / 64 * 64 + 64) total t in (omega arith, omega arith, omega arith)
+      go false t q = let l = ltb-false (m / 64 * 64 + 64) total t in (omega arith, omega arith, omega arith)
+
+  pub word-past : m < end
+  word-past = bounds .0
+
+  pub word-to : m ≤ end
+  word-to = let l = bounds .0 in omega arith
+
+  pub word-most : end ≤ total
+  word-most = bounds .1
+
+  pub word-few : total ≤ candidateSets → end ≤ candidateSets
+  word-few k = let l = bounds .1 in omega arith
+
+  pub word-less : total - end < total - m
+  word-less = let a = bounds .0 in let b = bounds .1 in omega arith
+
+  pub word-hopeless : (table : List ℕ) (cs : List Rule) (best : ℕ) (b : Bool) → total ≤ candidateSets → best ≡ choiceCode (chosenBelow (passing table cs) m)
+      → Hopeless table (m / 64) best b → b ≡ true → best ≡ choiceCode (chosenBelow (passing table cs) end)
+  word-hopeless table cs best b few q p t =
+      let l = bounds in let a = l .0 in let c = l .1 in let d = l .2 in
+      let z : m + (end - m) ≡ end = omega arith in
+      subst (λ (k : ℕ). best ≡ choiceCode (chosenBelow (passing table cs) k)) z
+      (chosen-same (passing table cs) (end - m) m best q (omega arith) (λ k i j. ⊎-elim
+      (λ (more : ones best < ones k). better-more table cs k best more)
+      (λ (mark : markAt table k ≡ true). better-marked table cs k best true (sym mark) refl)
+      (p .each t k (omega arith))))
 
 chosen-ext : (p q : ℕ → Bool) (n : ℕ) → ((k : ℕ) → k < n → p k ≡ q k) → chosenBelow p n ≡ chosenBelow q n
 unfolding chosenBelow
@@ -162,20 +234,20 @@ chosen-ext p q (suc n) h = rw (h n (omega arith), chosen-ext p q n (λ k l. h k 
 -- ---- choice
 
 module _ (tests : List Test) (cands : Rules) (first table : List ℕ) where
-  pub choice-is : (r : ℕ) → Shows (marked (rulesOf cands) tests) first 65536 → Spreads (cands .count) (cands .count) first table
-      → r ≡ choiceCode (chosenBelow (passing table (rulesOf cands)) (2 ^ cands .count)) → length (cands .items) ≡ 32 → cands .count ≤ 16
+  pub choice-is : (r : ℕ) → Shows (marked (rulesOf cands) tests) first candidateSets → Spreads (cands .count) (cands .count) first table
+      → r ≡ choiceCode (chosenBelow (passing table (rulesOf cands)) (2 ^ cands .count)) → length (cands .items) ≡ mostRules → cands .count ≤ mostCandidates
       → r ≡ choiceCode (chosen tests (rulesOf cands))
   unfolding chosen passing suffices
   choice-is r o k e whole few =
       let cs = rulesOf cands in
       let n = cands .count in
       let held : length cs ≡ n = length-take-le n (cands .items) (omega arith) in
-      let most : 2 ^ n ≤ 65536 = pow-mono {i = n} {j = 16} few in
+      let most : 2 ^ n ≤ candidateSets = pow-mono {i = n} {j = mostCandidates} few in
       let shown = k .shows (marked cs tests) (record { size = o .size; at = λ x h. o .at x (lt-of-lt-of-le h most) }) in
       e
       ∙ ap choiceCode
       (chosen-ext
-      (λ m. not (cyclic (picked cs m)) && not (eqb (getD table m 0) 1))
+      (λ m. not (cyclic (picked cs m)) && not (markAt table m))
       (λ m. not (cyclic (picked cs m)) && all (testHolds (picked cs m)) tests)
       (2 ^ n)
       (λ m h. ap (λ (b : Bool). not (cyclic (picked cs m)) && b)

@@ -7,6 +7,7 @@ use native.Mathlib.Omega.{arith}
 use lib.Dec.{leb}
 use borrow.Author.Tests.{leb-true, leb-false}
 use lib.ListN.{length, length-append, take-append-drop, getD, take, drop}
+use Rattle.model.specs.Limits.{mostCandidates}
 use Rattle.model.specs.declared.Rule.{Rule}
 use Rattle.model.specs.Find.{before, inserted}
 use Rattle.rule_match.specs.declared.Rules.{Rules}
@@ -63,17 +64,17 @@ inserted-longer r (q ∷ qs) = go (before r q) (before q r) (inserted-longer r q
 
 -- ---- what is held
 
-pub keeps-all : (l : List Rule) (c : Rules) → rulesOf c ≡ l → c .count ≡ length l → c .count ≤ 17 → Keeps l c
+pub keeps-all : (l : List Rule) (c : Rules) → rulesOf c ≡ l → c .count ≡ length l → c .count ≤ mostCandidates + 1 → Keeps l c
 keeps-all l c e n h = record { few = h; count = λ s. n; same = λ s. e; over = λ s. omega arith }
 
 -- up to 16 rules all are held
-module _ (l : List Rule) (c : Rules) (k : Keeps l c) (h : c .count ≤ 16) where
-  pub keeps-short : length l ≤ 16
-  keeps-short = go (leb (length l) 16) refl
+module _ (l : List Rule) (c : Rules) (k : Keeps l c) (h : c .count ≤ mostCandidates) where
+  pub keeps-short : length l ≤ mostCandidates
+  keeps-short = go (leb (length l) mostCandidates) refl
     where
-      go : (b : Bool) → leb (length l) 16 ≡ b → length l ≤ 16
-      go true e = leb-true (length l) 16 e
-      go false e = let o = k .over (leb-false (length l) 16 e) in absurd (omega arith)
+      go : (b : Bool) → leb (length l) mostCandidates ≡ b → length l ≤ mostCandidates
+      go true e = leb-true (length l) mostCandidates e
+      go false e = let o = k .over (leb-false (length l) mostCandidates e) in absurd (omega arith)
 
   pub keeps-same : rulesOf c ≡ l
   keeps-same = k .same keeps-short
@@ -82,18 +83,18 @@ module _ (l : List Rule) (c : Rules) (k : Keeps l c) (h : c .count ≤ 16) where
   keeps-count = k .count keeps-short
 
 -- more than 16 are more than 16
-pub keeps-long : (l : List Rule) (c : Rules) → Keeps l c → 16 < c .count → 16 < length l
-keeps-long l c k h = go (leb (length l) 16) refl
+pub keeps-long : (l : List Rule) (c : Rules) → Keeps l c → mostCandidates < c .count → mostCandidates < length l
+keeps-long l c k h = go (leb (length l) mostCandidates) refl
   where
-    go : (b : Bool) → leb (length l) 16 ≡ b → 16 < length l
+    go : (b : Bool) → leb (length l) mostCandidates ≡ b → mostCandidates < length l
     go true e =
-        let s = leb-true (length l) 16 e in
+        let s = leb-true (length l) mostCandidates e in
         let n = k .count s in
         absurd (omega arith)
-    go false e = leb-false (length l) 16 e
+    go false e = leb-false (length l) mostCandidates e
 
 -- past 16 rules nothing changes
-pub follows-over : (r : Rule) (c : Rules) → c .count ≤ 17 → 16 < c .count → Follows (inserted r) c c
+pub follows-over : (r : Rule) (c : Rules) → c .count ≤ mostCandidates + 1 → mostCandidates < c .count → Follows (inserted r) c c
 follows-over r c h o =
     record {
       keeps =
@@ -109,7 +110,7 @@ spliced-length r k l =
     let f = length-append (take k l) (drop k l) in
     rw (length-append (take k l) (r ∷ drop k l)) (omega arith)
 
-module _ (r z : Rule) (c : Rules) (h : c .count ≤ 16) (k : ℕ) (p : k ≡ placeOf r (rulesOf c)) where
+module _ (r z : Rule) (c : Rules) (h : c .count ≤ mostCandidates) (k : ℕ) (p : k ≡ placeOf r (rulesOf c)) where
   -- it is enough to see to the rules that are held, if these are all
   follows-held : (d : Rules) → (length (rulesOf c) ≡ c .count → Keeps (inserted r (rulesOf c)) d) → Follows (inserted r) c d
   follows-held d f =

@@ -11,6 +11,7 @@ use lib.Seq.{length-take-le, getD-take, take-suc, take-set-le, take-suc-set, tak
 use borrow.Author.Needs.{needs}
 use borrow.Author.Tests.{not-true, not-false}
 use Rattle.relation.specs.Bits.{bit}
+use Rattle.model.specs.Limits.{mostRules, mostCandidates}
 use Rattle.model.specs.declared.Rule.{Rule}
 use Rattle.model.specs.Find.{before, inserted, picked}
 use Rattle.rule_match.specs.declared.Rules.{Rules}
@@ -26,7 +27,7 @@ use Rattle.find_sets.proofs.KeepLaws.{follows-over, follows-new, follow
 abbrev blank : Rule
 blank = record { first = 0; predicate = 0; second = 0 }
 
-module _ (c : Rules) (all : length (c .items) ≡ 32) (few : c .count ≤ 32) where
+module _ (c : Rules) (all : length (c .items) ≡ mostRules) (few : c .count ≤ mostRules) where
   held-length : length (rulesOf c) ≡ c .count
   held-length = length-take-le (c .count) (c .items) (omega arith)
 
@@ -41,7 +42,7 @@ module _ (c : Rules) (all : length (c .items) ≡ 32) (few : c .count ≤ 32) wh
   held-end : (i : ℕ) → c .count ≤ i → drop i (rulesOf c) ≡ []
   held-end i h = drop-of-length-le (rulesOf c) {i = i} (rw held-length h)
 
-pub pushed : (l : List Rule) (n : ℕ) (rule : Rule) → length l ≡ 32 → n < 32 → take (n + 1) (set l n rule) ≡ take n l ++ (rule ∷ [])
+pub pushed : (l : List Rule) (n : ℕ) (rule : Rule) → length l ≡ mostRules → n < mostRules → take (n + 1) (set l n rule) ≡ take n l ++ (rule ∷ [])
 pushed l n rule all h = rw (add-one n) (take-suc-set l n rule (omega arith))
 
 -- ---- place
@@ -50,7 +51,7 @@ module _ (rule : Rule) (c : Rules) where
   pub place-begun : 0 + placeOf rule (drop 0 (rulesOf c)) ≡ placeOf rule (rulesOf c)
   place-begun = omega arith
 
-  module _ (k : ℕ) (all : length (c .items) ≡ 32) (few : c .count ≤ 32) (inv : k + placeOf rule (drop k (rulesOf c)) ≡ placeOf rule (rulesOf c)) where
+  module _ (k : ℕ) (all : length (c .items) ≡ mostRules) (few : c .count ≤ mostRules) (inv : k + placeOf rule (drop k (rulesOf c)) ≡ placeOf rule (rulesOf c)) where
     pub place-stop : (b : Bool) → k < c .count → b ≡ before (itemAt c k) rule → not b ≡ true → k ≡ placeOf rule (rulesOf c)
     unfolding placeOf
     place-stop b h e n =
@@ -76,7 +77,7 @@ abbrev pub behind : Rules → ℕ → Rule → List Rule
 behind c k rule = take k (rulesOf c) ++ (rule ∷ drop k (rulesOf c))
 
 module _ (c start : Rules) (k : ℕ) where
-  module _ (out : Rules) (i : ℕ) (all : length (c .items) ≡ 32) (few : c .count < 32) (inv : rulesOf out ++ drop i (rulesOf c) ≡ rulesOf start ++ drop k (rulesOf c)) where
+  module _ (out : Rules) (i : ℕ) (all : length (c .items) ≡ mostRules) (few : c .count < mostRules) (inv : rulesOf out ++ drop i (rulesOf c) ≡ rulesOf start ++ drop k (rulesOf c)) where
     pub splice-more : (next : Rules) → i < c .count → rulesOf next ≡ rulesOf out ++ (itemAt c i ∷ [])
         → rulesOf next ++ drop (i + 1) (rulesOf c) ≡ rulesOf start ++ drop k (rulesOf c)
     splice-more next h e =
@@ -91,11 +92,11 @@ module _ (c start : Rules) (k : ℕ) where
 
 -- ---- insert
 
-module _ (rule : Rule) (c : Rules) (k : ℕ) (short : c .count ≤ 16) (p : k ≡ placeOf rule (rulesOf c)) where
+module _ (rule : Rule) (c : Rules) (k : ℕ) (short : c .count ≤ mostCandidates) (p : k ≡ placeOf rule (rulesOf c)) where
   pub insert-last : (d : Rules) → c .count ≤ k → rulesOf d ≡ behind c k rule → d .count ≡ c .count + 1 → Follows (inserted rule) c d
   insert-last d h e n = follows-new rule blank c short k p d (λ l. absurd (omega arith)) e n
 
-  module _ (b : Bool) (all : length (c .items) ≡ 32) (h : k < c .count) (q : b ≡ before rule (itemAt c k)) where
+  module _ (b : Bool) (all : length (c .items) ≡ mostRules) (h : k < c .count) (q : b ≡ before rule (itemAt c k)) where
     pub insert-between : (d : Rules) → b ≡ true → rulesOf d ≡ behind c k rule → d .count ≡ c .count + 1 → Follows (inserted rule) c d
     insert-between d t e n =
         follows-new rule blank c short k p d (λ l. ap (before rule) (held-at c all (omega arith) k h) ∙ sym q ∙ t) e n
@@ -106,7 +107,7 @@ module _ (rule : Rule) (c : Rules) (k : ℕ) (short : c .count ≤ 16) (p : k �
 -- ---- pick
 
 -- a rule written behind the first n, and counted or not
-written : (items : List Rule) (n : ℕ) (rule : Rule) (b : Bool) → length items ≡ 32 → n < 32
+written : (items : List Rule) (n : ℕ) (rule : Rule) (b : Bool) → length items ≡ mostRules → n < mostRules
     → take (n + cond b 1 0) (set items n rule) ≡ take n items ++ cond b (rule ∷ []) []
 written items n rule true all h = pushed items n rule all h
 written items n rule false all h = rw (add-zero n, append-nil (take n items)) (take-set-le n items n rule (omega arith))
@@ -116,7 +117,7 @@ module _ (c : Rules) (m : ℕ) where
   unfolding picked
   pick-begun items = refl
 
-  pub pick-more : (items : List Rule) (n i d : ℕ) → length (c .items) ≡ 32 → length items ≡ 32 → c .count ≤ 32 → i < c .count → n ≤ i
+  pub pick-more : (items : List Rule) (n i d : ℕ) → length (c .items) ≡ mostRules → length items ≡ mostRules → c .count ≤ mostRules → i < c .count → n ≤ i
       → take n items ≡ picked (take i (c .items)) m → d ≡ cond (bit m i) 1 0 → take (n + d) (set items n (itemAt c i)) ≡ picked (take (i + 1) (c .items)) m
   pick-more items n i d all long few h l p q =
       let z : length (take i (c .items)) ≡ i = length-take-le i (c .items) (omega arith) in

@@ -1,9 +1,10 @@
--- Rules as the code keeps them: all of them up to 16, and of more only that they are more.
-use Prim.Native.Nat.{ℕ, suc, _≤_, _<_}
+-- Rules as the code keeps them: all of them up to the most candidates, and of more only that they are more.
+use Prim.Native.Nat.{ℕ, suc, _+_, _≤_, _<_}
 use mathlib.Core.Path.{_≡_}
 use mathlib.Core.Bool.{cond}
 use mathlib.Core.List.{List, [], _∷_}
 use lib.ListN.{length}
+use Rattle.model.specs.Limits.{mostCandidates}
 use Rattle.model.specs.declared.Rule.{Rule}
 use Rattle.model.specs.Find.{before}
 use Rattle.rule_match.specs.declared.Rules.{Rules}
@@ -16,10 +17,10 @@ placeOf r (q ∷ qs) = cond (before q r) (suc (placeOf r qs)) 0
 
 -- what is held of a list of rules
 pub record Keeps (l : List Rule) (c : Rules) : Type 0 where
-  pub few : c .count ≤ 17
-  pub count : length l ≤ 16 → c .count ≡ length l
-  pub same : length l ≤ 16 → rulesOf c ≡ l
-  pub over : 16 < length l → c .count ≡ 17
+  pub few : c .count ≤ mostCandidates + 1
+  pub count : length l ≤ mostCandidates → c .count ≡ length l
+  pub same : length l ≤ mostCandidates → rulesOf c ≡ l
+  pub over : mostCandidates < length l → c .count ≡ mostCandidates + 1
 
 -- what holds l in the one holds f l in the other
 pub record Follows (f : List Rule → List Rule) (c d : Rules) : Type 0 where

@@ -7,21 +7,14 @@ ghost use mathlib.Core.List.{[], _∷_, _++_};
 ghost use Prim.Native.Nat.{_+_, _<_, _≤_};
 ghost use lib.ListN.{take, drop};
 ghost use Rattle.relation.specs.Bits.{bit};
+ghost use Rattle.model.specs.Limits.{mostRules, mostCandidates};
 ghost use Rattle.model.specs.Find.{before, inserted, picked};
 ghost use Rattle.rule_match.specs.Held.{rulesOf};
 ghost use Rattle.find_sets.specs.Kept.{placeOf, Follows};
 
-// One rule alone.
-pub fn one(rule: Rule) -> Rules
-    ensures { λ r. ⌜ (rulesOf r ≡ rule ∷ []) × (r .count ≡ 1) ⌝ }
-{
-    let items = [rule; 32];
-    Rules { items, count: 1 }
-}
-
 // A rule behind those held.
 fn push(c: Rules, rule: Rule) -> Rules
-    requires { ⌜ c .count < 32 ⌝ }
+    requires { ⌜ c .count < mostRules ⌝ }
     ensures { λ r. ⌜ (rulesOf r ≡ rulesOf c ++ (rule ∷ [])) × (r .count ≡ c .count + 1) ⌝ }
 {
     let mut items = c.items;
@@ -54,7 +47,7 @@ fn comes_before(a: Rule, b: Rule) -> bool
 
 // How many of the rules held, from the front on, come before a rule.
 fn place(c: Rules, rule: Rule) -> usize
-    requires { ⌜ c .count ≤ 32 ⌝ }
+    requires { ⌜ c .count ≤ mostRules ⌝ }
     ensures { λ r. ⌜ (r ≡ placeOf rule (rulesOf c)) × (r ≤ c .count) ⌝ }
 {
     let mut k: usize = 0;
@@ -69,7 +62,7 @@ fn place(c: Rules, rule: Rule) -> usize
 
 // A rule put behind the first k.
 fn splice(c: Rules, k: usize, rule: Rule) -> Rules
-    requires { ⌜ (c .count < 32) × (k ≤ c .count) ⌝ }
+    requires { ⌜ (c .count < mostRules) × (k ≤ c .count) ⌝ }
     ensures { λ r. ⌜ (rulesOf r ≡ take k (rulesOf c) ++ (rule ∷ drop k (rulesOf c))) × (r .count ≡ c .count + 1) ⌝ }
 {
     let items = c.items;
@@ -82,12 +75,12 @@ fn splice(c: Rules, k: usize, rule: Rule) -> Rules
     out
 }
 
-// A rule put in its place, once. Past 16 rules nothing more is kept.
+// A rule put in its place, once. Of more rules than there may be candidates nothing more is kept.
 pub fn insert(c: Rules, rule: Rule) -> Rules
-    requires { ⌜ c .count ≤ 17 ⌝ }
-    ensures { λ r. ⌜ (r .count ≤ 17) × Follows (inserted rule) c r ⌝ }
+    requires { ⌜ c .count ≤ mostCandidates + 1 ⌝ }
+    ensures { λ r. ⌜ (r .count ≤ mostCandidates + 1) × Follows (inserted rule) c r ⌝ }
 {
-    if 16 < c.count {
+    if model::MOST_CANDIDATES < c.count {
         return c;
     }
     let k = place(c, rule);
@@ -113,7 +106,7 @@ fn digit(m: u64, i: usize) -> usize
 
 // The set of a number.
 pub fn pick(c: Rules, m: u64) -> Rules
-    requires { ⌜ c .count ≤ 32 ⌝ }
+    requires { ⌜ c .count ≤ mostRules ⌝ }
     ensures { λ r. ⌜ (rulesOf r ≡ picked (rulesOf c) m) × (r .count ≤ c .count) ⌝ }
 {
     let mut items = c.items;

@@ -1,3 +1,3 @@
-pub mod SetLaws
+pub mod ForbidLaws
 pub mod MarkLaws
 pub mod TableSteps

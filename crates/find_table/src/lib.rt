@@ -1,171 +1,299 @@
 // The table of the finder: for each set of candidates, whether some inconsistent schedule stays valid.
+// Set x is bit x % 64 of word x / 64.
 use file_format::Extent;
 use model::Check;
-use model::Rule;
 use rule_match::Rules;
 ghost use mathlib.Core.Path.{_≡_};
 ghost use mathlib.Core.Bool.{cond};
-ghost use Prim.Native.Nat.{_+_, _*_, _^_, _<_, _≤_};
-ghost use lib.ListN.{length, take, set};
-ghost use Rattle.file_format.specs.Scan.{writesAt, testAt};
-ghost use Rattle.file_format.specs.Held.{Inside};
+ghost use Prim.Native.Nat.{_+_, _/_, _%_, _^_, _<_, _≤_};
+ghost use lib.ListN.{length, take, set, getD};
+ghost use Rattle.relation.specs.Bits.{withBit};
+ghost use Rattle.model.specs.Limits.{diskBlocks, mostInitial, mostChecks, mostFound, foundSchedules, mostCandidates, candidateSets};
+ghost use Rattle.file_format.specs.Scan.{testAt};
+ghost use Rattle.file_format.specs.Held.{Inside, Placed};
 ghost use Rattle.rule_match.specs.Held.{rulesOf};
-ghost use Rattle.judge_disks.specs.Packed.{heldFrom};
-ghost use Rattle.judge_schedules.specs.Rows.{validBy};
+ghost use Rattle.judge_disks.specs.Packed.{labelled, heldFrom};
 ghost use Rattle.find_laws.specs.Hit.{marks, marked};
 ghost use Rattle.find_candidates.specs.Tests.{testsIn};
-ghost use Rattle.find_table.specs.Table.{withValid, validUnder, Grown, Sets, Bounded, inconsistentSet, Adds, Blank, Shows, either, Lowered, Spreads};
+ghost use Rattle.find_table.specs.Table.{setWords, matching, pairs, Facing, Widened, Forbids, Bounded, spoils, setOf, setAfter, Adds, Joins, Blank, Shows, lacking, Lowered, Spreads};
 
-// mask, with bit c set where schedule s is valid by the unions.
-fn with_valid(mask: u64, c: usize, low: &[u64; 64], high: &[u64; 64], s: u64) -> u64
-    requires { ⌜ c < 64 ⌝ }
-    ensures { λ r. ⌜ r ≡ withValid (validBy (now (low .entry)) (now (high .entry))) c s mask ⌝ }
+// The words of a table with a bit for each set.
+pub const SET_WORDS: usize = model::CANDIDATE_SETS / 64;
+
+// The most schedules of all writes of a test but the last.
+const HALF_SCHEDULES: usize = model::FOUND_SCHEDULES / 2;
+
+// mask, with bit i set if asked for.
+fn with_if(mask: u64, i: usize, on: bool) -> u64
+    requires { ⌜ i < 64 ⌝ }
+    ensures { λ r. ⌜ r ≡ cond on (withBit mask i) mask ⌝ }
 {
-    if judge_schedules::is_valid(low, high, s) {
-        return relation::with_bit(mask, c);
+    if on {
+        return relation::with_bit(mask, i);
     }
     mask
 }
 
-// Bit c of each schedule's set, by the unions of candidate c.
-fn allow(allowed: &mut [u64], c: usize, low: &[u64; 64], high: &[u64; 64], n: usize)
-    requires { ⌜ (length (now allowed) ≡ 4096) × ((c < 64) × (n ≤ 12)) ⌝ }
-    ensures { λ _. ⌜ Grown (withValid (validBy (now (low .entry)) (now (high .entry))) c) (now (allowed .entry)) (now (allowed .exit)) (2 ^ n) ⌝ }
+// The candidates that match two labels.
+fn matching(cands: Rules, one: u64, other: u64) -> u64
+    requires { ⌜ cands .count ≤ mostCandidates ⌝ }
+    ensures { λ r. ⌜ r ≡ matching (rulesOf cands) (labelled one) (labelled other) (cands .count) ⌝ }
 {
-    let total = 1usize << n;
+    let n = judge_disks::name_of(one);
+    let t = judge_disks::epoch_of(one);
+    let m = judge_disks::name_of(other);
+    let u = judge_disks::epoch_of(other);
+    let mut mask: u64 = 0;
+    let mut c: usize = 0;
+    while c < cands.count {
+        mask = with_if(mask, c, rule_match::matches(cands.items[c], n, t, m, u));
+        c += 1;
+    }
+    mask
+}
+
+// The candidates that match write k and each write before it, in this order and in the other.
+fn face(
+    out: &mut [u64],
+    back: &mut [u64],
+    cands: Rules,
+    labels: &[u64; model::MOST_INITIAL],
+    k: usize,
+)
+    requires { ⌜ ((length (now out) ≡ 64) × (length (now back) ≡ 64)) × ((cands .count ≤ mostCandidates) × (k < mostInitial)) ⌝ }
+    ensures { λ _. ⌜ Facing (pairs (rulesOf cands) (cands .count) (now (labels .entry))) k k (now (out .exit)) (now (back .exit)) ⌝ }
+{
+    let last = labels[k];
+    let mut j: usize = 0;
+    while j < k {
+        let other = labels[j];
+        out[j] = matching(cands, last, other);
+        back[j] = matching(cands, other, last);
+        j += 1;
+    }
+}
+
+// The schedules of one more write, k: with it, the candidates match it and an unflagged write before
+// it too; without it, a flagged write before it and it.
+fn widen(table: &mut [u64], outs: &[u64; HALF_SCHEDULES], backs: &[u64; HALF_SCHEDULES], k: usize)
+    requires { ⌜ (length (now table) ≡ foundSchedules) × (k < mostFound) ⌝ }
+    ensures { λ _. ⌜ Widened (now (outs .entry)) (now (backs .entry)) k (now (table .entry)) (now (table .exit)) (2 ^ k) ⌝ }
+{
+    let size = 1usize << k;
     let mut s: usize = 0;
-    while s < total {
-        allowed[s] = with_valid(allowed[s], c, low, high, s as u64);
+    while s != size {
+        let w = table[s];
+        table[size + s] = w | outs[size - 1 - s];
+        table[s] = w | backs[s];
         s += 1;
     }
 }
 
-// Bit c of each schedule's set: whether it is valid under the rule alone.
-fn allow_rule(allowed: &mut [u64], c: usize, rule: Rule, file: &[u8], at: usize, n: usize)
-    requires { ⌜ (length (now allowed) ≡ 4096) × ((c < 64) × ((n ≤ 12) × (at + 13 * n ≤ length (now file)))) ⌝ }
-    ensures { λ _. ⌜ Grown (withValid (validUnder rule (writesAt (now (file .entry)) at n)) c) (now (allowed .entry)) (now (allowed .exit)) (2 ^ n) ⌝ }
+// For each schedule of the n writes with these labels the set of the candidates that make it invalid.
+fn forbid(table: &mut [u64], cands: Rules, labels: &[u64; model::MOST_INITIAL], n: usize)
+    requires { ⌜ (length (now table) ≡ foundSchedules) × ((cands .count ≤ mostCandidates) × (n ≤ mostFound)) ⌝ }
+    ensures { λ _. ⌜ Forbids (pairs (rulesOf cands) (cands .count) (now (labels .entry))) n (now (table .exit)) ⌝ }
 {
-    let mut low = [0u64; 64];
-    let mut high = [0u64; 64];
-    judge_schedules::prepare(&mut low, &mut high, find_sets::one(rule), file, at, n);
-    allow(allowed, c, &low, &high, n);
-}
-
-// For each schedule of the n writes from `at` on the set of the candidates that leave it valid.
-fn allowed_sets(cands: Rules, file: &[u8], at: usize, n: usize) -> [u64; 4096]
-    requires { ⌜ (cands .count ≤ 16) × ((n ≤ 12) × (at + 13 * n ≤ length (now file))) ⌝ }
-    ensures { λ r. ⌜ Sets (rulesOf cands) (writesAt (now (file .entry)) at n) (2 ^ n) (cands .count) r ⌝ }
-{
-    let mut allowed = [0u64; 4096];
-    let mut c: usize = 0;
-    while c < cands.count {
-        allow_rule(&mut allowed, c, cands.items[c], file, at, n);
-        c += 1;
+    let mut out = [0u64; 64];
+    let mut back = [0u64; 64];
+    let mut outs = [0u64; HALF_SCHEDULES];
+    let mut backs = [0u64; HALF_SCHEDULES];
+    table[0] = 0;
+    let mut k: usize = 0;
+    while k < n {
+        face(&mut out, &mut back, cands, labels, k);
+        relation::unite(&mut outs, &out, 0, k);
+        relation::unite(&mut backs, &back, 0, k);
+        widen(table, &outs, &backs, k);
+        k += 1;
     }
-    allowed
 }
 
 // Marks the set x of a schedule, unless that leaves a consistent disk.
-fn mark_one(table: &mut [u8], x: usize, consistent: bool)
-    requires { ⌜ x < length (now table) ⌝ }
-    ensures { λ _. ⌜ now (table .exit) ≡ cond consistent (now (table .entry)) (set (now (table .entry)) x 1) ⌝ }
+fn mark_one(table: &mut [u64], x: usize, consistent: bool)
+    requires { ⌜ (length (now table) ≡ setWords) × (x < candidateSets) ⌝ }
+    ensures { λ _. ⌜ now (table .exit) ≡ cond consistent (now (table .entry)) (set (now (table .entry)) (x / 64) (withBit (getD (now (table .entry)) (x / 64) 0) (x % 64))) ⌝ }
 {
     if consistent {
         return;
     }
-    table[x] = 1;
+    table[x / 64] = relation::with_bit(table[x / 64], x % 64);
 }
 
-// Marks the sets of all inconsistent schedules of the first n writes held.
-fn mark(
-    table: &mut [u8],
-    allowed: [u64; 4096],
-    base: [u32; 256],
-    writes: &[u64; 64],
-    n: usize,
-    checks: [Check; 16],
+// Marks the sets of the inconsistent schedules that begin with x: mid is the disk that x leaves, and
+// the `far` writes behind place `near` are flagged in all ways. Where a set is marked, the disk is not
+// made.
+fn mark_after(
+    table: &mut [u64],
+    forbidden: &[u64; model::FOUND_SCHEDULES],
+    all: u64,
+    x: usize,
+    mid: &[u32; model::DISK_BLOCKS],
+    stores: &[u64; model::MOST_INITIAL],
+    near: usize,
+    far: usize,
+    checks: [Check; model::MOST_CHECKS],
     m: usize,
 )
-    requires { ⌜ (length (now table) ≡ 65536) × ((Bounded allowed n) × ((n ≤ 12) × (m ≤ 16))) ⌝ }
-    ensures { λ _. ⌜ Adds (inconsistentSet (take m checks) (heldFrom (now (writes .entry)) 0 n) base allowed (2 ^ n)) (now (table .entry)) (now (table .exit)) ⌝ }
+    requires { ⌜ ((length (now table) ≡ setWords) × (length (now mid) ≡ diskBlocks)) × (((x < 2 ^ near) × (near + far ≤ mostFound)) × ((m ≤ mostChecks) × Bounded (now forbidden) all (2 ^ (near + far)))) ⌝ }
+    ensures { λ _. ⌜ Adds (spoils (take m checks) (heldFrom (now (stores .entry)) near far) (now (mid .entry))) (setAfter (now (forbidden .entry)) all x (2 ^ near)) (2 ^ far) (now (table .entry)) (now (table .exit)) ⌝ }
 {
-    let total = 1usize << n;
-    let mut disk = base;
-    let mut s: usize = 0;
-    while s < total {
-        judge_disks::apply(&mut disk, writes, 0, n, s as u64);
-        let consistent = judge_checks::is_consistent(&disk, checks, m);
-        judge_disks::restore(&mut disk, &base, writes, 0, n);
-        let x = allowed[s] as usize;
-        mark_one(table, x, consistent);
-        s += 1;
+    let rows = 1usize << near;
+    let columns = 1u64 << far;
+    let mut disk = *mid;
+    let mut s = x;
+    let mut y: u64 = 0;
+    'ends: while y != columns {
+        let set = (all - forbidden[s]) as usize;
+        if relation::has_bit(table[set / 64], set % 64) {
+            s += rows;
+            y += 1;
+            continue 'ends;
+        }
+        judge_disks::apply(&mut disk, stores, near, far, y);
+        // Not is_consistent, which takes the checks by value: a copy of all of them in every turn.
+        let mut i: usize = 0;
+        while i < m {
+            let c = checks[i];
+            if !judge_checks::check_holds(&disk, c) {
+                break;
+            }
+            i += 1;
+        }
+        judge_disks::restore(&mut disk, mid, stores, near, far);
+        mark_one(table, set, i == m);
+        s += rows;
+        y += 1;
     }
 }
 
-// Marks the sets of all inconsistent schedules of a test.
-fn mark_test(table: &mut [u8], cands: Rules, file: &[u8], e: Extent)
-    requires { ⌜ (length (now table) ≡ 65536) × ((cands .count ≤ 16) × Inside (now file) e) ⌝ }
-    ensures { λ _. ⌜ Adds (marks (rulesOf cands) (testAt (now (file .entry)) e)) (now (table .entry)) (now (table .exit)) ⌝ }
+// Marks the sets of all inconsistent schedules of near + far writes.
+fn mark_by(
+    table: &mut [u64],
+    forbidden: &[u64; model::FOUND_SCHEDULES],
+    all: u64,
+    base: &[u32; model::DISK_BLOCKS],
+    stores: &[u64; model::MOST_INITIAL],
+    near: usize,
+    far: usize,
+    checks: [Check; model::MOST_CHECKS],
+    m: usize,
+)
+    requires { ⌜ ((length (now table) ≡ setWords) × (length (now base) ≡ diskBlocks)) × ((near + far ≤ mostFound) × ((m ≤ mostChecks) × Bounded (now forbidden) all (2 ^ (near + far)))) ⌝ }
+    ensures { λ _. ⌜ Adds (spoils (take m checks) (heldFrom (now (stores .entry)) 0 (near + far)) (now (base .entry))) (setOf (now (forbidden .entry)) all) (2 ^ (near + far)) (now (table .entry)) (now (table .exit)) ⌝ }
 {
-    let at = e.at;
-    let k = e.initial;
-    let n = e.main;
-    let m = e.checks;
-    let main_at = at + 13 * k;
-    let checks_at = main_at + 13 * n;
-    let base = judge_schedules::initial_disk(file, at, k);
-    let checks = file_loading::file_checks(file, checks_at, m);
-    let mut writes = [0u64; 64];
-    judge_disks::load(&mut writes, file, main_at, n);
-    let allowed = allowed_sets(cands, file, main_at, n);
-    mark(table, allowed, base, &writes, n, checks, m);
-}
-
-// Marks the sets of all inconsistent schedules of all tests.
-pub fn mark_all(table: &mut [u8], cands: Rules, file: &[u8], tests: usize)
-    requires { ⌜ (length (now table) ≡ 65536) × ((cands .count ≤ 16) × ((length (testsIn (now file)) ≡ tests) × Blank (now table))) ⌝ }
-    ensures { λ _. ⌜ Shows (marked (rulesOf cands) (testsIn (now (file .entry)))) (now (table .exit)) 65536 ⌝ }
-{
-    let mut t: usize = tests;
-    while 0 < t {
-        t -= 1;
-        let e = find_candidates::extent_of(file, t);
-        mark_test(table, cands, file, e);
-    }
-}
-
-// A mark, if either is one.
-fn either(y: u8, z: u8) -> u8
-    ensures { λ r. ⌜ r ≡ either y z ⌝ }
-{
-    if y == 1 {
-        return 1;
-    }
-    z
-}
-
-// Hands the marks down from the sets with candidate b to those without.
-fn lower(table: &mut [u8], b: usize, n: usize)
-    requires { ⌜ (length (now table) ≡ 65536) × ((b < n) × (n ≤ 16)) ⌝ }
-    ensures { λ _. ⌜ Lowered b (now (table .entry)) (now (table .exit)) (2 ^ n) ⌝ }
-{
-    let total = 1usize << n;
+    let rows = 1usize << near;
     let mut x: usize = 0;
-    while x < total {
-        let w = relation::with_bit(x as u64, b) as usize;
-        table[x] = either(table[x], table[w]);
+    while x != rows {
+        let mut mid = *base;
+        judge_disks::apply(&mut mid, stores, 0, near, x as u64);
+        mark_after(table, forbidden, all, x, &mid, stores, near, far, checks, m);
         x += 1;
     }
 }
 
+// Marks the sets of all inconsistent schedules of a test.
+fn mark_test(table: &mut [u64], cands: Rules, file: &[u8], e: Extent)
+    requires { ⌜ (length (now table) ≡ setWords) × ((cands .count ≤ mostCandidates) × Inside (now file) e) ⌝ }
+    ensures { λ _. ⌜ Joins (marks (rulesOf cands) (testAt (now (file .entry)) e)) (now (table .entry)) (now (table .exit)) ⌝ }
+{
+    let test = judge_loading::load_test(file, e);
+    let checks = judge_loading::load_checks(file, e);
+    let base = test.base;
+    let stores = test.stores;
+    let labels = test.labels;
+    let n = test.main;
+    let mut forbidden = [0u64; model::FOUND_SCHEDULES];
+    forbid(&mut forbidden, cands, &labels, n);
+    let all = (1u64 << cands.count) - 1;
+    let near = n / 2;
+    mark_by(
+        table,
+        &forbidden,
+        all,
+        &base,
+        &stores,
+        near,
+        n - near,
+        checks,
+        test.checks,
+    );
+}
+
+// Marks the sets of all inconsistent schedules of all tests.
+pub fn mark_all(
+    table: &mut [u64],
+    cands: Rules,
+    file: &[u8],
+    tests: [Extent; model::MOST_TESTS],
+    n: usize,
+)
+    requires { ⌜ (length (now table) ≡ setWords) × ((cands .count ≤ mostCandidates) × (Placed (now file) (testsIn (now file)) tests n × Blank (now table))) ⌝ }
+    ensures { λ _. ⌜ Shows (marked (rulesOf cands) (testsIn (now (file .entry)))) (now (table .exit)) candidateSets ⌝ }
+{
+    let mut t: usize = n;
+    while 0 < t {
+        t -= 1;
+        mark_test(table, cands, file, tests[t]);
+    }
+}
+
+// The bits of a word whose numbers lack candidate b: the first 2^b of every 2^(b + 1).
+fn lacking(b: usize) -> u64
+    requires { ⌜ b < 6 ⌝ }
+    ensures { λ r. ⌜ r ≡ lacking b ⌝ }
+{
+    18446744073709551615 / ((1u64 << (1u64 << b)) + 1)
+}
+
+// Hands the marks down from the sets with candidate b to those without, where both are in one word.
+fn lower_within(table: &mut [u64], b: usize, words: usize)
+    requires { ⌜ (length (now table) ≡ setWords) × ((b < 6) × (words ≤ setWords)) ⌝ }
+    ensures { λ _. ⌜ Lowered b (now (table .entry)) (now (table .exit)) words ⌝ }
+{
+    let step = 1u64 << b;
+    let without = lacking(b);
+    let mut i: usize = 0;
+    while i < words {
+        let w = table[i];
+        table[i] = w | ((w >> step) & without);
+        i += 1;
+    }
+}
+
+// The same where the sets with candidate b are in a word of their own.
+fn lower_across(table: &mut [u64], b: usize, words: usize)
+    requires { ⌜ (length (now table) ≡ setWords) × (((6 ≤ b) × (b < mostCandidates)) × (words ≤ setWords)) ⌝ }
+    ensures { λ _. ⌜ Lowered b (now (table .entry)) (now (table .exit)) words ⌝ }
+{
+    let mut i: usize = 0;
+    while i < words {
+        let other = relation::with_bit(i as u64, b - 6) as usize;
+        table[i] = table[i] | table[other];
+        i += 1;
+    }
+}
+
+fn lower(table: &mut [u64], b: usize, words: usize)
+    requires { ⌜ (length (now table) ≡ setWords) × ((b < mostCandidates) × (words ≤ setWords)) ⌝ }
+    ensures { λ _. ⌜ Lowered b (now (table .entry)) (now (table .exit)) words ⌝ }
+{
+    if b < 6 {
+        lower_within(table, b, words);
+        return;
+    }
+    lower_across(table, b, words);
+}
+
 // Hands the marks down to all parts of the marked sets of n candidates.
-pub fn lower_all(table: &mut [u8], n: usize)
-    requires { ⌜ (length (now table) ≡ 65536) × (n ≤ 16) ⌝ }
+pub fn lower_all(table: &mut [u64], n: usize)
+    requires { ⌜ (length (now table) ≡ setWords) × (n ≤ mostCandidates) ⌝ }
     ensures { λ _. ⌜ Spreads n n (now (table .entry)) (now (table .exit)) ⌝ }
 {
+    let words = ((1usize << n) + 63) / 64;
     let mut b: usize = 0;
     while b < n {
-        lower(table, b, n);
+        lower(table, b, words);
         b += 1;
     }
 }

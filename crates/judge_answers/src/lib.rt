@@ -3,13 +3,12 @@ use judge_cases::Decided;
 use judge_counting::Judgement;
 use judge_counting::Verdict;
 ghost use mathlib.Core.Path.{_≡_};
-ghost use Prim.Native.Nat.{_≤_};
-ghost use Rattle.judge_cases.specs.Judge.{FewDecided};
+ghost use Rattle.judge_cases.specs.Judge.{FewNumbers, FewDecided};
 ghost use Rattle.judge_answers.specs.Judged.{judgementCode, verdictCode};
 
 // The three numbers of a judgement: valid, bad from bit 21 on, shown from bit 42 on.
 pub fn code_of(j: Judgement) -> u64
-    requires { ⌜ (j .valid ≤ 4096) × ((j .bad ≤ 4096) × (j .shown ≤ 4096)) ⌝ }
+    requires { ⌜ FewNumbers j ⌝ }
     ensures { λ r. ⌜ r ≡ judgementCode j ⌝ }
 {
     j.valid + 2097152 * j.bad + 4398046511104 * j.shown

@@ -1,4 +1,4 @@
--- From the loops' answers to the judge's: the table of rows is the rules', the disk is the test's initial one, the checks are the test's.
+-- From the loops' answers to the judge's: the rows are the rules', the disk is the test's initial one, the checks are the test's.
 use mathlib.Core.Path.{_≡_, refl, sym, ap, subst, _∙_}
 use mathlib.Core.Bool.{Bool, true, false, cond, not, _&&_}
 use mathlib.Core.List.{List}
@@ -13,98 +13,106 @@ use borrow.Author.Tests.{not-true, not-false}
 use Rattle.relation.proofs.ListLaws.{allBelow-intro}
 use Rattle.model.specs.declared.Rule.{Rule}
 use Rattle.model.specs.declared.Check.{Check}
+use Rattle.model.specs.declared.Refusal.{Refusal}
+use Rattle.model.specs.Limits.{mostRules, mostTests, mostMain, mostSchedules}
 use Rattle.model.specs.Answer.{Outcome, answer, refused}
 use Rattle.model.specs.Cyclic.{cyclic}
-use Rattle.model.specs.Disk.{emptyDisk}
-use Rattle.model.specs.Schedule.{written, valid}
-use Rattle.model.specs.Test.{File, initialDisk, bad, testHolds, Bad, countBelow, validCount, badCount}
+use Rattle.model.specs.Schedule.{valid}
+use Rattle.model.specs.Test.{Test, File, bad, testHolds, Bad, countBelow, validCount, badCount}
 use Rattle.model.proofs.TestLaws.{bad-true, testHolds-true, count-ext, count-most}
 use Rattle.file_format.specs.declared.Extent.{Extent}
 use Rattle.file_format.specs.declared.Scan.{Scan}
 use Rattle.file_format.specs.declared.Scan.the-variants.{Accepted, Refused}
-use Rattle.file_format.specs.File.{readOf}
-use Rattle.file_reader.specs.Limits.{longest}
-use Rattle.file_format.specs.Scan.{rulesAt, writesAt, checksAt, mainPlace, checksPlace, testAt}
-use Rattle.file_format.specs.Held.{Tells, Inside, testOf}
-use Rattle.file_reader.proofs.CallerLaws.{refused-read, refused-most, accepted-file, accepted-read, accepted-tests, accepted-most, accepted-inside, accepted-test, accepted-at, accepted-long, listed-below}
+use Rattle.file_format.specs.File.{isRule, readOf}
+use Rattle.file_format.specs.Scan.{writeField, mainPlace, rulesAt, testAt, scanOf}
+use Rattle.file_format.specs.Held.{Fields, Inside, extentOf, testOf, Placed, ScansTo}
+use Rattle.file_reader.proofs.CallerLaws.{refused-read, refused-most, accepted-rules, accepted-fields, accepted-file, accepted-read, accepted-at, accepted-placed, listed-below}
 use Rattle.rule_match.specs.declared.Rules.{Rules}
 use Rattle.rule_match.specs.Held.{rulesOf}
-use Rattle.judge_disks.specs.Packed.{Loads, heldFrom}
-use Rattle.judge_disks.proofs.DiskSteps.{loaded-run}
-use Rattle.judge_cases.specs.declared.Selected.the-variants.{Found}
-use Rattle.judge_cases.specs.declared.Selected.the-variants as Selected
-use Rattle.judge_cases.specs.declared.Selected.{Selected}
+use Rattle.judge_disks.specs.Packed.{heldFrom}
+use Rattle.judge_disks.proofs.DiskSteps.{stores-run}
+use Rattle.judge_loading.specs.declared.Loaded.{Loaded}
+use Rattle.judge_loading.specs.Loaded.{LoadsTest, LoadsChecks}
+use Rattle.file_loading.proofs.LoadSteps.{fields-length}
+use Rattle.judge_schedules.specs.Rows.{validRows, badRows}
+use Rattle.judge_rows.specs.Rows.{rowsFrom}
+use Rattle.judge_rows.proofs.RowLaws.{valid-rows}
 use Rattle.judge_counting.specs.declared.Judgement.{Judgement}
 use Rattle.judge_counting.specs.declared.Verdict.{Verdict}
 use Rattle.judge_counting.specs.declared.Verdict.the-variants.{Holds, Fails}
+use Rattle.judge_counting.specs.Tally.{Finds, Tallies}
+use Rattle.judge_cases.specs.declared.Found.{Found}
+use Rattle.judge_cases.specs.declared.Found.the-variants.{Tests}
+use Rattle.judge_cases.specs.declared.Found.the-variants as Found
+use Rattle.judge_cases.specs.declared.Choice.{Choice}
+use Rattle.judge_cases.specs.declared.Choice.the-variants as Choice
 use Rattle.judge_cases.specs.declared.Judged.the-variants.{Counts}
 use Rattle.judge_cases.specs.declared.Judged.the-variants as Judged
 use Rattle.judge_cases.specs.declared.Decided.the-variants.{As}
 use Rattle.judge_cases.specs.declared.Decided.the-variants as Decided
-use Rattle.judge_schedules.specs.Rows.{validBy, badBy, Validates}
-use Rattle.judge_cases.specs.Judge.{Case, caseOf, caseIn, caseAt, Judges, Decides, Selects, Judging, Deciding, Few, FewDecided}
-use Rattle.judge_counting.specs.Tally.{Finds, Tallies}
-use Rattle.judge_schedules.proofs.RowLaws.{writes-length}
+use Rattle.judge_cases.specs.Judge.{Case, caseOf, caseIn, caseAt, Judges, Decides, SmallRefusal, judgedFile, OpensTo, SelectsTo, Judging, Deciding, FewNumbers, Few, FewDecided}
 
-module _ (rules : List Rule) (s : List ℕ) (e : Extent) (low high table base : List ℕ) (cs : List Check)
-    (ev : Validates rules (writesAt s (mainPlace e) (e .main)) (e .main) low high)
-    (et : Loads s (mainPlace e) (e .main) table)
-    (eb : base ≡ written (writesAt s (e .at) (e .initial)) emptyDisk)
-    (ec : take (e .checks) cs ≡ checksAt s (checksPlace e) (e .checks)) where
-  same-valid : (x : ℕ) → x < 2 ^ e .main → validBy low high x ≡ valid rules (testAt s e .main) x
-  unfolding testAt Validates
-  same-valid x h = ev x h
+-- ---- a loaded test
 
-  same-bad : (x : ℕ) → x < 2 ^ e .main → badBy low high base (heldFrom table 0 (e .main)) (take (e .checks) cs) x ≡ bad rules (testAt s e) x
-  unfolding badBy bad testAt initialDisk Validates
-  same-bad x h = rw (ev x h, ec, loaded-run s (mainPlace e) (e .main) table x base et, eb)
+module _ (rules : List Rule) (s : List ℕ) (e : Extent) (test : Loaded) (rows : List ℕ) (cs : List Check) (el : LoadsTest (testAt s e) test)
+    (er : take (test .main) rows ≡ rowsFrom rules (test .labels) (test .main) (test .main))
+    (ec : LoadsChecks (testAt s e) cs) where
+  -- the rows decide which schedules are valid
+  same-valid : (x : ℕ) → validRows rows (test .main) x ≡ valid rules (testAt s e .main) x
+  same-valid x = valid-rows rules (testAt s e .main) (test .labels) rows (test .main) (el .main) (el .labels) er x
 
-  size : 2 ^ e .main ≡ 2 ^ length (testAt s e .main)
-  unfolding testAt
-  size = ap (λ (n : ℕ). 2 ^ n) (sym (writes-length s (mainPlace e) (e .main)))
+  all-checks : take (test .checks) cs ≡ testAt s e .checks
+  unfolding LoadsChecks
+  all-checks = rw (← el .checks) ec
 
-  pub judges-all : (j : Judgement)
-      → Tallies (validBy low high) (badBy low high base (heldFrom table 0 (e .main)) (take (e .checks) cs)) (2 ^ e .main) j
-      → Judges (caseAt rules s e) j
+  abbrev badHere : ℕ → Bool
+  badHere = badRows rows (test .main) (test .base) (heldFrom (test .stores) 0 (test .main)) (take (test .checks) cs)
+
+  same-bad : (x : ℕ) → badHere x ≡ bad rules (testAt s e) x
+  unfolding badRows bad
+  same-bad x = rw (same-valid x, all-checks, stores-run (test .stores) (testAt s e .main) (test .main) x (test .base) (el .stores) (el .main), el .base)
+
+  size : 2 ^ test .main ≡ 2 ^ length (testAt s e .main)
+  size = ap (λ (n : ℕ). 2 ^ n) (sym (el .main))
+
+  pub judges-all : (j : Judgement) → Tallies (validRows rows (test .main)) badHere (2 ^ test .main) j → Judges (caseAt rules s e) j
   unfolding validCount badCount
   judges-all j t =
       record {
-        valid = t .valid ∙ count-ext _ _ (2 ^ e .main) (λ x h. same-valid x h) ∙ ap (countBelow (valid rules (testAt s e .main))) size;
-        bad = t .bad ∙ count-ext _ _ (2 ^ e .main) (λ x h. same-bad x h) ∙ ap (countBelow (bad rules (testAt s e))) size;
-        shown = λ n. let w = t .shown n in bad-true rules (testAt s e) (j .shown) (subst (λ (k : ℕ). j .shown < k) size (w .0)) (sym (same-bad (j .shown) (w .0)) ∙ w .1);
+        valid = t .valid ∙ count-ext _ _ (2 ^ test .main) (λ x h. same-valid x) ∙ ap (countBelow (valid rules (testAt s e .main))) size;
+        bad = t .bad ∙ count-ext _ _ (2 ^ test .main) (λ x h. same-bad x) ∙ ap (countBelow (bad rules (testAt s e))) size;
+        shown = λ n. let w = t .shown n in bad-true rules (testAt s e) (j .shown) (subst (λ (k : ℕ). j .shown < k) size (w .0)) (sym (same-bad (j .shown)) ∙ w .1);
         none = t .none;
       }
 
-  pub decides-all : (v : Verdict)
-      → Finds (badBy low high base (heldFrom table 0 (e .main)) (take (e .checks) cs)) (2 ^ e .main) v
-      → Decides (caseAt rules s e) v
+  pub decides-all : (v : Verdict) → Finds badHere (2 ^ test .main) v → Decides (caseAt rules s e) v
   unfolding Finds Decides
   decides-all Holds f =
       testHolds-true rules (testAt s e)
       (unfold testHolds in allBelow-intro (λ x. not (bad rules (testAt s e) x)) (2 ^ length (testAt s e .main))
-      (λ x h. let l : x < 2 ^ e .main = subst (λ (k : ℕ). x < k) (sym size) h in rw (sym (same-bad x l) ∙ f x l)))
-  decides-all (Fails x) f = bad-true rules (testAt s e) x (subst (λ (k : ℕ). x < k) size (f .0)) (sym (same-bad x (f .0)) ∙ f .1)
+      (λ x h. let l : x < 2 ^ test .main = subst (λ (k : ℕ). x < k) (sym size) h in rw (sym (same-bad x) ∙ f x l)))
+  decides-all (Fails x) f = bad-true rules (testAt s e) x (subst (λ (k : ℕ). x < k) size (f .0)) (sym (same-bad x) ∙ f .1)
 
 -- ---- no number is larger than the count of schedules
 
 module _ (rules : List Rule) (s : List ℕ) (e : Extent) (i : Inside s e) where
-  schedules-most : 2 ^ length (testAt s e .main) ≤ 4096
+  schedules-most : 2 ^ length (testAt s e .main) ≤ mostSchedules
   unfolding testAt
-  schedules-most = rw (writes-length s (mainPlace e) (e .main)) (pow-mono {i = e .main} {j = 12} (i .main-most))
+  schedules-most = rw (fields-length writeField s (mainPlace s e) (e .main)) (pow-mono {i = e .main} {j = mostMain} (i .main-most))
 
-  bad-most : (x : ℕ) → Bad rules (testAt s e) x → x ≤ 4096
+  bad-most : (x : ℕ) → Bad rules (testAt s e) x → x ≤ mostSchedules
   unfolding Bad
   bad-most x b = let l = b .0 in let m = schedules-most in omega arith
 
-  pub judges-few : (j : Judgement) → Judges (caseAt rules s e) j → Few (Counts j)
-  unfolding Few validCount badCount
+  pub judges-few : (j : Judgement) → Judges (caseAt rules s e) j → FewNumbers j
+  unfolding FewNumbers validCount badCount
   judges-few j p =
       let m = schedules-most in
       let a = p .valid in let b = count-most (valid rules (testAt s e .main)) (2 ^ length (testAt s e .main)) in
       let c = p .bad in let d = count-most (bad rules (testAt s e)) (2 ^ length (testAt s e .main)) in
       (omega arith, omega arith, shown (ℕ-discrete (j .bad) 0))
     where
-      shown : Dec (j .bad ≡ 0) → j .shown ≤ 4096
+      shown : Dec (j .bad ≡ 0) → j .shown ≤ mostSchedules
       shown (yes z) = let n = p .none z in omega arith
       shown (no n) = bad-most (j .shown) (p .shown n)
 
@@ -113,102 +121,174 @@ module _ (rules : List Rule) (s : List ℕ) (e : Extent) (i : Inside s e) where
   decides-few Holds p = tt
   decides-few (Fails x) p = bad-most x p
 
--- ---- the refusals, outcome by outcome
+pub loaded-few : (rules : List Rule) (s : List ℕ) (e : Extent) (test : Loaded) (rows : List ℕ) (cs : List Check) (j : Judgement) → Inside s e → LoadsTest (testAt s e) test
+    → take (test .main) rows ≡ rowsFrom rules (test .labels) (test .main) (test .main) → LoadsChecks (testAt s e) cs
+    → Tallies (validRows rows (test .main)) (badRows rows (test .main) (test .base) (heldFrom (test .stores) 0 (test .main)) (take (test .checks) cs)) (2 ^ test .main) j → FewNumbers j
+loaded-few rules s e test rows cs j i el er ec t = judges-few rules s e i j (judges-all rules s e test rows cs el er ec j t)
 
--- the case of an accepted file whose rules are cyclic, or not
-abbrev fromFile : ℕ → Bool → ℕ → ℕ → List ℕ → File → Outcome Case
-fromFile k b rules tests s f =
-    cond b (refused 8 0) (cond (leb 1 k && leb k tests) (answer (record { rules = rulesAt s rules; test = testOf f (k - 1) })) (refused 9 0))
+pub ruleset loops = (needs, judges-all, decides-all, loaded-few)
 
-case-file : (s : List ℕ) (k rules tests : ℕ) (rs : List Rule) (b : Bool) (f : File) → readOf s ≡ answer f → f .rules ≡ rulesAt s rules → length (f .tests) ≡ tests
-    → rs ≡ rulesAt s rules → b ≡ cyclic rs → caseIn s k ≡ fromFile k b rules tests s f
-unfolding caseIn caseOf
-case-file s k rules tests rs b f h a n q p = rw (h, a, n, p, q)
+-- ---- a file opened
 
-module _ (s : List ℕ) (k w : ℕ) (x : Scan) (z : w ≡ k - 1) (t : Tells s w (readOf s) x) where
-  pub refused-reading : (number place : ℕ) → x ≡ Refused number place → Selects s k (Selected.Refused number place)
-  unfolding Selects caseIn caseOf
-  refused-reading number place e =
-      let h = rw e at t in
-      let l = refused-most s w number place h in
+module _ (s : List ℕ) (ts : List Extent) where
+  pub opened-unread : (x : Scan) (why : Refusal) (rules : Rules) → ScansTo (scanOf s) x ts → x ≡ Refused why → OpensTo s rules ts (Found.Refused why)
+  unfolding OpensTo judgedFile
+  opened-unread x why rules g e =
+      let l = refused-most s x ts g why e in
       let m = l .0 in
-      (rw (refused-read s w number place h), omega arith, l .1)
+      (rw (refused-read s x ts g why e), (omega arith, l .1))
 
-  module _ (rules tests : ℕ) (found : Extent) (e : x ≡ Accepted rules tests found) where
-    pub rules-most : rules ≤ 32
-    rules-most = accepted-most s w rules tests found (rw e at t) .0
+  pub scans-known : (x : Scan) (rules n : ℕ) → ScansTo (scanOf s) x ts → x ≡ Accepted rules n → ScansTo (scanOf s) (Accepted rules n) ts
+  scans-known x rules n g e = rw e at g
 
-    pub rules-inside : 6 * rules ≤ length s
-    rules-inside = accepted-long s w rules tests found (rw e at t)
+  module _ (rules n : ℕ) (g : ScansTo (scanOf s) (Accepted rules n) ts) where
+    pub count-few : (r : Rules) → r .count ≡ rules → r .count ≤ mostRules
+    count-few r k = let m = accepted-rules s _ ts g rules n refl in omega arith
 
-    module _ (r : Rules) (b : Bool) (q : rulesOf r ≡ rulesAt s rules) (p : b ≡ cyclic (rulesOf r)) where
-      -- what the file gives, once its rules are known
-      reads : caseIn s k ≡ fromFile k b rules tests s (accepted-file s w rules tests found (rw e at t))
-      reads =
-          let h = rw e at t in
-          case-file s k rules tests (rulesOf r) b (accepted-file s w rules tests found h) (accepted-read s w rules tests found h) (accepted-at s w rules tests found h) (accepted-tests s w rules tests found h) q p
+    pub rules-few : rules ≤ mostRules
+    rules-few = accepted-rules s _ ts g rules n refl
 
-      pub refused-cyclic : b ≡ true → Selects s k (Selected.Refused 8 0)
-      unfolding Selects
-      refused-cyclic h = (reads ∙ rw h, omega arith, omega arith)
+    pub rules-fields : Fields isRule s 0 rules
+    rules-fields = accepted-fields s _ ts g rules n refl
 
-      module _ (d : Bool) (g : d ≡ leb 1 k && leb k tests) where
-        pub refused-none : b ≡ false → not d ≡ true → Selects s k (Selected.Refused 9 0)
-        unfolding Selects
-        refused-none h n = (reads ∙ rw (h, ← g, not-true d n), omega arith, omega arith)
+    here : File
+    here = accepted-file s _ ts g rules n refl
 
-        pub test-found : b ≡ false → not d ≡ false → Selects s k (Found rules found)
-        unfolding Selects
-        test-found h n =
-            let i : w < tests = listed-below k w tests d z g n in
-            let a = accepted-test s w rules tests found (rw e at t) i in
-            (reads ∙ rw (h, ← g, not-false d n, ← z, a), rules-most, rules-inside, accepted-inside s w rules tests found (rw e at t) i)
+    module _ (r : Rules) (b : Bool) (q : rulesOf r ≡ rulesAt s rules) (k : r .count ≡ rules) (p : b ≡ cyclic (rulesOf r)) where
+      same-rules : rulesOf r ≡ here .rules
+      unfolding here
+      same-rules = q ∙ sym (accepted-at s _ ts g rules n refl)
+
+      judged : judgedFile (readOf s) ≡ cond b (refused 8 0) (answer here)
+      unfolding judgedFile here
+      judged = rw (accepted-read s _ ts g rules n refl, p, same-rules)
+
+      pub opened-cyclic : b ≡ true → OpensTo s r ts (Found.Refused (record { number = 8; place = 0 }))
+      unfolding OpensTo
+      opened-cyclic h = (judged ∙ ap (λ (c : Bool). cond c (refused 8 0) (answer here)) h, (omega arith, omega arith))
+
+      pub opened-tests : b ≡ false → OpensTo s r ts (Tests n)
+      unfolding OpensTo here
+      opened-tests h = (here, judged ∙ ap (λ (c : Bool). cond c (refused 8 0) (answer here)) h, same-rules, (let m = rules-few in omega arith), accepted-placed s _ ts g rules n refl)
+
+pub ruleset opens = (needs, opened-unread, scans-known, count-few, rules-few, rules-fields, opened-cyclic, opened-tests)
+
+-- ---- the test that a call asks for
+
+-- the case by the file that is judged
+case-judged : (o : Outcome File) (k : ℕ) (number place : ℕ) → judgedFile o ≡ refused number place → caseOf o k ≡ refused number place
+unfolding caseOf judgedFile
+case-judged (refused number place) k a b e = cc
+case-judged (answer f) k a b e = go (cyclic (f .rules)) e
+  where
+    go : (c : Bool) → cond {A = Outcome File} c (refused 8 0) (answer f) ≡ refused a b
+        → cond {A = Outcome Case} c (refused 8 0) (cond (leb 1 k && leb k (length (f .tests))) (answer (record { rules = f .rules; test = testOf f (k - 1) })) (refused 9 0)) ≡ refused a b
+    go true q = cc
+    go false q = let z : _≡_ {A = ℕ} 0 1 = cc in absurd (omega arith)
+
+case-among : (o : Outcome File) (k : ℕ) (f : File) → judgedFile o ≡ answer f
+    → caseOf o k ≡ cond (leb 1 k && leb k (length (f .tests))) (answer (record { rules = f .rules; test = testOf f (k - 1) })) (refused 9 0)
+unfolding caseOf judgedFile
+case-among (refused number place) k f e = let z : _≡_ {A = ℕ} 0 1 = cc in absurd (omega arith)
+case-among (answer g) k f e = go (cyclic (g .rules)) e
+  where
+    go : (c : Bool) → cond {A = Outcome File} c (refused 8 0) (answer g) ≡ answer f
+        → cond {A = Outcome Case} c (refused 8 0) (cond (leb 1 k && leb k (length (g .tests))) (answer (record { rules = g .rules; test = testOf g (k - 1) })) (refused 9 0))
+        ≡ cond (leb 1 k && leb k (length (f .tests))) (answer (record { rules = f .rules; test = testOf f (k - 1) })) (refused 9 0)
+    go true q = let z : _≡_ {A = ℕ} 0 1 = cc in absurd (omega arith)
+    go false q = let z : g ≡ f = cc in rw z
+
+module _ (s : List ℕ) (k : ℕ) (rules : Rules) (ts : List Extent) (x : Found) (o : OpensTo s rules ts x) where
+  pub selects-refused : (why : Refusal) → x ≡ Found.Refused why → SelectsTo s k rules (Choice.Refused why)
+  unfolding OpensTo SelectsTo caseIn
+  selects-refused why e =
+      let h : (judgedFile (readOf s) ≡ refused (why .number) (why .place)) × SmallRefusal why = rw e at o in
+      (case-judged (readOf s) k (why .number) (why .place) (h .0), h .1)
+
+  module _ (n : ℕ) (e : x ≡ Tests n) where
+    found : (f : File) × (judgedFile (readOf s) ≡ answer f) × (rulesOf rules ≡ f .rules) × (rules .count ≤ mostRules) × Placed s (f .tests) ts n
+    unfolding OpensTo
+    found = rw e at o
+
+    pub selects-few : n ≤ mostTests
+    selects-few = found .4 .most
+
+    module _ (d : Bool) (g : d ≡ leb 1 k && leb k n) where
+      case-here : caseIn s k ≡ cond d (answer (record { rules = found .0 .rules; test = testOf (found .0) (k - 1) })) (refused 9 0)
+      unfolding caseIn
+      case-here = case-among (readOf s) k (found .0) (found .1)
+          ∙ ap (λ (b : Bool). cond b (answer (record { rules = found .0 .rules; test = testOf (found .0) (k - 1) })) (refused 9 0)) {x = leb 1 k && leb k (length (found .0 .tests))} {y = d} (rw (found .4 .count) (sym g))
+
+      pub selects-none : not d ≡ true → SelectsTo s k rules (Choice.Refused (record { number = 9; place = 0 }))
+      unfolding SelectsTo
+      selects-none h = (case-here ∙ ap (λ (b : Bool). cond b (answer (record { rules = found .0 .rules; test = testOf (found .0) (k - 1) })) (refused 9 0)) (not-true d h), (omega arith, omega arith))
+
+      pub selects-below : (w : ℕ) → w ≡ k - 1 → not d ≡ false → w < mostTests
+      selects-below w z h = let l = listed-below k w n d z g h in let m = selects-few in omega arith
+
+      pub selects-scaled : (w : ℕ) → w ≡ k - 1 → not d ≡ false → w * 32 < 18446744073709551616
+      selects-scaled w z h = let l = selects-below w z h in omega arith
+
+      pub selects-test : (w : ℕ) → w ≡ k - 1 → not d ≡ false → SelectsTo s k rules (Choice.Test (extentOf ts w))
+      unfolding SelectsTo
+      selects-test w z h =
+          let i : w < n = listed-below k w n d z g h in (
+            case-here ∙ ap (λ (b : Bool). cond b (answer (record { rules = found .0 .rules; test = testOf (found .0) (k - 1) })) (refused 9 0)) (not-false d h)
+                ∙ rw (← z, found .4 .each w i, found .2),
+            found .3,
+            found .4 .inside w i,
+          )
+
+pub ruleset selects = (needs, selects-refused, selects-none, selects-below, selects-scaled, selects-few, selects-test)
 
 -- ---- from the test that is selected to the answers
 
-module _ (s : List ℕ) (k : ℕ) (g : Selected) (t : Selects s k g) where
-  pub judging-refused : (number place : ℕ) → g ≡ Selected.Refused number place → Judging (caseIn s k) (Judged.Refused number place)
-  unfolding Selects Judging
-  judging-refused number place e = let h : (caseIn s k ≡ refused number place) × (number ≤ 9) × (place ≤ longest) = rw e at t in rw (h .0)
+module _ (s : List ℕ) (k : ℕ) (rules : Rules) (x : Choice) (t : SelectsTo s k rules x) where
+  module _ (why : Refusal) (e : x ≡ Choice.Refused why) where
+    refused-so : (caseIn s k ≡ refused (why .number) (why .place)) × SmallRefusal why
+    unfolding SelectsTo
+    refused-so = rw e at t
 
-  pub few-refused : (number place : ℕ) → g ≡ Selected.Refused number place → Few (Judged.Refused number place)
-  unfolding Selects Few
-  few-refused number place e = let h : (caseIn s k ≡ refused number place) × (number ≤ 9) × (place ≤ longest) = rw e at t in (h .1, h .2)
-
-  pub few-decided-refused : (number place : ℕ) → g ≡ Selected.Refused number place → FewDecided (Decided.Refused number place)
-  unfolding Selects FewDecided
-  few-decided-refused number place e = let h : (caseIn s k ≡ refused number place) × (number ≤ 9) × (place ≤ longest) = rw e at t in (h .1, h .2)
-
-  pub deciding-refused : (number place : ℕ) → g ≡ Selected.Refused number place → Deciding (caseIn s k) (Decided.Refused number place)
-  unfolding Selects Deciding
-  deciding-refused number place e = let h : (caseIn s k ≡ refused number place) × (number ≤ 9) × (place ≤ longest) = rw e at t in rw (h .0)
-
-  module _ (rules : ℕ) (found : Extent) (e : g ≡ Found rules found) where
-    case-found : (caseIn s k ≡ answer (caseAt (rulesAt s rules) s found)) × (rules ≤ 32) × (6 * rules ≤ length s) × Inside s found
-    unfolding Selects
-    case-found = rw e at t
-
-    pub found-rules : rules ≤ 32
-    found-rules = case-found .1
-
-    pub found-long : 6 * rules ≤ length s
-    found-long = case-found .2
-
-    pub found-inside : Inside s found
-    found-inside = case-found .3
-
-    pub judging-found : (r : Rules) (j : Judgement) → rulesOf r ≡ rulesAt s rules → Judges (caseAt (rulesOf r) s found) j → Judging (caseIn s k) (Counts j)
+    pub judging-refused : Judging (caseIn s k) (Judged.Refused why)
     unfolding Judging
-    judging-found r j q p = rw (case-found .0) (j, refl, rw q at p)
+    judging-refused = rw (refused-so .0)
 
-    pub few-found : (r : Rules) (j : Judgement) → Judges (caseAt (rulesOf r) s found) j → Few (Counts j)
-    few-found r j p = judges-few (rulesOf r) s found found-inside j p
-
-    pub few-decided-found : (r : Rules) (v : Verdict) → Decides (caseAt (rulesOf r) s found) v → FewDecided (As v)
-    few-decided-found r v p = decides-few (rulesOf r) s found found-inside v p
-
-    pub deciding-found : (r : Rules) (v : Verdict) → rulesOf r ≡ rulesAt s rules → Decides (caseAt (rulesOf r) s found) v → Deciding (caseIn s k) (As v)
+    pub deciding-refused : Deciding (caseIn s k) (Decided.Refused why)
     unfolding Deciding
-    deciding-found r v q p = rw (case-found .0) (v, refl, rw q at p)
+    deciding-refused = rw (refused-so .0)
 
-pub ruleset judges = (needs, judges-all, decides-all, refused-reading, refused-cyclic, refused-none, test-found, judging-refused, deciding-refused, judging-found, deciding-found, few-refused, few-decided-refused, few-found, few-decided-found)
+    pub few-refused : Few (Judged.Refused why)
+    unfolding Few
+    few-refused = refused-so .1
+
+    pub few-decided-refused : FewDecided (Decided.Refused why)
+    unfolding FewDecided
+    few-decided-refused = refused-so .1
+
+  module _ (e : Extent) (q : x ≡ Choice.Test e) where
+    chosen : (caseIn s k ≡ answer (caseAt (rulesOf rules) s e)) × (rules .count ≤ mostRules) × Inside s e
+    unfolding SelectsTo
+    chosen = rw q at t
+
+    pub chosen-rules : rules .count ≤ mostRules
+    chosen-rules = chosen .1
+
+    pub chosen-inside : Inside s e
+    chosen-inside = chosen .2
+
+    pub judging-found : (j : Judgement) → Judges (caseAt (rulesOf rules) s e) j → Judging (caseIn s k) (Counts j)
+    unfolding Judging
+    judging-found j p = rw (chosen .0) (j, refl, p)
+
+    pub few-found : (j : Judgement) → FewNumbers j → Few (Counts j)
+    unfolding Few
+    few-found j f = f
+
+    pub deciding-found : (v : Verdict) → Decides (caseAt (rulesOf rules) s e) v → Deciding (caseIn s k) (As v)
+    unfolding Deciding
+    deciding-found v p = rw (chosen .0) (v, refl, p)
+
+    pub few-decided-found : (v : Verdict) → Decides (caseAt (rulesOf rules) s e) v → FewDecided (As v)
+    few-decided-found v p = decides-few (rulesOf rules) s e chosen-inside v p
+
+pub ruleset judges = (needs, judging-refused, deciding-refused, few-refused, few-decided-refused, chosen-rules, chosen-inside, judging-found, few-found, deciding-found, few-decided-found)

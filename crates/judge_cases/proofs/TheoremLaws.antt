@@ -1,4 +1,4 @@
--- The theorem of judging: the definitions that are computed mean what document 01 says, by `cyclelaws` and by the theorems of `model`; the rest is the cases of `caseOf`.
+-- The theorem of judging: the definitions that are computed mean what document 01 says, by `rule_cyclelaws` and by the theorems of `model`; the rest is the cases of `caseOf`.
 use mathlib.Core.Path.{_≡_, refl, sym, ap, _∙_}
 use mathlib.Core.Logic.{_↔_, _⊎_, inl, inr}
 use mathlib.Core.Bool.{Bool, true, false, cond, false≢true, and-false, _&&_}

@@ -1,31 +1,39 @@
 -- Judging one test of a file.
-use Prim.Native.Nat.{ℕ, _-_, _*_, _≤_}
+use Prim.Native.Nat.{ℕ, _-_, _≤_}
 use mathlib.Core.Path.{_≡_}
 use mathlib.Core.Bool.{cond, _&&_}
 use mathlib.Core.List.{List}
 use lib.Dec.{leb}
 use lib.ListN.{length}
 use Rattle.model.specs.declared.Rule.{Rule}
+use Rattle.model.specs.declared.Refusal.{Refusal}
+use Rattle.model.specs.Limits.{mostRules, mostSchedules}
 use Rattle.model.specs.Answer.{Outcome, answer, refused}
 use Rattle.model.specs.Cyclic.{cyclic}
 use Rattle.model.specs.Test.{Test, File, TestHolds, Bad, validCount, badCount}
-use Rattle.file_format.specs.File.{readOf}
 use Rattle.file_format.specs.declared.Extent.{Extent}
+use Rattle.file_format.specs.File.{readOf}
+use Rattle.file_format.specs.Scan.{testAt}
+use Rattle.file_format.specs.Held.{testOf, Inside, Placed}
 use Rattle.file_reader.specs.Limits.{longest}
-use Rattle.file_format.specs.Scan.{rulesAt, testAt}
-use Rattle.file_format.specs.Held.{testOf, Inside}
+use Rattle.rule_match.specs.declared.Rules.{Rules}
+use Rattle.rule_match.specs.Held.{rulesOf}
+use Rattle.judge_counting.specs.declared.Judgement.{Judgement}
+use Rattle.judge_counting.specs.declared.Verdict.{Verdict}
+use Rattle.judge_counting.specs.declared.Verdict.the-variants.{Holds, Fails}
+use Rattle.judge_cases.specs.declared.Found.{Found}
+use Rattle.judge_cases.specs.declared.Found.the-variants.{Tests}
+use Rattle.judge_cases.specs.declared.Found.the-variants as Found
+use Rattle.judge_cases.specs.declared.Opened.{Opened}
+use Rattle.judge_cases.specs.declared.Choice.{Choice}
+use Rattle.judge_cases.specs.declared.Choice.the-variants as Choice
 use Rattle.judge_cases.specs.declared.Selected.{Selected}
-use Rattle.judge_cases.specs.declared.Selected.the-variants.{Found}
-use Rattle.judge_cases.specs.declared.Selected.the-variants as Selected
 use Rattle.judge_cases.specs.declared.Judged.{Judged}
 use Rattle.judge_cases.specs.declared.Judged.the-variants.{Counts}
 use Rattle.judge_cases.specs.declared.Judged.the-variants as Judged
 use Rattle.judge_cases.specs.declared.Decided.{Decided}
 use Rattle.judge_cases.specs.declared.Decided.the-variants.{As}
 use Rattle.judge_cases.specs.declared.Decided.the-variants as Decided
-use Rattle.judge_counting.specs.declared.Judgement.{Judgement}
-use Rattle.judge_counting.specs.declared.Verdict.{Verdict}
-use Rattle.judge_counting.specs.declared.Verdict.the-variants.{Holds, Fails}
 
 -- a test and the rules it is judged under
 pub record Case : Type 0 where
@@ -61,28 +69,51 @@ Decides c (Fails s) = Bad (c .rules) (c .test) s
 abbrev pub caseAt : List Rule → List ℕ → Extent → Case
 caseAt rules s e = record { rules = rules; test = testAt s e }
 
--- the test that a call asks for, by its place in an accepted file, or the refusal
-unfoldable pub Selects : List ℕ → ℕ → Selected → Type 0
-Selects s k (Selected.Refused number place) = (caseIn s k ≡ refused number place) × (number ≤ 9) × (place ≤ longest)
-Selects s k (Found rules found) =
-    (caseIn s k ≡ answer (caseAt (rulesAt s rules) s found)) × (rules ≤ 32) × (6 * rules ≤ length s) × Inside s found
+-- a refusal that a judge gives: its number is at most 9, its place at most the longest file's length
+abbrev pub SmallRefusal : Refusal → Type 0
+SmallRefusal why = (why .number ≤ 9) × (why .place ≤ longest)
+
+-- a file that is read, or 8: its rules are cyclic
+unfoldable pub judgedFile : Outcome File → Outcome File
+judgedFile (refused number place) = refused number place
+judgedFile (answer f) = cond (cyclic (f .rules)) (refused 8 0) (answer f)
+
+-- a file opened: the refusal, or its rules and where its tests stand
+unfoldable pub OpensTo : List ℕ → Rules → List Extent → Found → Type 0
+OpensTo s rules tests (Found.Refused why) = (judgedFile (readOf s) ≡ refused (why .number) (why .place)) × SmallRefusal why
+OpensTo s rules tests (Tests n) =
+    (f : File) × (judgedFile (readOf s) ≡ answer f) × (rulesOf rules ≡ f .rules) × (rules .count ≤ mostRules) × Placed s (f .tests) tests n
+
+abbrev pub OpensFile : List ℕ → Opened → Type 0
+OpensFile s r = OpensTo s (r .rules) (r .tests) (r .found)
+
+-- the test that a call asks for, by its place in the file and with the file's rules, or the refusal
+unfoldable pub SelectsTo : List ℕ → ℕ → Rules → Choice → Type 0
+SelectsTo s k rules (Choice.Refused why) = (caseIn s k ≡ refused (why .number) (why .place)) × SmallRefusal why
+SelectsTo s k rules (Choice.Test e) = (caseIn s k ≡ answer (caseAt (rulesOf rules) s e)) × (rules .count ≤ mostRules) × Inside s e
+
+abbrev pub Selects : List ℕ → ℕ → Selected → Type 0
+Selects s k r = SelectsTo s k (r .rules) (r .choice)
 
 -- the judge: the refusal, or numbers that judge the case
 unfoldable pub Judging : Outcome Case → Judged → Type 0
-Judging (refused number place) r = r ≡ Judged.Refused number place
+Judging (refused number place) r = r ≡ Judged.Refused (record { number = number; place = place })
 Judging (answer c) r = (j : Judgement) × (r ≡ Counts j) × Judges c j
 
 -- the verdict alone: the refusal, or a verdict that decides the case
 unfoldable pub Deciding : Outcome Case → Decided → Type 0
-Deciding (refused number place) r = r ≡ Decided.Refused number place
+Deciding (refused number place) r = r ≡ Decided.Refused (record { number = number; place = place })
 Deciding (answer c) r = (v : Verdict) × (r ≡ As v) × Decides c v
 
--- a test has at most 4,096 schedules, so no number of an answer is larger
+-- a test has at most so many schedules, and no number of an answer is larger
+unfoldable pub FewNumbers : Judgement → Type 0
+FewNumbers j = (j .valid ≤ mostSchedules) × (j .bad ≤ mostSchedules) × (j .shown ≤ mostSchedules)
+
 unfoldable pub Few : Judged → Type 0
-Few (Counts j) = (j .valid ≤ 4096) × (j .bad ≤ 4096) × (j .shown ≤ 4096)
-Few (Judged.Refused number place) = (number ≤ 9) × (place ≤ longest)
+Few (Counts j) = FewNumbers j
+Few (Judged.Refused why) = SmallRefusal why
 
 unfoldable pub FewDecided : Decided → Type 0
 FewDecided (As Holds) = Unit {0}
-FewDecided (As (Fails s)) = s ≤ 4096
-FewDecided (Decided.Refused number place) = (number ≤ 9) × (place ≤ longest)
+FewDecided (As (Fails s)) = s ≤ mostSchedules
+FewDecided (Decided.Refused why) = SmallRefusal why

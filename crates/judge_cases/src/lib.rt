@@ -1,99 +1,155 @@
-// Judging a test under a file's rules, over all its crash schedules.
+// Judging a test under a file's rules, over all its crash schedules. A file is read, its rules are loaded
+// and asked for rings once, whatever is judged then.
 use file_format::Extent;
 use file_format::Scan;
 use judge_counting::Judgement;
 use judge_counting::Verdict;
+use model::Refusal;
 use rule_match::Rules;
 ghost use Prim.Native.Nat.{_≤_};
+ghost use Rattle.model.specs.Limits.{mostRules};
 ghost use Rattle.rule_match.specs.Held.{rulesOf};
-ghost use Rattle.file_format.specs.Held.{Inside};
-ghost use Rattle.judge_cases.specs.Judge.{caseAt, caseIn, Judges, Decides, Selects, Judging, Deciding, Few, FewDecided};
+ghost use Rattle.file_format.specs.Scan.{scanOf};
+ghost use Rattle.file_format.specs.Held.{Inside, ScansTo};
+ghost use Rattle.judge_cases.specs.Judge.{caseAt, caseIn, Judges, Decides, FewNumbers, OpensFile, Selects, Judging, Deciding, Few, FewDecided};
+
+// What a file holds for the judge: how many tests, or a refusal.
+pub enum Found {
+    Tests(usize),
+    Refused(Refusal),
+}
+
+// That, with its rules, and where its tests stand, the first ones of an array.
+pub struct Opened {
+    pub rules: Rules,
+    pub tests: [Extent; model::MOST_TESTS],
+    pub found: Found,
+}
 
 // The test of a file that a call asks for, or the refusal of the call.
-pub enum Selected {
-    Found { rules: usize, found: Extent },
-    Refused { number: u8, place: usize },
+pub enum Choice {
+    Test(Extent),
+    Refused(Refusal),
+}
+
+// That, with the file's rules.
+pub struct Selected {
+    pub rules: Rules,
+    pub choice: Choice,
 }
 
 // What a judge gives: its numbers, or a refusal.
 pub enum Judged {
     Counts(Judgement),
-    Refused { number: u8, place: usize },
+    Refused(Refusal),
 }
 
 // What the verdict alone gives.
 pub enum Decided {
     As(Verdict),
-    Refused { number: u8, place: usize },
+    Refused(Refusal),
 }
 
 // All of a test's schedules counted, under these rules.
-fn judge_test(file: &[u8], rules: Rules, e: Extent) -> Judgement
-    requires { ⌜ (rules .count ≤ 32) × Inside (now file) e ⌝ }
-    ensures { λ r. ⌜ Judges (caseAt (rulesOf rules) (now (file .entry)) e) r ⌝ }
+pub fn judge_test(file: &[u8], rules: Rules, e: Extent) -> Judgement
+    requires { ⌜ (rules .count ≤ mostRules) × Inside (now file) e ⌝ }
+    ensures { λ r. ⌜ Judges (caseAt (rulesOf rules) (now (file .entry)) e) r × FewNumbers r ⌝ }
 {
-    let at = e.at;
-    let k = e.initial;
-    let n = e.main;
-    let m = e.checks;
-    let main_at = at + 13 * k;
-    let checks_at = main_at + 13 * n;
-    let base = judge_schedules::initial_disk(file, at, k);
-    let checks = file_loading::file_checks(file, checks_at, m);
-    let mut table = [0u64; 64];
-    judge_disks::load(&mut table, file, main_at, n);
-    let mut low = [0u64; 64];
-    let mut high = [0u64; 64];
-    judge_schedules::prepare(&mut low, &mut high, rules, file, main_at, n);
-    judge_counting::count_all(&low, &high, base, &table, n, checks, m)
+    let test = judge_loading::load_test(file, e);
+    let checks = judge_loading::load_checks(file, e);
+    let base = test.base;
+    let stores = test.stores;
+    let labels = test.labels;
+    let mut rows = [0u64; 64];
+    judge_rows::fill(&mut rows, rules, &labels, test.main);
+    judge_counting::count_all(&rows, base, &stores, test.main, checks, test.checks)
 }
 
 // The verdict on a test, under these rules.
 fn decide_test(file: &[u8], rules: Rules, e: Extent) -> Verdict
-    requires { ⌜ (rules .count ≤ 32) × Inside (now file) e ⌝ }
+    requires { ⌜ (rules .count ≤ mostRules) × Inside (now file) e ⌝ }
     ensures { λ r. ⌜ Decides (caseAt (rulesOf rules) (now (file .entry)) e) r ⌝ }
 {
-    let at = e.at;
-    let k = e.initial;
-    let n = e.main;
-    let m = e.checks;
-    let main_at = at + 13 * k;
-    let checks_at = main_at + 13 * n;
-    let base = judge_schedules::initial_disk(file, at, k);
-    let checks = file_loading::file_checks(file, checks_at, m);
-    let mut table = [0u64; 64];
-    judge_disks::load(&mut table, file, main_at, n);
-    let mut low = [0u64; 64];
-    let mut high = [0u64; 64];
-    judge_schedules::prepare(&mut low, &mut high, rules, file, main_at, n);
-    judge_counting::first_bad(&low, &high, base, &table, n, checks, m)
+    let test = judge_loading::load_test(file, e);
+    let checks = judge_loading::load_checks(file, e);
+    let base = test.base;
+    let stores = test.stores;
+    let labels = test.labels;
+    let mut rows = [0u64; 64];
+    judge_rows::fill(&mut rows, rules, &labels, test.main);
+    judge_counting::first_bad(&rows, base, &stores, test.main, checks, test.checks)
 }
 
-// The test to be judged, or the refusal: reading's, 8, 9.
-pub fn select(file: &[u8], test: u64) -> Selected
-    ensures { λ r. ⌜ Selects (now (file .entry)) test r ⌝ }
+// A file that was read, by its rules: 8 if these are cyclic.
+fn with_rules(file: &[u8], tests: [Extent; model::MOST_TESTS], rules: usize, n: usize) -> Opened
+    requires { ⌜ ScansTo (scanOf (now file)) (Scan.Accepted rules n) tests ⌝ }
+    ensures { λ r. ⌜ OpensFile (now (file .entry)) r ⌝ }
 {
-    match file_reader::read(file, file_reader::from_zero(test)) {
-        Scan::Accepted {
+    let rules = file_loading::file_rules(file, rules);
+    if rule_cycles::is_cyclic(rules) {
+        let found = Found::Refused(Refusal {
+            number: 8,
+            place: 0,
+        });
+        return Opened {
             rules,
             tests,
             found,
-        } => {
-            if rule_cycles::is_cyclic(file_loading::file_rules(file, rules)) {
-                return Selected::Refused {
-                    number: 8,
-                    place: 0,
-                };
+        };
+    }
+    let found = Found::Tests(n);
+    Opened {
+        rules,
+        tests,
+        found,
+    }
+}
+
+// A file opened for judging, or the refusal: reading's, 8.
+pub fn open_file(file: &[u8]) -> Opened
+    ensures { λ r. ⌜ OpensFile (now (file .entry)) r ⌝ }
+{
+    let read = file_reader::read(file);
+    let tests = read.tests;
+    let scan = read.scan;
+    match scan {
+        Scan::Accepted { rules, tests: n } => with_rules(file, tests, rules, n),
+        Scan::Refused(why) => {
+            let found = Found::Refused(why);
+            let rules = rule_match::none();
+            Opened {
+                rules,
+                tests,
+                found,
             }
-            if !file_reader::has_test(tests, test) {
-                return Selected::Refused {
+        }
+    }
+}
+
+// The test to be judged, or the refusal: that of opening, 9.
+fn select(file: &[u8], test: u64) -> Selected
+    ensures { λ r. ⌜ Selects (now (file .entry)) test r ⌝ }
+{
+    let opened = open_file(file);
+    let rules = opened.rules;
+    let tests = opened.tests;
+    let found = opened.found;
+    match found {
+        Found::Tests(n) => {
+            if !file_reader::has_test(n, test) {
+                let choice = Choice::Refused(Refusal {
                     number: 9,
                     place: 0,
-                };
+                });
+                return Selected { rules, choice };
             }
-            Selected::Found { rules, found }
+            let choice = Choice::Test(tests[file_reader::from_zero(test)]);
+            Selected { rules, choice }
         }
-        Scan::Refused { number, place } => Selected::Refused { number, place },
+        Found::Refused(why) => {
+            let choice = Choice::Refused(why);
+            Selected { rules, choice }
+        }
     }
 }
 
@@ -101,11 +157,11 @@ pub fn select(file: &[u8], test: u64) -> Selected
 pub fn judge(file: &[u8], test: u64) -> Judged
     ensures { λ r. ⌜ Judging (caseIn (now (file .entry)) test) r × Few r ⌝ }
 {
-    match select(file, test) {
-        Selected::Found { rules, found } => {
-            Judged::Counts(judge_test(file, file_loading::file_rules(file, rules), found))
-        }
-        Selected::Refused { number, place } => Judged::Refused { number, place },
+    let selected = select(file, test);
+    let choice = selected.choice;
+    match choice {
+        Choice::Test(e) => Judged::Counts(judge_test(file, selected.rules, e)),
+        Choice::Refused(why) => Judged::Refused(why),
     }
 }
 
@@ -113,10 +169,10 @@ pub fn judge(file: &[u8], test: u64) -> Judged
 pub fn decide(file: &[u8], test: u64) -> Decided
     ensures { λ r. ⌜ Deciding (caseIn (now (file .entry)) test) r × FewDecided r ⌝ }
 {
-    match select(file, test) {
-        Selected::Found { rules, found } => {
-            Decided::As(decide_test(file, file_loading::file_rules(file, rules), found))
-        }
-        Selected::Refused { number, place } => Decided::Refused { number, place },
+    let selected = select(file, test);
+    let choice = selected.choice;
+    match choice {
+        Choice::Test(e) => Decided::As(decide_test(file, selected.rules, e)),
+        Choice::Refused(why) => Decided::Refused(why),
     }
 }

@@ -13,6 +13,7 @@ use borrow.Author.Needs.{needs}
 use borrow.Author.Tests.{eq-eqb, ne-eqb, le-leb, lt-leb, le-ltb, lt-ltb, not-true, not-false}
 use Rattle.relation.specs.Lists.{allBelow, all}
 use Rattle.relation.proofs.ListLaws.{allBelow-true, and-intro, all-true, all-append, index-mem}
+use Rattle.model.specs.Limits.{diskBlocks, lastBlock, mostChecks}
 use Rattle.model.specs.declared.Check.{Check}
 use Rattle.model.specs.declared.Check.the-variants.{Range, Pointer}
 use Rattle.model.specs.Disk.{empty, firstOf, secondOf, blockAt}
@@ -21,7 +22,7 @@ use Rattle.model.specs.Check.{damaged, rangeHolds, holds, consistent}
 -- ---- head and tail
 
 module _ (head tail : ℕ) where
-  pub damage-beyond : head < tail → ltb 256 tail ≡ damaged head tail
+  pub damage-beyond : head < tail → ltb diskBlocks tail ≡ damaged head tail
   unfolding damaged
   damage-beyond h = rw (le-ltb tail head (omega arith), lt-ltb head tail h)
 
@@ -55,18 +56,18 @@ module _ (d : List ℕ) (head tail : ℕ) where
       same true = refl
       same false = refl
 
-  pub range-past : head < tail → 256 < tail → false ≡ rangeHolds d head tail
+  pub range-past : head < tail → diskBlocks < tail → false ≡ rangeHolds d head tail
   unfolding rangeHolds
-  range-past h l = rw (← damage-beyond head tail h, lt-ltb 256 tail l)
+  range-past h l = rw (← damage-beyond head tail h, lt-ltb diskBlocks tail l)
 
-  inside : head < tail → tail ≤ 256 → damaged head tail ≡ false
-  inside h l = sym (damage-beyond head tail h) ∙ le-ltb 256 tail l
+  inside : head < tail → tail ≤ diskBlocks → damaged head tail ≡ false
+  inside h l = sym (damage-beyond head tail h) ∙ le-ltb diskBlocks tail l
 
   pub range-start : Full d head head
   unfolding allBelow
   range-start = let z : head - head ≡ 0 = omega arith in rw z
 
-  pub range-gap : (k : ℕ) → head < tail → tail ≤ 256 → head ≤ k → k < tail → getD d k 0 ≡ 0 → false ≡ rangeHolds d head tail
+  pub range-gap : (k : ℕ) → head < tail → tail ≤ diskBlocks → head ≤ k → k < tail → getD d k 0 ≡ 0 → false ≡ rangeHolds d head tail
   unfolding rangeHolds empty
   range-gap k h l i j e =
       let z : head + (k - head) ≡ k = omega arith in
@@ -80,7 +81,7 @@ module _ (d : List ℕ) (head tail : ℕ) where
       let y : head + (k - head) ≡ k = omega arith in
       rw z (and-intro _ _ f (rw (y, ne-eqb _ _ e)))
 
-  pub range-full : (k : ℕ) → head < tail → tail ≤ 256 → k ≤ tail → tail ≤ k → Full d head k → true ≡ rangeHolds d head tail
+  pub range-full : (k : ℕ) → head < tail → tail ≤ diskBlocks → k ≤ tail → tail ≤ k → Full d head k → true ≡ rangeHolds d head tail
   unfolding rangeHolds
   range-full k h l i j f =
       let z : k ≡ tail = omega arith in
@@ -97,13 +98,13 @@ module _ (d : List ℕ) (a : ℕ) where
   unfolding holds empty
   pointer-none e = rw (eq-eqb _ _ e)
 
-  pub pointer-past : (to : ℕ) → (blockAt d a ≡ 0 → ⊥) → to ≡ secondOf (blockAt d a) → 255 < to → false ≡ holds d (Pointer a)
+  pub pointer-past : (to : ℕ) → (blockAt d a ≡ 0 → ⊥) → to ≡ secondOf (blockAt d a) → lastBlock < to → false ≡ holds d (Pointer a)
   unfolding holds empty
-  pointer-past to n e h = rw (ne-eqb _ _ n, ← e, lt-leb to 255 h)
+  pointer-past to n e h = rw (ne-eqb _ _ n, ← e, lt-leb to lastBlock h)
 
-  pub pointer-read : (to : ℕ) → (blockAt d a ≡ 0 → ⊥) → to ≡ secondOf (blockAt d a) → to ≤ 255 → not (eqb (getD d to 0) 0) ≡ holds d (Pointer a)
+  pub pointer-read : (to : ℕ) → (blockAt d a ≡ 0 → ⊥) → to ≡ secondOf (blockAt d a) → to ≤ lastBlock → not (eqb (getD d to 0) 0) ≡ holds d (Pointer a)
   unfolding holds empty
-  pointer-read to n e h = rw (ne-eqb _ _ n, ← e, le-leb to 255 h)
+  pointer-read to n e h = rw (ne-eqb _ _ n, ← e, le-leb to lastBlock h)
 
 -- ---- a list of checks
 
@@ -120,7 +121,7 @@ pub same-check : (d : List ℕ) (c c′ : Check) (r : Bool) → c ≡ c′ → r
 same-check d c c′ r e q = rw e q
 
 module _ (d : List ℕ) (cs : List Check) (z : Check) where
-  pub checks-stop : (n i : ℕ) (b : Bool) → i < n → n ≤ 16 → length cs ≡ 16 → b ≡ holds d (getD cs i z) → not b ≡ true → false ≡ consistent (take n cs) d
+  pub checks-stop : (n i : ℕ) (b : Bool) → i < n → n ≤ mostChecks → length cs ≡ mostChecks → b ≡ holds d (getD cs i z) → not b ≡ true → false ≡ consistent (take n cs) d
   unfolding consistent
   checks-stop n i b h m l e q = go (all (holds d) (take n cs)) refl
     where
@@ -130,12 +131,20 @@ module _ (d : List ℕ) (cs : List Check) (z : Check) where
           sym (not-true b q) ∙ e ∙ ap (holds d) (sym (getD-take n cs i z h)) ∙ all-true (holds d) p (getD (take n cs) i z) (index-mem (take n cs) i z size refl)
       go false p = refl
 
-  pub checks-more : (n i : ℕ) (b : Bool) → i < n → n ≤ 16 → length cs ≡ 16 → consistent (take i cs) d ≡ true → b ≡ holds d (getD cs i z) → not b ≡ false
+  pub checks-more : (n i : ℕ) (b : Bool) → i < n → n ≤ mostChecks → length cs ≡ mostChecks → consistent (take i cs) d ≡ true → b ≡ holds d (getD cs i z) → not b ≡ false
       → consistent (take (i + 1) cs) d ≡ true
   unfolding consistent
   checks-more n i b h m l p e q =
       let size : i < length cs = omega arith in
       rw (add-one i, take-suc cs i z size, all-append (holds d) (take i cs) (getD cs i z ∷ []))
       (and-intro (all (holds d) (take i cs)) _ p (unfold all in and-intro (holds d (getD cs i z)) true (sym e ∙ not-false b q) refl))
+
+-- checks asked up to the first that fails: all of them hold exactly if that is at the end
+module _ (d : List ℕ) (cs : List Check) (m i : ℕ) where
+  pub passed-all : i ≤ m → m ≤ i → consistent (take i cs) d ≡ true → eqb i m ≡ consistent (take m cs) d
+  passed-all h l e = let z : i ≡ m = omega arith in eq-eqb i m z ∙ sym (rw z at e)
+
+  pub passed-some : (z : Check) (b : Bool) → i < m → m ≤ mostChecks → length cs ≡ mostChecks → b ≡ holds d (getD cs i z) → not b ≡ true → eqb i m ≡ consistent (take m cs) d
+  passed-some z b h l n e q = ne-eqb i m (λ (y : i ≡ m). absurd (omega arith)) ∙ checks-stop d cs z m i b h l n e q
 
 pub ruleset checking = (needs, damage-beyond, damage-past, range-none, range-past, range-start, range-gap, range-more, range-full, checks-start, checks-stop, checks-more, checks-end, same-check, range-read, pointer-none, pointer-past, pointer-read)

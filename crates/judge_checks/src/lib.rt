@@ -3,6 +3,7 @@ use model::Check;
 ghost use mathlib.Core.Path.{_≡_};
 ghost use Prim.Native.Nat.{_<_, _≤_};
 ghost use lib.ListN.{take};
+ghost use Rattle.model.specs.Limits.{mostChecks};
 ghost use Rattle.model.specs.Disk.{firstOf, secondOf};
 ghost use Rattle.model.specs.Check.{damaged, rangeHolds, holds, consistent};
 
@@ -12,20 +13,20 @@ pub fn is_damaged(head: usize, tail: usize) -> bool
     ensures { λ r. ⌜ r ≡ damaged head tail ⌝ }
 {
     if head < tail {
-        return 256 < tail;
+        return model::DISK_BLOCKS < tail;
     }
     head != tail
 }
 
 // Whether head is at most tail and the blocks from head up to tail - 1 are there. It asks what
 // is_damaged does in an order of its own: with a call of it judging took longer (docs/LANDINGS.md, [6]).
-fn range_holds(disk: &[u32; 256], head: usize, tail: usize) -> bool
+fn range_holds(disk: &[u32; model::DISK_BLOCKS], head: usize, tail: usize) -> bool
     ensures { λ r. ⌜ r ≡ rangeHolds (now (disk .entry)) head tail ⌝ }
 {
     if tail <= head {
         return head == tail;
     }
-    if 256 < tail {
+    if model::DISK_BLOCKS < tail {
         return false;
     }
     let mut k = head;
@@ -51,14 +52,14 @@ pub fn second_of(b: u32) -> usize
     (b % 65536) as usize
 }
 
-fn range_at(disk: &[u32; 256], a: u8) -> bool
+fn range_at(disk: &[u32; model::DISK_BLOCKS], a: u8) -> bool
     ensures { λ r. ⌜ r ≡ holds (now (disk .entry)) (Check.Range a) ⌝ }
 {
     let b = disk[a as usize];
     range_holds(disk, first_of(b), second_of(b))
 }
 
-fn pair_holds(disk: &[u32; 256], a: u8, v: u32, b: u8, w: u32) -> bool
+fn pair_holds(disk: &[u32; model::DISK_BLOCKS], a: u8, v: u32, b: u8, w: u32) -> bool
     ensures { λ r. ⌜ r ≡ holds (now (disk .entry)) (Check.Pair a v b w) ⌝ }
 {
     if disk[a as usize] == v {
@@ -67,7 +68,7 @@ fn pair_holds(disk: &[u32; 256], a: u8, v: u32, b: u8, w: u32) -> bool
     true
 }
 
-fn pointer_holds(disk: &[u32; 256], a: u8) -> bool
+fn pointer_holds(disk: &[u32; model::DISK_BLOCKS], a: u8) -> bool
     ensures { λ r. ⌜ r ≡ holds (now (disk .entry)) (Check.Pointer a) ⌝ }
 {
     let b = disk[a as usize];
@@ -75,14 +76,14 @@ fn pointer_holds(disk: &[u32; 256], a: u8) -> bool
         return true;
     }
     let to = second_of(b);
-    if 255 < to {
+    if model::LAST_BLOCK < to {
         return false;
     }
     disk[to] != 0
 }
 
 // Whether a check holds of a disk.
-pub fn check_holds(disk: &[u32; 256], c: Check) -> bool
+pub fn check_holds(disk: &[u32; model::DISK_BLOCKS], c: Check) -> bool
     ensures { λ r. ⌜ r ≡ holds (now (disk .entry)) c ⌝ }
 {
     match c {
@@ -93,8 +94,12 @@ pub fn check_holds(disk: &[u32; 256], c: Check) -> bool
 }
 
 // Whether the first n checks hold of a disk.
-pub fn is_consistent(disk: &[u32; 256], checks: [Check; 16], n: usize) -> bool
-    requires { ⌜ n ≤ 16 ⌝ }
+pub fn is_consistent(
+    disk: &[u32; model::DISK_BLOCKS],
+    checks: [Check; model::MOST_CHECKS],
+    n: usize,
+) -> bool
+    requires { ⌜ n ≤ mostChecks ⌝ }
     ensures { λ r. ⌜ r ≡ consistent (take n checks) (now (disk .entry)) ⌝ }
 {
     let mut i: usize = 0;

@@ -1,38 +1,47 @@
--- The loops over schedules: the counts so far, and no bad schedule so far.
-use mathlib.Core.Path.{_≡_, refl, sym, _∙_}
-use mathlib.Core.Logic.{_⊎_, ⊎-elim}
-use mathlib.Core.Bool.{Bool, true, false, not, _&&_}
+-- One beginning: the counts with its first ends in them, and the search through its ends.
+use mathlib.Core.Path.{_≡_, refl, sym, ap, subst, _∙_}
+use mathlib.Core.Logic.{_⊎_, inl, inr, ⊎-elim}
+use mathlib.Core.Bool.{Bool, true, false, cond, not}
 use mathlib.Core.List.{List}
-use Prim.Native.Nat.{ℕ, _+_, _^_, _≤_, _<_}
-use native.Mathlib.Decide.{decLt}
+use Prim.Native.Nat.{ℕ, _+_, _*_, _%_, _^_, _≤_, _<_}
+use native.Mathlib.Nat.{mul-comm}
 use native.Mathlib.Numerals.{add-one}
 use native.Mathlib.Omega.{arith}
-use lib.Dec.{eqb}
-use lib.ListN.{length, getD, take}
+use lib.Bits.{bitOr, or-shifted-r}
+use lib.ListN.{getD}
+use lib.Pow.{shl-exact}
 use borrow.Author.Needs.{needs}
-use borrow.Author.Tests.{eq-eqb, ne-eqb, not-true, not-false}
-use Rattle.relation.proofs.ListLaws.{below-extend, and-intro}
+use borrow.Author.Tests.{not-true, not-false}
 use Rattle.model.specs.declared.Write.{Write}
 use Rattle.model.specs.declared.Check.{Check}
+use Rattle.model.specs.Limits.{mostSchedules}
 use Rattle.model.specs.Schedule.{run}
-use Rattle.model.specs.Check.{holds, consistent}
-use Rattle.judge_checks.proofs.CheckSteps.{checks-stop}
+use Rattle.model.specs.Check.{consistent}
+use Rattle.model.specs.Test.{countBelow}
+use Rattle.model.proofs.TestLaws.{count-most}
+use Rattle.judge_schedules.specs.Rows.{mostHalf, halfSets, Lists}
+use Rattle.judge_schedules.proofs.TotalLaws.{sets-fit}
+use Rattle.judge_schedules.proofs.EndLaws.{listed-below}
 use Rattle.judge_counting.specs.declared.Judgement.{Judgement}
-use Rattle.judge_counting.specs.declared.Verdict.the-variants.{Holds, Fails}
-use Rattle.judge_schedules.specs.Rows.{validBy, badBy, NoneValid}
-use Rattle.judge_counting.specs.Tally.{Finds, tallied}
+use Rattle.judge_counting.specs.Tally.{tallied, badBy, after, listed, Gains}
 
 -- by cases, the two ways first
 pub either : {A B C : Type 0} → A ⊎ B → (A → C) → (B → C) → C
 either w f g = ⊎-elim f g w
 
--- the checks were all passed, or one was not
-module _ (d : List ℕ) (cs : List Check) (m k : ℕ) where
-  pub passed-all : k ≤ m → m ≤ k → consistent (take k cs) d ≡ true → eqb k m ≡ consistent (take m cs) d
-  passed-all h l e = let z : k ≡ m = omega arith in eq-eqb k m z ∙ sym (rw z at e)
+-- the flags of a beginning with those of an end shifted behind them
+pub joined-is : (x near y : ℕ) → x < 2 ^ near → near ≤ mostHalf → y < halfSets → bitOr x (y * 2 ^ near % 18446744073709551616) ≡ x + 2 ^ near * y
+joined-is x near y h l m =
+    rw (shl-exact {a = y} mostHalf near 64 m (omega arith), or-shifted-r y near x h)
+    (let c = mul-comm y (2 ^ near) in omega arith)
 
-  pub passed-some : (z : Check) (b : Bool) → k < m → m ≤ 16 → length cs ≡ 16 → b ≡ holds d (getD cs k z) → not b ≡ true → eqb k m ≡ consistent (take m cs) d
-  passed-some z b h l n e q = ne-eqb k m (λ (y : k ≡ m). absurd (omega arith)) ∙ checks-stop d cs z m k b h l n e q
+-- a listed end is one of a half, and so is its place
+module _ (p : ℕ → Bool) (far many : ℕ) (ends : List ℕ) (g : Lists p (2 ^ far) ends many) (h : far ≤ mostHalf) where
+  pub many-most : many ≤ halfSets
+  many-most = let f = sets-fit far halfSets refl h in omega (arith, g .most)
+
+  pub end-below : (k : ℕ) → k < many → getD ends k 0 < halfSets
+  end-below k l = let f = sets-fit far halfSets refl h in omega (arith, listed-below p (2 ^ far) many ends g k l)
 
 -- ---- one schedule in the counts
 
@@ -45,47 +54,70 @@ module _ (j : Judgement) (s : ℕ) (c : Bool) where
   unfolding tallied
   tally-bad e = rw e
 
--- ---- the search
+-- ---- the counts
 
--- no schedule below s is bad
-pub record Clear (low high base : List ℕ) (ws : List Write) (cs : List Check) (s : ℕ) : Type 0 where
-  pub good : (k : ℕ) → k < s → badBy low high base ws cs k ≡ false
+pub gains-none : (v b : ℕ → Bool) (x rows : ℕ) (ends : List ℕ) (old : Judgement) → Gains v b x rows ends 0 old old
+unfolding countBelow
+gains-none v b x rows ends old = record { valid = omega arith; bad = omega arith; shown = λ n. inl (n, refl); none = λ f. f }
 
-module _ (low high base : List ℕ) (ws : List Write) (cs : List Check) where
-  pub clear-none : Clear low high base ws cs 0
-  clear-none = record { good = λ k h. absurd (omega arith) }
+module _ (v : ℕ → Bool) (x rows : ℕ) (mid : List ℕ) (ws : List Write) (cs : List Check) (ends : List ℕ) where
+  -- a schedule that begins with x and ends with the one at place k is bad
+  abbrev pub badAt : ℕ → Bool
+  badAt k = listed ends (badBy (after v x rows) mid ws cs) k
 
-  clear-suc : (s : ℕ) → Clear low high base ws cs s → badBy low high base ws cs s ≡ false → Clear low high base ws cs (s + 1)
-  clear-suc s c e = record { good = rw (add-one s) (below-extend (λ k. badBy low high base ws cs k ≡ false) s (c .good) e) }
+  module _ (old : Judgement) where
+    -- the counts with the first k ends in them
+    abbrev Gained : ℕ → Judgement → Type 0
+    Gained k j = Gains (after v x rows) (badBy (after v x rows) mid ws cs) x rows ends k old j
 
-  pub clear-skip : (s : ℕ) (b : Bool) → Clear low high base ws cs s → b ≡ validBy low high s → not b ≡ true → Clear low high base ws cs (s + 1)
-  clear-skip s b c e h = clear-suc s c (unfold badBy in rw (sym e ∙ not-true b h))
+    module _ (k : ℕ) (j : Judgement) (g : Gained k j) where
+      later : (j .bad ≡ 0 → ⊥)
+          → ((old .bad ≡ 0 → ⊥) × (j .shown ≡ old .shown)) ⊎ ((i : ℕ) × (i < k + 1) × (badAt i ≡ true) × (j .shown ≡ x + rows * getD ends i 0))
+      later n = ⊎-elim inl (λ w. let l = w .1 in inr (w .0, omega arith, w .2, w .3)) (g .shown n)
 
-  -- schedules passed over are not valid
-  pub clear-past : (s r : ℕ) → Clear low high base ws cs s → NoneValid high s r → Clear low high base ws cs r
-  unfolding NoneValid badBy
-  clear-past s r c h = record { good = λ k l. elim (decLt k s) [ yes lt ↦ c .good k lt | no ge ↦ rw (h low k (omega arith) l) ] }
+      pub gains-skip : (s : ℕ) (t : Bool) → s ≡ x + rows * getD ends k 0 → t ≡ v s → not t ≡ true → Gained (k + 1) j
+      unfolding countBelow badBy after listed
+      gains-skip s t q e h =
+          let z : v (x + rows * getD ends k 0) ≡ false = ap v (sym q) ∙ sym e ∙ not-true t h in
+          record {
+            valid = rw (add-one k, z) (g .valid ∙ omega arith);
+            bad = rw (add-one k, z) (g .bad ∙ omega arith);
+            shown = later;
+            none = g .none;
+          }
 
-  clear-good : (s : ℕ) (d : List ℕ) → Clear low high base ws cs s → d ≡ run ws s base → consistent cs d ≡ true → Clear low high base ws cs (s + 1)
-  clear-good s d c e h = clear-suc s c (unfold badBy in go (validBy low high s))
-    where
-      go : (v : Bool) → v && not (consistent cs (run ws s base)) ≡ false
-      go true = rw (← e, h)
-      go false = refl
+      pub gains-more : (s : ℕ) (t c : Bool) (d : List ℕ) (r : Judgement) → s ≡ x + rows * getD ends k 0 → t ≡ v s → not t ≡ false
+          → d ≡ run ws (getD ends k 0) mid → c ≡ consistent cs d → r ≡ tallied j s c → Gained (k + 1) r
+      unfolding countBelow badBy after listed tallied
+      gains-more s t c d r q e h a f p = rw p (go c (rw (← a) f))
+        where
+          z : v (x + rows * getD ends k 0) ≡ true
+          z = ap v (sym q) ∙ sym e ∙ not-false t h
 
-  pub finds-none : (n s total : ℕ) → Clear low high base ws cs s → total ≡ 2 ^ n → total ≤ s → Finds (badBy low high base ws cs) (2 ^ n) Holds
-  unfolding Finds
-  finds-none n s total c e h k l = c .good k (omega arith)
+          go : (b : Bool) → b ≡ consistent cs (run ws (getD ends k 0) mid) → Gained (k + 1)
+              (cond b (record { valid = j .valid + 1; bad = j .bad; shown = j .shown }) (record { valid = j .valid + 1; bad = j .bad + 1; shown = s }))
+          go true b =
+              record {
+                valid = rw (add-one k, z) (let i = g .valid in omega arith);
+                bad = rw (add-one k, z, ← b) (let i = g .bad in omega arith);
+                shown = later;
+                none = g .none;
+              }
+          go false b =
+              record {
+                valid = rw (add-one k, z) (let i = g .valid in omega arith);
+                bad = rw (add-one k, z, ← b) (let i = g .bad in omega arith);
+                shown = λ n. inr (k, omega arith, rw (z, ← b), q);
+                none = λ n i. absurd (omega arith);
+              }
 
-  pub finds-bad : (n s total : ℕ) (b : Bool) (d : List ℕ) → total ≡ 2 ^ n → s < total → b ≡ validBy low high s → not b ≡ false → d ≡ run ws s base → false ≡ consistent cs d
-      → Finds (badBy low high base ws cs) (2 ^ n) (Fails s)
-  unfolding Finds badBy
-  finds-bad n s total b d e h f g p q = (omega arith, and-intro (validBy low high s) _ (sym f ∙ not-false b g) (rw (← p, ← q)))
+      pub gained-valid : (many : ℕ) → old .valid + many ≤ mostSchedules → k < many → j .valid < mostSchedules
+      gained-valid many h l = let a = g .valid in let n = count-most (listed ends (after v x rows)) k in omega arith
 
-pub clear-pass : (low high base : List ℕ) (ws : List Write) (cs : List Check) (s m j : ℕ) (d : List ℕ) → Clear low high base ws (take m cs) s → d ≡ run ws s base
-    → j ≤ m → m ≤ j → consistent (take j cs) d ≡ true → Clear low high base ws (take m cs) (s + 1)
-clear-pass low high base ws cs s m j d c e h l k =
-    let z : j ≡ m = omega arith in
-    clear-good low high base ws (take m cs) s d c e (rw z at k)
+      pub gained-bad : (many : ℕ) → old .bad + many ≤ mostSchedules → k < many → j .bad < mostSchedules
+      gained-bad many h l = let a = g .bad in let n = count-most badAt k in omega arith
 
-pub ruleset counts = (needs, tally-good, tally-bad)
+      pub gains-all : (many : ℕ) → k ≤ many → many ≤ k → Gained many j
+      gains-all many h l = let z : k ≡ many = omega arith in subst (λ (i : ℕ). Gained i j) z g
+
+pub ruleset counts = (needs, joined-is, many-most, end-below, tally-good, tally-bad, gains-none, gains-skip, gains-more, gained-valid, gained-bad, gains-all)

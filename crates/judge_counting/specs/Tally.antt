@@ -1,14 +1,16 @@
 -- The loops over schedules: the counts so far, and the search for a bad one.
-use Prim.Native.Nat.{ℕ, _+_, _*_, _<_}
+use Prim.Native.Nat.{ℕ, _+_, _*_, _^_, _≤_, _<_}
 use mathlib.Core.Path.{_≡_}
 use mathlib.Core.Logic.{_⊎_}
 use mathlib.Core.Bool.{Bool, true, false, cond, not, _&&_}
 use mathlib.Core.List.{List}
+use lib.ListN.{getD}
 use Rattle.model.specs.declared.Write.{Write}
 use Rattle.model.specs.declared.Check.{Check}
 use Rattle.model.specs.Schedule.{run}
 use Rattle.model.specs.Check.{consistent}
 use Rattle.model.specs.Test.{countBelow}
+use Rattle.judge_schedules.specs.Rows.{validBy}
 use Rattle.judge_counting.specs.declared.Judgement.{Judgement}
 use Rattle.judge_counting.specs.declared.Verdict.{Verdict}
 use Rattle.judge_counting.specs.declared.Verdict.the-variants.{Holds, Fails}
@@ -32,18 +34,37 @@ pub record Tallies (v b : ℕ → Bool) (n : ℕ) (j : Judgement) : Type 0 where
   pub shown : (j .bad ≡ 0 → ⊥) → (j .shown < n) × (b (j .shown) ≡ true)
   pub none : j .bad ≡ 0 → j .shown ≡ 0
 
--- a test of the schedules that begin with x, of the writes that have `rows` schedules
+-- a schedule is bad, by a test of which are valid
+unfoldable pub badBy : (ℕ → Bool) → List ℕ → List Write → List Check → ℕ → Bool
+badBy v base ws checks s = v s && not (consistent checks (run ws s base))
+
+-- ---- one beginning
+
+-- a test of the schedule that begins with x, of the writes that have `rows` schedules, and ends with y
 unfoldable pub after : (ℕ → Bool) → ℕ → ℕ → ℕ → Bool
 after p x rows y = p (x + rows * y)
 
--- such a schedule is bad: mid is the disk that x leaves, ws are the writes behind
-unfoldable pub badAfter : (ℕ → Bool) → ℕ → ℕ → List ℕ → List Write → List Check → ℕ → Bool
-badAfter v x rows mid ws checks y = after v x rows y && not (consistent checks (run ws y mid))
+-- an end of a beginning x makes a valid schedule, by tables of unions, and a bad one: mid is the disk that x leaves, ws are the writes behind
+abbrev pub validEnd : List ℕ → List ℕ → ℕ → ℕ → ℕ → Bool
+validEnd low high near x = after (validBy low high near) x (2 ^ near)
 
--- the counts with n of those schedules in them
-pub record Gains (v b : ℕ → Bool) (x rows n : ℕ) (old new : Judgement) : Type 0 where
-  pub valid : new .valid ≡ old .valid + countBelow v n
-  pub bad : new .bad ≡ old .bad + countBelow b n
+abbrev pub badEnd : List ℕ → List ℕ → ℕ → ℕ → List ℕ → List Write → List Check → ℕ → Bool
+badEnd low high near x mid ws checks = badBy (validEnd low high near x) mid ws checks
+
+-- a test of the end at place k of a list
+unfoldable pub listed : List ℕ → (ℕ → Bool) → ℕ → Bool
+listed ends p k = p (getD ends k 0)
+
+-- the counts with the schedules in them that begin with x and end with one of the first n of a list
+pub record Gains (v b : ℕ → Bool) (x rows : ℕ) (ends : List ℕ) (n : ℕ) (old new : Judgement) : Type 0 where
+  pub valid : new .valid ≡ old .valid + countBelow (listed ends v) n
+  pub bad : new .bad ≡ old .bad + countBelow (listed ends b) n
   pub shown : (new .bad ≡ 0 → ⊥)
-      → ((old .bad ≡ 0 → ⊥) × (new .shown ≡ old .shown)) ⊎ ((y : ℕ) × (y < n) × (b y ≡ true) × (new .shown ≡ x + rows * y))
+      → ((old .bad ≡ 0 → ⊥) × (new .shown ≡ old .shown)) ⊎ ((k : ℕ) × (k < n) × (listed ends b k ≡ true) × (new .shown ≡ x + rows * getD ends k 0))
   pub none : (old .bad ≡ 0 → old .shown ≡ 0) → new .bad ≡ 0 → new .shown ≡ 0
+
+-- where a search through the numbers below n stops: at the first that passes, or at n
+pub record Stops (p : ℕ → Bool) (n r : ℕ) : Type 0 where
+  pub most : r ≤ n
+  pub before : (k : ℕ) → k < r → p k ≡ false
+  pub here : r < n → p r ≡ true

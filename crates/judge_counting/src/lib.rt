@@ -1,11 +1,17 @@
-// All schedules of a test counted, and the search for a bad one.
+// All schedules of a test counted, and the search for a bad one. Both go by halves: for each set of
+// flags that a valid schedule can begin with the disk of the first half is made once, and the ends
+// that one can have are listed once.
+use judge_schedules::HALF_SETS;
 use model::Check;
+use model::DISK_BLOCKS;
+use model::MOST_CHECKS;
 ghost use mathlib.Core.Path.{_≡_};
 ghost use Prim.Native.Nat.{_+_, _*_, _^_, _<_, _≤_};
-ghost use lib.ListN.{take};
+ghost use lib.ListN.{length, take};
+ghost use Rattle.model.specs.Limits.{diskBlocks, mostMain, mostChecks, mostSchedules};
 ghost use Rattle.judge_disks.specs.Packed.{heldFrom};
-ghost use Rattle.judge_schedules.specs.Rows.{validBy, badBy};
-ghost use Rattle.judge_counting.specs.Tally.{Finds, tallied, Tallies, after, badAfter, Gains};
+ghost use Rattle.judge_schedules.specs.Rows.{validRows, badRows, mostHalf, halfSets, validBy, mayEnd, Lists};
+ghost use Rattle.judge_counting.specs.Tally.{Finds, tallied, Tallies, badBy, validEnd, badEnd, listed, Gains, Stops};
 
 // The judge's three numbers: valid schedules, bad ones, and one of these, or 0 where there is none.
 pub struct Judgement {
@@ -22,7 +28,7 @@ pub enum Verdict {
 
 // One more valid schedule in the counts, which leaves a consistent disk or not.
 fn tally(j: Judgement, s: u64, consistent: bool) -> Judgement
-    requires { ⌜ (j .valid ≤ 4096) × (j .bad ≤ 4096) ⌝ }
+    requires { ⌜ (j .valid < mostSchedules) × (j .bad < mostSchedules) ⌝ }
     ensures { λ r. ⌜ r ≡ tallied j s consistent ⌝ }
 {
     if consistent {
@@ -39,144 +45,250 @@ fn tally(j: Judgement, s: u64, consistent: bool) -> Judgement
     }
 }
 
-// How many of n writes are among the first six.
-fn half(n: usize) -> usize
-    requires { ⌜ n ≤ 12 ⌝ }
-    ensures { λ r. ⌜ (r ≤ n) × ((r ≤ 6) × (n ≤ 6 + r)) ⌝ }
-{
-    if n < 6 {
-        return n;
-    }
-    6
-}
-
 // The schedule that begins with x, of the writes before place `near`, and ends with y.
 fn joined(x: u64, near: usize, y: u64) -> u64
-    requires { ⌜ (x < 2 ^ near) × ((near ≤ 6) × (y < 64)) ⌝ }
+    requires { ⌜ (x < 2 ^ near) × ((near ≤ mostHalf) × (y < halfSets)) ⌝ }
     ensures { λ r. ⌜ r ≡ x + 2 ^ near * y ⌝ }
 {
     x | (y << near)
 }
 
-// The schedules that begin with x, of the writes before place `near`, in the counts: mid is the disk
-// that x leaves, and the `far` writes behind them are flagged in all ways.
+// The schedules that begin with x in the counts: mid is the disk that x leaves, and the `far` writes
+// behind place `near` are flagged in the ways that are listed.
 fn count_after(
     j: Judgement,
     x: u64,
-    low: &[u64; 64],
-    high: &[u64; 64],
-    mid: [u32; 256],
-    table: &[u64; 64],
+    low: &[u64; HALF_SETS],
+    high: &[u64; HALF_SETS],
+    ends: &[u64; HALF_SETS],
+    many: usize,
+    mid: &[u32; DISK_BLOCKS],
+    stores: &[u64; model::MOST_INITIAL],
     near: usize,
     far: usize,
-    checks: [Check; 16],
+    checks: [Check; MOST_CHECKS],
     m: usize,
 ) -> Judgement
-    requires { ⌜ ((j .valid ≤ 4032) × (j .bad ≤ 4032)) × (((x < 2 ^ near) × (near ≤ 6)) × ((far ≤ 6) × (m ≤ 16))) ⌝ }
-    ensures { λ r. ⌜ Gains (after (validBy (now (low .entry)) (now (high .entry))) x (2 ^ near)) (badAfter (validBy (now (low .entry)) (now (high .entry))) x (2 ^ near) mid (heldFrom (now (table .entry)) near far) (take m checks)) x (2 ^ near) (2 ^ far) j r ⌝ }
+    requires { ⌜ ((j .valid + many ≤ mostSchedules) × (j .bad + many ≤ mostSchedules)) × (((x < 2 ^ near) × (near ≤ mostHalf)) × (((far ≤ mostHalf) × (m ≤ mostChecks)) × ((length (now mid) ≡ diskBlocks) × Lists (mayEnd (now high) near) (2 ^ far) (now ends) many))) ⌝ }
+    ensures { λ r. ⌜ Gains (validEnd (now (low .entry)) (now (high .entry)) near x) (badEnd (now (low .entry)) (now (high .entry)) near x (now (mid .entry)) (heldFrom (now (stores .entry)) near far) (take m checks)) x (2 ^ near) (now (ends .entry)) many j r ⌝ }
 {
-    let columns = 1u64 << far;
     let mut counts = j;
-    let mut disk = mid;
-    let mut y: u64 = 0;
-    // Not y < columns: the compiler turns that into y >> far == 0, a shift in every turn.
-    'schedules: while y != columns {
+    let mut disk = *mid;
+    let mut k: usize = 0;
+    'schedules: while k < many {
+        let y = ends[k];
         let s = joined(x, near, y);
-        if !judge_schedules::is_valid(low, high, s) {
-            y += 1;
+        if !judge_schedules::is_valid(low, high, near, s) {
+            k += 1;
             continue 'schedules;
         }
-        judge_disks::apply(&mut disk, table, near, far, y);
-        let mut k: usize = 0;
-        while k < m {
-            let c = checks[k];
+        judge_disks::apply(&mut disk, stores, near, far, y);
+        let mut i: usize = 0;
+        while i < m {
+            let c = checks[i];
             if !judge_checks::check_holds(&disk, c) {
                 break;
             }
-            k += 1;
+            i += 1;
         }
-        judge_disks::restore(&mut disk, &mid, table, near, far);
-        counts = tally(counts, s, k == m);
-        y += 1;
+        counts = tally(counts, s, i == m);
+        judge_disks::restore(&mut disk, mid, stores, near, far);
+        k += 1;
     }
     counts
 }
 
-// The counts over all schedules of the first n writes of a table.
-pub fn count_all(
-    low: &[u64; 64],
-    high: &[u64; 64],
-    base: [u32; 256],
-    table: &[u64; 64],
-    n: usize,
-    checks: [Check; 16],
+// The counts over all schedules of near + far writes.
+fn count_by(
+    low: &[u64; HALF_SETS],
+    high: &[u64; HALF_SETS],
+    ends: &[u64; HALF_SETS],
+    many: usize,
+    base: &[u32; DISK_BLOCKS],
+    stores: &[u64; model::MOST_INITIAL],
+    near: usize,
+    far: usize,
+    checks: [Check; MOST_CHECKS],
     m: usize,
 ) -> Judgement
-    requires { ⌜ (n ≤ 12) × (m ≤ 16) ⌝ }
-    ensures { λ r. ⌜ Tallies (validBy (now (low .entry)) (now (high .entry))) (badBy (now (low .entry)) (now (high .entry)) base (heldFrom (now (table .entry)) 0 n) (take m checks)) (2 ^ n) r ⌝ }
+    requires { ⌜ ((near ≤ mostHalf) × ((far ≤ mostHalf) × (near + far ≤ mostMain))) × ((m ≤ mostChecks) × ((length (now base) ≡ diskBlocks) × Lists (mayEnd (now high) near) (2 ^ far) (now ends) many)) ⌝ }
+    ensures { λ r. ⌜ Tallies (validBy (now (low .entry)) (now (high .entry)) near) (badBy (validBy (now (low .entry)) (now (high .entry)) near) (now (base .entry)) (heldFrom (now (stores .entry)) 0 (near + far)) (take m checks)) (2 ^ (near + far)) r ⌝ }
 {
-    let near = half(n);
-    let far = n - near;
     let rows = 1u64 << near;
     let mut j = Judgement {
         valid: 0,
         bad: 0,
         shown: 0,
     };
+    let mut mid = *base;
     let mut x: u64 = 0;
-    while x < rows {
-        let mut mid = base;
-        judge_disks::apply(&mut mid, table, 0, near, x);
-        let next = count_after(j, x, low, high, mid, table, near, far, checks, m);
+    // Not x < rows: see judge_schedules::list_ends.
+    'beginnings: while x != rows {
+        if !judge_schedules::may_begin(low, near, x) {
+            x += 1;
+            continue 'beginnings;
+        }
+        judge_disks::apply(&mut mid, stores, 0, near, x);
+        let next = count_after(
+            j,
+            x,
+            low,
+            high,
+            ends,
+            many,
+            &mid,
+            stores,
+            near,
+            far,
+            checks,
+            m,
+        );
+        judge_disks::restore(&mut mid, base, stores, 0, near);
         j = next;
         x += 1;
     }
     j
 }
 
-// The search over schedules and checks, left at the first bad schedule.
-pub fn first_bad(
-    low: &[u64; 64],
-    high: &[u64; 64],
-    base: [u32; 256],
-    table: &[u64; 64],
+// The counts over all schedules of the first n writes of a table of stores, by a table of rows.
+pub fn count_all(
+    rows: &[u64; 64],
+    base: [u32; DISK_BLOCKS],
+    stores: &[u64; model::MOST_INITIAL],
     n: usize,
-    checks: [Check; 16],
+    checks: [Check; MOST_CHECKS],
     m: usize,
-) -> Verdict
-    requires { ⌜ (n ≤ 12) × (m ≤ 16) ⌝ }
-    ensures { λ r. ⌜ Finds (badBy (now (low .entry)) (now (high .entry)) base (heldFrom (now (table .entry)) 0 n) (take m checks)) (2 ^ n) r ⌝ }
+) -> Judgement
+    requires { ⌜ (n ≤ mostMain) × (m ≤ mostChecks) ⌝ }
+    ensures { λ r. ⌜ Tallies (validRows (now (rows .entry)) n) (badRows (now (rows .entry)) n base (heldFrom (now (stores .entry)) 0 n) (take m checks)) (2 ^ n) r ⌝ }
 {
-    let total = 1u64 << n;
-    let mut disk = base;
-    let mut s: u64 = 0;
-    let mut bad: u64 = total;
-    // Not s < total: see count_after.
-    'search: while s != total {
-        let from = judge_schedules::past_invalid(high, s, total);
-        if from != s {
-            s = from;
+    let near = judge_schedules::first_half(n);
+    let far = n - near;
+    let mut low = [0u64; HALF_SETS];
+    let mut high = [0u64; HALF_SETS];
+    judge_schedules::prepare(&mut low, &mut high, rows, n);
+    let mut ends = [0u64; HALF_SETS];
+    let many = judge_schedules::list_ends(&mut ends, &high, near, far);
+    count_by(
+        &low,
+        &high,
+        &ends,
+        many,
+        &base,
+        stores,
+        near,
+        far,
+        checks,
+        m,
+    )
+}
+
+// The first end in the list with which a schedule that begins with x is bad, or `many`: the search over
+// schedules and checks, left at the first bad schedule.
+fn bad_end(
+    x: u64,
+    low: &[u64; HALF_SETS],
+    high: &[u64; HALF_SETS],
+    ends: &[u64; HALF_SETS],
+    many: usize,
+    mid: &[u32; DISK_BLOCKS],
+    stores: &[u64; model::MOST_INITIAL],
+    near: usize,
+    far: usize,
+    checks: [Check; MOST_CHECKS],
+    m: usize,
+) -> usize
+    requires { ⌜ ((x < 2 ^ near) × (near ≤ mostHalf)) × (((far ≤ mostHalf) × (m ≤ mostChecks)) × ((length (now mid) ≡ diskBlocks) × Lists (mayEnd (now high) near) (2 ^ far) (now ends) many)) ⌝ }
+    ensures { λ r. ⌜ Stops (listed (now (ends .entry)) (badEnd (now (low .entry)) (now (high .entry)) near x (now (mid .entry)) (heldFrom (now (stores .entry)) near far) (take m checks))) many r ⌝ }
+{
+    let mut disk = *mid;
+    let mut k: usize = 0;
+    'search: while k < many {
+        let y = ends[k];
+        if !judge_schedules::is_valid(low, high, near, joined(x, near, y)) {
+            k += 1;
             continue 'search;
         }
-        if !judge_schedules::is_valid(low, high, s) {
-            s += 1;
-            continue 'search;
-        }
-        judge_disks::apply(&mut disk, table, 0, n, s);
-        let mut j: usize = 0;
-        while j < m {
-            let c = checks[j];
+        judge_disks::apply(&mut disk, stores, near, far, y);
+        let mut i: usize = 0;
+        while i < m {
+            let c = checks[i];
             if !judge_checks::check_holds(&disk, c) {
-                bad = s;
                 break 'search;
             }
-            j += 1;
+            i += 1;
         }
-        judge_disks::restore(&mut disk, &base, table, 0, n);
-        s += 1;
+        judge_disks::restore(&mut disk, mid, stores, near, far);
+        k += 1;
     }
-    if bad == total {
-        return Verdict::Holds;
+    k
+}
+
+// The search through all schedules of near + far writes.
+fn search_by(
+    low: &[u64; HALF_SETS],
+    high: &[u64; HALF_SETS],
+    ends: &[u64; HALF_SETS],
+    many: usize,
+    base: &[u32; DISK_BLOCKS],
+    stores: &[u64; model::MOST_INITIAL],
+    near: usize,
+    far: usize,
+    checks: [Check; MOST_CHECKS],
+    m: usize,
+) -> Verdict
+    requires { ⌜ ((near ≤ mostHalf) × ((far ≤ mostHalf) × (near + far ≤ mostMain))) × ((m ≤ mostChecks) × ((length (now base) ≡ diskBlocks) × Lists (mayEnd (now high) near) (2 ^ far) (now ends) many)) ⌝ }
+    ensures { λ r. ⌜ Finds (badBy (validBy (now (low .entry)) (now (high .entry)) near) (now (base .entry)) (heldFrom (now (stores .entry)) 0 (near + far)) (take m checks)) (2 ^ (near + far)) r ⌝ }
+{
+    let rows = 1u64 << near;
+    let mut mid = *base;
+    let mut x: u64 = 0;
+    // Not x < rows: see judge_schedules::list_ends.
+    'beginnings: while x != rows {
+        if !judge_schedules::may_begin(low, near, x) {
+            x += 1;
+            continue 'beginnings;
+        }
+        judge_disks::apply(&mut mid, stores, 0, near, x);
+        let k = bad_end(x, low, high, ends, many, &mid, stores, near, far, checks, m);
+        if k < many {
+            return Verdict::Fails(joined(x, near, ends[k]));
+        }
+        judge_disks::restore(&mut mid, base, stores, 0, near);
+        x += 1;
     }
-    Verdict::Fails(bad)
+    Verdict::Holds
+}
+
+// A bad schedule of the first n writes of a table of stores, by a table of rows, if there is one.
+pub fn first_bad(
+    rows: &[u64; 64],
+    base: [u32; DISK_BLOCKS],
+    stores: &[u64; model::MOST_INITIAL],
+    n: usize,
+    checks: [Check; MOST_CHECKS],
+    m: usize,
+) -> Verdict
+    requires { ⌜ (n ≤ mostMain) × (m ≤ mostChecks) ⌝ }
+    ensures { λ r. ⌜ Finds (badRows (now (rows .entry)) n base (heldFrom (now (stores .entry)) 0 n) (take m checks)) (2 ^ n) r ⌝ }
+{
+    let near = judge_schedules::first_half(n);
+    let far = n - near;
+    let mut low = [0u64; HALF_SETS];
+    let mut high = [0u64; HALF_SETS];
+    judge_schedules::prepare(&mut low, &mut high, rows, n);
+    let mut ends = [0u64; HALF_SETS];
+    let many = judge_schedules::list_ends(&mut ends, &high, near, far);
+    search_by(
+        &low,
+        &high,
+        &ends,
+        many,
+        &base,
+        stores,
+        near,
+        far,
+        checks,
+        m,
+    )
 }

@@ -13,6 +13,7 @@ use borrow.Author.Tests.{eqb-true, eqb-false}
 use Rattle.relation.specs.Lists.{any}
 use Rattle.relation.proofs.ListLaws.{or-none-left, or-none-right}
 use Rattle.model.specs.declared.Write.{Write}
+use Rattle.model.specs.Limits.{words, diskBlocks}
 use Rattle.model.specs.Schedule.{store, run}
 use Rattle.judge_disks.specs.Packed.{unpacked, heldFrom, restored}
 
@@ -41,6 +42,14 @@ length-run (w ∷ ws) m d = length-run ws (m / 2) (cond (eqb (m % 2) 1) (set d (
     go true = length-set d (w .address) (w .block)
     go false = refl
 
+-- so the disk that a schedule leaves is as long as the one it starts from
+pub mid-length : (ws : List Write) (x : ℕ) (base mid : List ℕ) → length base ≡ diskBlocks → mid ≡ run ws x base → length mid ≡ diskBlocks
+mid-length ws x base mid h e = ap length e ∙ length-run ws x base ∙ h
+
+-- a schedule run on the base, which the disk at hand equals
+pub ran : (ws : List Write) (s : ℕ) (base d r : List ℕ) → d ≡ base → r ≡ run ws s d → r ≡ run ws s base
+ran ws s base d r e q = rw (← e) q
+
 length-restored : (ws : List Write) (base d : List ℕ) → length (restored ws base d) ≡ length d
 unfolding restored
 length-restored [] base d = refl
@@ -48,7 +57,7 @@ length-restored (w ∷ ws) base d = length-restored ws base (set d (w .address) 
 
 module _ (t base : List ℕ) where
   -- a block that differs at most where the writes go is as it was
-  restored-at : (i n : ℕ) (d : List ℕ) (x : ℕ) → length d ≡ 256 → (touches (heldFrom t i n) x ≡ false → getD d x 0 ≡ getD base x 0)
+  restored-at : (i n : ℕ) (d : List ℕ) (x : ℕ) → length d ≡ diskBlocks → (touches (heldFrom t i n) x ≡ false → getD d x 0 ≡ getD base x 0)
       → getD (restored (heldFrom t i n) base d) x 0 ≡ getD base x 0
   unfolding restored heldFrom any
   restored-at i zero d x l h = h refl
@@ -58,16 +67,16 @@ module _ (t base : List ℕ) where
       a : ℕ
       a = unpacked (getD t i 0) .address
 
-      inside : a < 256
-      inside = unfold unpacked in mod-lt (getD t i 0 / 4294967296) {m = 256} (lit< tt)
+      inside : a < diskBlocks
+      inside = unfold unpacked in mod-lt (getD t i 0 / words) {m = diskBlocks} (lit< tt)
 
       go : (b : Bool) → eqb a x ≡ b → touches (heldFrom t (i + 1) n) x ≡ false → getD (set d a (getD base a 0)) x 0 ≡ getD base x 0
       go true e f = let z : a ≡ x = eqb-true a x e in rw (← z) (getD-set-same d a (getD base a 0) 0 (omega (arith, inside)))
       go false e f = getD-set-other d a x (getD base a 0) 0 (λ (z : x ≡ a). eqb-false a x e (sym z)) ∙ h (rw (e, f))
 
-  pub restored-run : (i n m : ℕ) (d : List ℕ) → length base ≡ 256 → d ≡ run (heldFrom t i n) m base → restored (heldFrom t i n) base d ≡ base
+  pub restored-run : (i n m : ℕ) (d : List ℕ) → length base ≡ diskBlocks → d ≡ run (heldFrom t i n) m base → restored (heldFrom t i n) base d ≡ base
   restored-run i n m d l e =
-      let k : length d ≡ 256 = ap length e ∙ length-run (heldFrom t i n) m base ∙ l in
+      let k : length d ≡ diskBlocks = ap length e ∙ length-run (heldFrom t i n) m base ∙ l in
       ext-getD 0 (restored (heldFrom t i n) base d) base (length-restored (heldFrom t i n) base d ∙ k ∙ sym l)
       (λ x h. restored-at i n d x k (λ f. ap (λ (y : List ℕ). getD y x 0) e ∙ run-elsewhere (heldFrom t i n) m base x f))
 

@@ -1,51 +1,69 @@
-// Disks of 256 blocks: the disk that a schedule leaves.
+// Writes as columns of numbers, and the disk that a schedule of such writes leaves.
 use model::Write;
 ghost use mathlib.Core.Path.{_≡_};
 ghost use mathlib.Core.Bool.{cond};
-ghost use Prim.Native.Nat.{_+_, _*_, _<_, _≤_};
-ghost use lib.ListN.{length};
+ghost use Prim.Native.Nat.{_+_, _<_, _≤_};
+ghost use Rattle.model.specs.Limits.{diskBlocks, mostInitial};
+ghost use Rattle.model.specs.Rules.{labelOf};
 ghost use Rattle.model.specs.Schedule.{store, run};
-ghost use Rattle.judge_disks.specs.Packed.{unpacked, Packs, Loads, heldFrom, restored};
+ghost use Rattle.judge_disks.specs.Packed.{unpacked, Packs, labelled, heldFrom, restored};
+
+// The schedule that flags every write.
+pub const ALL_FLAGS: u64 = 18446744073709551615;
 
 // A write's address and block as one number.
-fn pack(w: Write) -> u64
+pub fn pack_store(w: Write) -> u64
     ensures { λ r. ⌜ Packs w r ⌝ }
 {
-    w.address as u64 * 4294967296 + w.block as u64
+    w.address as u64 * model::WORDS + w.block as u64
 }
 
-// The n writes whose fields stand from `at` on, packed.
-pub fn load(table: &mut [u64], file: &[u8], at: usize, n: usize)
-    requires { ⌜ (length (now table) ≡ 64) × ((n ≤ 64) × (at + 13 * n ≤ length (now file))) ⌝ }
-    ensures { λ _. ⌜ Loads (now (file .entry)) at n (now (table .exit)) ⌝ }
+// A write's label as one number.
+pub fn pack_label(w: Write) -> u64
+    ensures { λ r. ⌜ labelled r ≡ labelOf w ⌝ }
 {
-    let mut i: usize = 0;
-    while i < n {
-        table[i] = pack(file_fields::write_at(file, at + 13 * i));
-        i += 1;
-    }
+    w.name as u64 * model::WORDS + w.epoch as u64
+}
+
+// The name and the epoch of such a number.
+pub fn name_of(label: u64) -> u8
+    ensures { λ r. ⌜ r ≡ labelled label .name ⌝ }
+{
+    (label / model::WORDS % model::NAMES) as u8
+}
+
+pub fn epoch_of(label: u64) -> u32
+    ensures { λ r. ⌜ r ≡ labelled label .epoch ⌝ }
+{
+    (label % model::WORDS) as u32
 }
 
 // The address of a packed write.
 fn address_of(write: u64) -> usize
-    ensures { λ r. ⌜ (r ≡ unpacked write .address) × (r < 256) ⌝ }
+    ensures { λ r. ⌜ (r ≡ unpacked write .address) × (r < diskBlocks) ⌝ }
 {
-    (write / 4294967296 % 256) as usize
+    (write / model::WORDS % model::DISK_BLOCKS as u64) as usize
 }
 
 // One packed write, if its flag is set.
-fn store_if(disk: &mut [u32; 256], on: bool, write: u64)
+fn store_if(disk: &mut [u32; model::DISK_BLOCKS], on: bool, write: u64)
     ensures { λ _. ⌜ now (disk .exit) ≡ cond on (store (unpacked write) (now (disk .entry))) (now (disk .entry)) ⌝ }
 {
     if on {
-        disk[address_of(write)] = (write % 4294967296) as u32;
+        disk[address_of(write)] = (write % model::WORDS) as u32;
     }
 }
 
 // The disk of a schedule, in place: of the `left` writes from place i of a table on, the first if its
 // flag is set, then the remaining ones.
-pub fn apply(disk: &mut [u32; 256], table: &[u64; 64], i: usize, left: usize, schedule: u64)
-    requires { ⌜ i + left ≤ 64 ⌝ }
+pub fn apply(
+    disk: &mut [u32; model::DISK_BLOCKS],
+    table: &[u64; model::MOST_INITIAL],
+    i: usize,
+    left: usize,
+    schedule: u64,
+)
+    requires { ⌜ i + left ≤ mostInitial ⌝ }
     ensures { λ _. ⌜ now (disk .exit) ≡ run (heldFrom (now (table .entry)) i left) schedule (now (disk .entry)) ⌝ }
 {
     if 0 < left {
@@ -55,8 +73,14 @@ pub fn apply(disk: &mut [u32; 256], table: &[u64; 64], i: usize, left: usize, sc
 }
 
 // The blocks at the addresses of n writes from a place of a table on, as they are on another disk.
-pub fn restore(disk: &mut [u32; 256], base: &[u32; 256], table: &[u64; 64], from: usize, n: usize)
-    requires { ⌜ from + n ≤ 64 ⌝ }
+pub fn restore(
+    disk: &mut [u32; model::DISK_BLOCKS],
+    base: &[u32; model::DISK_BLOCKS],
+    table: &[u64; model::MOST_INITIAL],
+    from: usize,
+    n: usize,
+)
+    requires { ⌜ from + n ≤ mostInitial ⌝ }
     ensures { λ _. ⌜ now (disk .exit) ≡ restored (heldFrom (now (table .entry)) from n) (now (base .entry)) (now (disk .entry)) ⌝ }
 {
     let mut i: usize = 0;

@@ -1,4 +1,3 @@
-pub mod EndLaws
-pub mod RowLaws
-pub mod RowSteps
 pub mod TotalLaws
+pub mod RowLaws
+pub mod EndLaws

@@ -1,116 +1,74 @@
--- A table of dependency masks decides validity, and the schedule of all flags stores every write.
+-- The unions of a table's rows, by halves, decide validity.
 use mathlib.Core.Path.{_≡_, refl, sym, ap, ap₂, _∙_}
-use mathlib.Core.Bool.{Bool, not, and-true, _&&_, _||_}
-use mathlib.Core.List.{List, [], _∷_}
-use Prim.Native.Nat.{ℕ, zero, suc, _+_, _-_, _*_, _/_, _%_, _^_, _≤_, _<_}
-use native.Mathlib.Nat.{pow-suc, mod-lt, zero-add, lt-of-lt-of-le}
+use mathlib.Core.Bool.{Bool, false, not, _&&_, _||_}
+use mathlib.Core.List.{List}
+use Prim.Native.Nat.{ℕ, _+_, _-_, _*_, _/_, _%_, _^_, _≤_, _<_}
+use native.Mathlib.Nat.{mod-lt, mod-eq-of-lt, zero-add}
 use native.Mathlib.Omega.{arith}
 use lib.Bits.{bitAnd, and-mask}
-use lib.Dec.{lit<}
-use lib.ListN.{length, getD, take}
-use lib.Pow.{pow-pos, pow-mono}
-use lib.Seq.{getD-take}
-use Rattle.relation.specs.Bits.{bit, maskOf}
+use lib.Dec.{eqb}
+use lib.ListN.{getD}
+use lib.Pow.{pow-pos, shr-lt}
+use borrow.Author.Needs.{needs}
+use borrow.Author.Tests.{eq-eqb, ne-eqb}
+use Rattle.relation.specs.Bits.{bit}
 use Rattle.relation.specs.Lists.{allBelow}
 use Rattle.relation.specs.Union.{partOf, rowsOn, Unites}
 use Rattle.relation.proofs.BitLaws.{bit-mod, bit-shift}
-use Rattle.relation.proofs.ListLaws.{allBelow-ext, allBelow-intro, allBelow-split, length-tabulate, getD-tabulate}
-use Rattle.relation.proofs.MaskLaws.{mask-part}
-use Rattle.relation.proofs.UnionLaws.{part-or, union-part, bit-past}
-use Rattle.model.specs.declared.Rule.{Rule}
-use Rattle.model.specs.declared.Write.{Write}
-use Rattle.model.specs.Rules.{dependsOn, labelOf}
-use Rattle.model.specs.Schedule.{noWrite, labelAt, store, run, written, valid}
-use Rattle.file_format.specs.Scan.{writeField, writesAt}
-use Rattle.judge_schedules.specs.Rows.{rowOf, rowsFrom, needed, validBy, Validates}
+use Rattle.relation.proofs.ListLaws.{allBelow-ext, allBelow-split}
+use Rattle.relation.proofs.UnionLaws.{part-or, union-part}
+use Rattle.model.specs.Limits.{mostMain}
+use Rattle.judge_schedules.specs.Rows.{validRows, firstHalf, mostHalf, halfSets, needed, validBy, Validates}
+use Rattle.judge_schedules.proofs.TotalLaws.{sets-are, sets-fit, sets-most, sets-some}
 
--- valid exactly if all that the first six depend on is flagged, and all that the next six do
-valid-groups : (low high : List ℕ) (s : ℕ) → validBy low high s ≡ partOf (getD low (s % 64) 0) s && partOf (getD high (s / 64 % 64) 0) s
-unfolding validBy needed
-valid-groups low high s = part-or (getD low (s % 64) 0) (getD high (s / 64 % 64) 0) s
+-- ---- the first flags
 
--- the same, six flags taken by a mask
-pub valid-both : (low high : List ℕ) (s : ℕ) → validBy low high s ≡ partOf (getD low (bitAnd s 63) 0) s && partOf (getD high (bitAnd (s / 64) 63) 0) s
-valid-both low high s = rw (and-mask s 6, and-mask (s / 64) 6) (valid-groups low high s)
+pub flags-are : (s k : ℕ) → k ≤ mostHalf → bitAnd s (1 * 2 ^ k % 18446744073709551616 - 1) ≡ s % 2 ^ k
+flags-are s k h = rw (sets-are k h) (and-mask s k)
 
-pub writes-length : (s : List ℕ) (at n : ℕ) → length (writesAt s at n) ≡ n
-unfolding writesAt
-writes-length s at n = length-tabulate (λ i. writeField s (at + 13 * i)) n
+pub flags-below : (s k : ℕ) → k ≤ mostHalf → bitAnd s (1 * 2 ^ k % 18446744073709551616 - 1) < halfSets
+flags-below s k h =
+    let m = mod-lt s {m = 2 ^ k} (pow-pos k) in let l = sets-fit k halfSets refl h in
+    rw (flags-are s k h) (omega arith)
 
-label-at : (s : List ℕ) (at n i : ℕ) → i < n → labelAt (writesAt s at n) i ≡ labelOf (writeField s (at + 13 * i))
-unfolding writesAt
-label-at s at n i h = ap labelOf (getD-tabulate (λ j. writeField s (at + 13 * j)) n i noWrite h)
+-- ---- validity
 
-module _ (rules : List Rule) (s : List ℕ) (at n m : ℕ) where
-  -- write i depends on write j
-  abbrev on : ℕ → ℕ → Bool
-  on i j = dependsOn rules (labelOf (writeField s (at + 13 * i))) (labelOf (writeField s (at + 13 * j)))
+module _ (low high : List ℕ) (near s : ℕ) where
+  -- valid exactly if all that the first flags depend on is flagged, and all that those behind do
+  pub valid-both : validBy low high near s ≡ partOf (getD low (s % 2 ^ near) 0) s && partOf (getD high (s / 2 ^ near % halfSets) 0) s
+  unfolding validBy needed
+  valid-both = part-or (getD low (s % 2 ^ near) 0) (getD high (s / 2 ^ near % halfSets) 0) s
 
-  row-at : (rows : List ℕ) → take n rows ≡ rowsFrom rules s at n n → (i : ℕ) → i < n → getD rows i 0 ≡ maskOf (on i) n
-  unfolding rowsFrom rowOf
-  row-at rows e i h =
-      sym (getD-take n rows i 0 h) ∙ ap (λ (l : List ℕ). getD l i 0) e ∙ getD-tabulate (λ k. maskOf (on k) n) n i 0 h
+  module _ (x : ℕ) (e : x ≡ s % 2 ^ near) where
+    pub valid-broken : (bitAnd (getD low x 0) s ≡ getD low x 0 → ⊥) → false ≡ validBy low high near s
+    unfolding partOf
+    valid-broken h = sym (valid-both ∙ rw (← e, ne-eqb _ _ h))
 
-  -- write i of schedule m, if flagged, has all of its row flagged
-  abbrev covers : List ℕ → ℕ → Bool
-  covers rows i = not (bit m i) || partOf (getD rows i 0) m
+    pub valid-next : (y : ℕ) → bitAnd (getD low x 0) s ≡ getD low x 0 → y ≡ s / 2 ^ near % halfSets
+        → eqb (bitAnd (getD high y 0) s) (getD high y 0) ≡ validBy low high near s
+    unfolding partOf
+    valid-next y h f = sym (valid-both ∙ rw (← e, ← f, eq-eqb _ _ h))
 
-  valid-rows : (rows : List ℕ) → take n rows ≡ rowsFrom rules s at n n → allBelow (covers rows) n ≡ valid rules (writesAt s at n) m
-  unfolding valid partOf
-  valid-rows rows e =
-      rw (writes-length s at n)
-      (allBelow-ext
-      (covers rows)
-      (λ i. not (bit m i) || allBelow (λ j. not (dependsOn rules (labelAt (writesAt s at n) i) (labelAt (writesAt s at n) j)) || bit m j) n)
-      n
-      (λ i h. ap (λ (b : Bool). not (bit m i) || b)
-      (rw (row-at rows e i h) (mask-part (on i) n m)
-      ∙ allBelow-ext
-      (λ j. not (on i j) || bit m j)
-      (λ j. not (dependsOn rules (labelAt (writesAt s at n) i) (labelAt (writesAt s at n) j)) || bit m j)
-      n
-      (λ j l. rw (label-at s at n i h, label-at s at n j l)))))
+-- write i of a schedule, if flagged, has all of its row flagged
+abbrev covers : List ℕ → ℕ → ℕ → Bool
+covers rows s i = not (bit s i) || partOf (getD rows i 0) s
 
-  -- a schedule of n writes flags none beyond
-  covers-past : (rows : List ℕ) → m < 2 ^ n → n ≤ 12 → allBelow (covers rows) 12 ≡ allBelow (covers rows) n
-  covers-past rows h l =
-      let z : 12 ≡ n + (12 - n) = omega arith in
-      ap (allBelow (covers rows)) z
-      ∙ allBelow-split (covers rows) n (12 - n)
-      ∙ ap (λ (b : Bool). allBelow (covers rows) n && b)
-      (allBelow-intro (λ i. covers rows (n + i)) (12 - n)
-      (λ i k. rw (bit-past m (n + i) (lt-of-lt-of-le h (pow-mono {i = n} {j = n + i} (omega arith))))))
-      ∙ and-true (allBelow (covers rows) n)
+pub validates : (rows low high : List ℕ) (n near : ℕ) → n ≤ mostMain → near ≡ firstHalf n → Unites rows 0 near low → Unites rows near (n - near) high → Validates rows n low high
+unfolding Validates validRows
+validates rows low high n near l e u v s h =
+    let far = n - near in
+    let z : near + far ≡ n = omega arith in
+    let first : s % 2 ^ near < 2 ^ near = mod-lt s {m = 2 ^ near} (pow-pos near) in
+    let next : s / 2 ^ near < 2 ^ far = shr-lt far near (let y : far + near ≡ n = omega arith in rw y h) in
+    let few : 2 ^ far ≤ halfSets = sets-fit far halfSets refl (omega arith) in
+    let same : s / 2 ^ near % halfSets ≡ s / 2 ^ near = mod-eq-of-lt (omega arith) in
+    rw (← e)
+    (valid-both low high near s
+    ∙ rw (same, u .at (s % 2 ^ near) first, v .at (s / 2 ^ near) next, union-part (rowsOn rows 0) (s % 2 ^ near) near s, union-part (rowsOn rows near) (s / 2 ^ near) far s)
+    (ap₂ _&&_
+    (allBelow-ext _ (covers rows s) near (λ i k. rw (zero-add i, bit-mod s near i k)))
+    (allBelow-ext _ (λ i. covers rows s (near + i)) far (λ i k. rw (bit-shift s near i))))
+    ∙ sym (allBelow-split (covers rows s) near far)
+    ∙ ap (allBelow (covers rows s)) z)
 
-  -- the unions of the first six rows and of the next six
-  covers-halves : (rows low high : List ℕ) → Unites rows 0 6 low → Unites rows 6 6 high → validBy low high m ≡ allBelow (covers rows) 12
-  covers-halves rows low high u v =
-      let a : m % 64 < 2 ^ 6 = mod-lt m {m = 64} (lit< tt) in
-      let b : m / 64 % 64 < 2 ^ 6 = mod-lt (m / 64) {m = 64} (lit< tt) in
-      valid-groups low high m
-      ∙ rw (u .at (m % 64) a, v .at (m / 64 % 64) b, union-part (rowsOn rows 0) (m % 64) 6 m, union-part (rowsOn rows 6) (m / 64 % 64) 6 m)
-      (ap₂ _&&_
-      (allBelow-ext _ (covers rows) 6 (λ i h. rw (zero-add i, bit-mod m 6 i h)))
-      (allBelow-ext _ (λ i. covers rows (6 + i)) 6 (λ i h. rw (bit-mod (m / 64) 6 i h, bit-shift m 6 i))))
-      ∙ sym (allBelow-split (covers rows) 6 6)
-
-pub validates : (rules : List Rule) (s : List ℕ) (at n : ℕ) (rows low high : List ℕ) → n ≤ 12 → take n rows ≡ rowsFrom rules s at n n
-    → Unites rows 0 6 low → Unites rows 6 6 high → Validates rules (writesAt s at n) n low high
-unfolding Validates
-validates rules s at n rows low high l e u v m h =
-    covers-halves rules s at n m rows low high u v ∙ covers-past rules s at n m rows h l ∙ valid-rows rules s at n m rows e
-
--- the schedule with every flag set
-pub run-all : (k : ℕ) (ws : List Write) (d : List ℕ) → length ws ≤ k → run ws (2 ^ k - 1) d ≡ written ws d
-unfolding run written
-run-all k [] d h = refl
-run-all zero (w ∷ ws) d h = absurd (omega arith)
-run-all (suc k) (w ∷ ws) d h =
-    let p = pow-pos k in
-    let e = pow-suc 2 k in
-    let a : (2 ^ suc k - 1) % 2 ≡ 1 = omega arith in
-    let b : (2 ^ suc k - 1) / 2 ≡ 2 ^ k - 1 = omega arith in
-    rw (a, b) (run-all k ws (store w d) (omega arith))
-
-pub initial-run : (s : List ℕ) (at n : ℕ) (d r : List ℕ) → n ≤ 64 → r ≡ run (writesAt s at n) 18446744073709551615 d → r ≡ written (writesAt s at n) d
-initial-run s at n d r h e = e ∙ run-all 64 (writesAt s at n) d (rw (writes-length s at n) h)
+pub ruleset halves = (needs, sets-are, sets-fit, sets-most, sets-some, flags-are, flags-below, valid-broken, valid-next, validates)

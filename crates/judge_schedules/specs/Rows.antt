@@ -1,49 +1,69 @@
--- Dependencies as masks: the dependencies of each write of a trace, computed once.
-use Prim.Native.Nat.{ℕ, _+_, _*_, _/_, _%_, _^_, _≤_, _<_}
+-- Schedules by a table of rows: row i is the mask of the writes that write i depends on.
+use Prim.Native.Nat.{ℕ, zero, suc, _+_, _/_, _%_, _^_, _≤_, _<_}
 use mathlib.Core.Path.{_≡_}
-use mathlib.Core.Bool.{Bool, false, not, _&&_}
-use mathlib.Core.List.{List}
+use mathlib.Core.Bool.{Bool, cond, not, _&&_, _||_}
+use mathlib.Core.List.{List, [], _∷_, _++_}
 use lib.Bits.{bitOr}
-use lib.ListN.{getD}
-use Rattle.relation.specs.Bits.{maskOf}
-use Rattle.relation.specs.Lists.{tabulate}
+use lib.ListN.{length, getD, take}
+use Rattle.relation.specs.Bits.{bit}
+use Rattle.relation.specs.Lists.{allBelow}
 use Rattle.relation.specs.Union.{partOf}
-use Rattle.model.specs.declared.Rule.{Rule}
 use Rattle.model.specs.declared.Write.{Write}
 use Rattle.model.specs.declared.Check.{Check}
-use Rattle.model.specs.Rules.{Label, labelOf, matches, dependsOn}
-use Rattle.model.specs.Schedule.{run, valid}
+use Rattle.model.specs.Limits.{mostMain}
+use Rattle.model.specs.Schedule.{run}
 use Rattle.model.specs.Check.{consistent}
-use Rattle.file_format.specs.Scan.{writeField}
 
--- which of the n writes from a place on a rule pairs with a label
-unfoldable pub ruleRow : Rule → Label → List ℕ → ℕ → ℕ → ℕ
-ruleRow rule l s at n = maskOf (λ j. matches rule l (labelOf (writeField s (at + 13 * j)))) n
+-- a schedule of n writes is valid: each flagged write has all of its row flagged
+unfoldable pub validRows : List ℕ → ℕ → ℕ → Bool
+validRows rows n s = allBelow (λ i. not (bit s i) || partOf (getD rows i 0) s) n
 
--- which of them a label depends on
-unfoldable pub rowOf : List Rule → Label → List ℕ → ℕ → ℕ → ℕ
-rowOf rules l s at n = maskOf (λ j. dependsOn rules l (labelOf (writeField s (at + 13 * j)))) n
+-- it is bad: valid, and its disk is inconsistent
+unfoldable pub badRows : List ℕ → ℕ → List ℕ → List Write → List Check → ℕ → Bool
+badRows rows n base ws checks s = validRows rows n s && not (consistent checks (run ws s base))
 
--- the rows of the first k of these n writes
-unfoldable pub rowsFrom : List Rule → List ℕ → ℕ → ℕ → ℕ → List ℕ
-rowsFrom rules s at n k = tabulate (λ i. rowOf rules (labelOf (writeField s (at + 13 * i))) s at n) k
+-- ---- by halves
 
--- all that the flagged writes of a schedule depend on, by the unions of the first six rows and of the next six
-unfoldable pub needed : List ℕ → List ℕ → ℕ → ℕ
-needed low high s = bitOr (getD low (s % 64) 0) (getD high (s / 64 % 64) 0)
+-- how many of n writes are in the first half
+abbrev pub firstHalf : ℕ → ℕ
+firstHalf n = (n + 1) / 2
+
+-- the most writes of a half, and the sets of these
+abbrev pub mostHalf : ℕ
+mostHalf = firstHalf mostMain
+
+abbrev pub halfSets : ℕ
+halfSets = 2 ^ mostHalf
+
+-- all that the flagged writes of a schedule depend on, by the unions of the rows of the first `near` writes and of those behind
+unfoldable pub needed : List ℕ → List ℕ → ℕ → ℕ → ℕ
+needed low high near s = bitOr (getD low (s % 2 ^ near) 0) (getD high (s / 2 ^ near % halfSets) 0)
 
 -- a schedule is valid by these unions: all of it is flagged
-unfoldable pub validBy : List ℕ → List ℕ → ℕ → Bool
-validBy low high s = partOf (needed low high s) s
-
--- no schedule from s up to below r is valid, whatever the unions of the first six rows
-unfoldable pub NoneValid : List ℕ → ℕ → ℕ → Type 0
-NoneValid high s r = (low : List ℕ) (t : ℕ) → s ≤ t → t < r → validBy low high t ≡ false
-
--- a schedule is bad by these unions
-unfoldable pub badBy : List ℕ → List ℕ → List ℕ → List Write → List Check → ℕ → Bool
-badBy low high base ws checks s = validBy low high s && not (consistent checks (run ws s base))
+unfoldable pub validBy : List ℕ → List ℕ → ℕ → ℕ → Bool
+validBy low high near s = partOf (needed low high near s) s
 
 -- the unions decide which schedules of n writes are valid
-unfoldable pub Validates : List Rule → List Write → ℕ → List ℕ → List ℕ → Type 0
-Validates rules ws n low high = (s : ℕ) → s < 2 ^ n → validBy low high s ≡ valid rules ws s
+unfoldable pub Validates : List ℕ → ℕ → List ℕ → List ℕ → Type 0
+Validates rows n low high = (s : ℕ) → s < 2 ^ n → validBy low high (firstHalf n) s ≡ validRows rows n s
+
+-- ---- the beginnings and the ends that a valid schedule can have
+
+-- what the flags x of the first half need of that half is among them
+unfoldable pub mayBegin : List ℕ → ℕ → ℕ → Bool
+mayBegin low near x = partOf (getD low x 0 % 2 ^ near) x
+
+-- what the flags y of the second half need of that half is among them
+unfoldable pub mayEnd : List ℕ → ℕ → ℕ → Bool
+mayEnd high near y = partOf (getD high y 0 / 2 ^ near) y
+
+-- the numbers below n that pass a test, in rising order
+unfoldable pub thoseBelow : (ℕ → Bool) → ℕ → List ℕ
+thoseBelow p zero = []
+thoseBelow p (suc n) = cond (p n) (thoseBelow p n ++ (n ∷ [])) (thoseBelow p n)
+
+-- the first `many` of a list are these
+pub record Lists (p : ℕ → Bool) (n : ℕ) (list : List ℕ) (many : ℕ) : Type 0 where
+  pub most : many ≤ n
+  pub fits : many ≤ length list
+  pub same : take many list ≡ thoseBelow p n

@@ -2,7 +2,7 @@
 use mathlib.Core.Path.{_≡_}
 use mathlib.Core.Bool.{cond}
 use mathlib.Core.List.{List, [], _∷_}
-use Prim.Native.Nat.{ℕ, _+_, _≤_, _<_}
+use Prim.Native.Nat.{ℕ, _+_, _-_, _≤_, _<_}
 use native.Mathlib.Omega.{arith}
 use lib.Dec.{eqb}
 use lib.ListN.{length}
@@ -10,26 +10,26 @@ use borrow.Author.Needs.{needs}
 use borrow.Author.Tests.{eq-eqb, ne-eqb}
 use Rattle.judge_text.specs.Decimal.{decimal}
 use Rattle.file_writing.specs.Writing.{Wrote}
-use Rattle.judge_text.specs.Lines.{refusedLine, testLine, refusedText, holdsText, failsText}
+use Rattle.judge_text.specs.Lines.{blank, lineFeed, refusedLine, testLine, refusedText, holdsText, failsText, mostDigits, numbers}
 use Rattle.file_writing.proofs.WroteLaws.{wrote-then}
 use Rattle.judge_text.proofs.WriteLaws.{decimal-most}
 
-pub number-fits : (n at size : ℕ) → n < 100000 → at + 5 ≤ size → at + length (decimal n) ≤ size
-number-fits n at size h l = let m = decimal-most 4 n h in omega arith
+pub number-fits : (n at size : ℕ) → n < numbers → at + mostDigits ≤ size → at + length (decimal n) ≤ size
+number-fits n at size h l = let m = decimal-most (mostDigits - 1) n h in omega arith
 
-pub number-ends : (n at : ℕ) (l l₁ : List ℕ) (r : ℕ) → n < 100000 → Wrote l at (decimal n) l₁ r → r ≤ at + 5
-number-ends n at l l₁ r h w = let m = decimal-most 4 n h in let p = w .place in omega arith
+pub number-ends : (n at : ℕ) (l l₁ : List ℕ) (r : ℕ) → n < numbers → Wrote l at (decimal n) l₁ r → r ≤ at + mostDigits
+number-ends n at l l₁ r h w = let m = decimal-most (mostDigits - 1) n h in let p = w .place in omega arith
 
 module _ (l : List ℕ) (at : ℕ) (l₁ l₂ l₃ l₄ l₅ l₆ : List ℕ) (r₁ r₂ r₃ r₄ r₅ r₆ : ℕ) where
-  pub refused-wrote : (number place : ℕ) → Wrote l at refusedText l₁ r₁ → Wrote l₁ r₁ (32 ∷ []) l₂ r₂ → Wrote l₂ r₂ (decimal number) l₃ r₃
-      → Wrote l₃ r₃ (32 ∷ []) l₄ r₄ → Wrote l₄ r₄ (decimal place) l₅ r₅ → Wrote l₅ r₅ (10 ∷ []) l₆ r₆ → Wrote l at (refusedLine number place) l₆ r₆
+  pub refused-wrote : (number place : ℕ) → Wrote l at refusedText l₁ r₁ → Wrote l₁ r₁ (blank ∷ []) l₂ r₂ → Wrote l₂ r₂ (decimal number) l₃ r₃
+      → Wrote l₃ r₃ (blank ∷ []) l₄ r₄ → Wrote l₄ r₄ (decimal place) l₅ r₅ → Wrote l₅ r₅ (lineFeed ∷ []) l₆ r₆ → Wrote l at (refusedLine number place) l₆ r₆
   unfolding refusedLine
   refused-wrote number place a b c d e f =
       wrote-then _ _ _ _ _ _ _ _ a (wrote-then _ _ _ _ _ _ _ _ b (wrote-then _ _ _ _ _ _ _ _ c (wrote-then _ _ _ _ _ _ _ _ d (wrote-then _ _ _ _ _ _ _ _ e f))))
 
-  pub line-wrote : (l₇ l₈ : List ℕ) (r₇ r₈ k valid bad : ℕ) → Wrote l at (decimal k) l₁ r₁ → Wrote l₁ r₁ (32 ∷ []) l₂ r₂ → Wrote l₂ r₂ (decimal valid) l₃ r₃
-      → Wrote l₃ r₃ (32 ∷ []) l₄ r₄ → Wrote l₄ r₄ (decimal bad) l₅ r₅ → Wrote l₅ r₅ (32 ∷ []) l₆ r₆ → Wrote l₆ r₆ (cond (eqb bad 0) holdsText failsText) l₇ r₇
-      → Wrote l₇ r₇ (10 ∷ []) l₈ r₈ → Wrote l at (testLine k valid bad) l₈ r₈
+  pub line-wrote : (l₇ l₈ : List ℕ) (r₇ r₈ k valid bad : ℕ) → Wrote l at (decimal k) l₁ r₁ → Wrote l₁ r₁ (blank ∷ []) l₂ r₂ → Wrote l₂ r₂ (decimal valid) l₃ r₃
+      → Wrote l₃ r₃ (blank ∷ []) l₄ r₄ → Wrote l₄ r₄ (decimal bad) l₅ r₅ → Wrote l₅ r₅ (blank ∷ []) l₆ r₆ → Wrote l₆ r₆ (cond (eqb bad 0) holdsText failsText) l₇ r₇
+      → Wrote l₇ r₇ (lineFeed ∷ []) l₈ r₈ → Wrote l at (testLine k valid bad) l₈ r₈
   unfolding testLine
   line-wrote l₇ l₈ r₇ r₈ k valid bad a b c d e f g h =
       wrote-then _ _ _ _ _ _ _ _ a (wrote-then _ _ _ _ _ _ _ _ b (wrote-then _ _ _ _ _ _ _ _ c (wrote-then _ _ _ _ _ _ _ _ d

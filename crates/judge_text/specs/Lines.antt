@@ -1,15 +1,17 @@
 -- What the judging program prints for a file.
-use Prim.Native.Nat.{ℕ, zero, suc}
+use Prim.Native.Nat.{ℕ, zero, suc, _+_, _*_, _^_}
 use mathlib.Core.Bool.{cond}
 use mathlib.Core.List.{List, [], _∷_, _++_}
 use lib.Dec.{eqb}
 use lib.ListN.{length}
+use Rattle.model.specs.declared.Rule.{Rule}
 use Rattle.model.specs.Answer.{Outcome, answer, refused}
 use Rattle.model.specs.Cyclic.{cyclic}
 use Rattle.model.specs.Test.{File, validCount, badCount}
+use Rattle.file_format.specs.declared.Extent.{Extent}
 use Rattle.file_format.specs.File.{readOf}
-use Rattle.file_format.specs.Held.{testOf}
-use Rattle.judge_cases.specs.Judge.{Case, caseIn}
+use Rattle.file_format.specs.Scan.{testAt}
+use Rattle.file_format.specs.Held.{testOf, extentOf}
 use Rattle.judge_text.specs.Decimal.{decimal}
 
 -- ---- texts, in ASCII
@@ -57,11 +59,29 @@ programText s = textOf (readOf s)
 
 -- ---- the code's steps
 
--- the line of a case that the judge was given
-unfoldable pub lineOf : ℕ → Outcome Case → List ℕ
-lineOf k (refused number place) = []
-lineOf k (answer c) = testLine k (validCount (c .rules) (c .test)) (badCount (c .rules) (c .test))
+-- the lines of the first n tests, by their places
+unfoldable pub caseLines : List Rule → List ℕ → List Extent → ℕ → List ℕ
+caseLines rules s tests n =
+    lines (λ i. testLine (suc i) (validCount rules (testAt s (extentOf tests i))) (badCount rules (testAt s (extentOf tests i)))) n
 
--- the lines of the first n tests
-unfoldable pub caseLines : List ℕ → ℕ → List ℕ
-caseLines s n = lines (λ i. lineOf (suc i) (caseIn s (suc i))) n
+-- ---- how long a text is at most
+
+-- the digits of a number, and the numbers that have no more
+abbrev pub mostDigits : ℕ
+mostDigits = 5
+
+abbrev pub numbers : ℕ
+numbers = 10 ^ mostDigits
+
+-- `holds`, `fails`; a test's line, a refusal's line; a file's text
+abbrev pub verdictLength : ℕ
+verdictLength = 5
+
+abbrev pub testLength : ℕ
+testLength = 3 * (mostDigits + 1) + verdictLength + 1
+
+abbrev pub refusedLength : ℕ
+refusedLength = 8 + mostDigits + 1 + mostDigits + 1
+
+abbrev pub textLength : ℕ
+textLength = 400

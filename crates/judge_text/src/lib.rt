@@ -1,15 +1,28 @@
 // The judging program's lines.
-use file_format::Scan;
-use judge_cases::Judged;
+use file_format::Extent;
+use judge_cases::Found;
+use rule_match::Rules;
 ghost use mathlib.Core.Path.{_≡_};
 ghost use mathlib.Core.Bool.{cond};
 ghost use Prim.Native.Nat.{_+_, _<_, _≤_};
 ghost use lib.Dec.{eqb};
 ghost use lib.ListN.{length};
-ghost use Rattle.judge_cases.specs.Judge.{caseIn};
+ghost use Rattle.model.specs.Limits.{mostRules, mostTests};
+ghost use Rattle.model.specs.Test.{validCount, badCount};
+ghost use Rattle.file_format.specs.Scan.{testAt};
+ghost use Rattle.file_format.specs.Held.{Inside, AllInside};
+ghost use Rattle.rule_match.specs.Held.{rulesOf};
 ghost use Rattle.file_writing.specs.Writing.{Wrote};
 ghost use Rattle.judge_text.specs.Decimal.{decimal};
-ghost use Rattle.judge_text.specs.Lines.{refusedLine, testLine, lineOf, caseLines, programText, holdsText, failsText};
+ghost use Rattle.judge_text.specs.Lines.{refusedLine, testLine, caseLines, programText, holdsText, failsText, mostDigits, numbers, verdictLength, testLength, refusedLength, textLength};
+
+// A blank, and a line feed.
+const BLANK: u8 = 32;
+
+const LINE_FEED: u8 = 10;
+
+// The bytes that any file's text has room in.
+pub const TEXT_LENGTH: usize = 400;
 
 // A number in decimal.
 fn put_decimal(out: &mut [u8], at: usize, n: u64) -> usize
@@ -35,30 +48,30 @@ fn put_text(out: &mut [u8], at: usize, text: &[u8]) -> usize
     at + i
 }
 
-// A number below 100,000.
+// A number of a line.
 fn put_number(out: &mut [u8], at: usize, n: u64) -> usize
-    requires { ⌜ (n < 100000) × (at + 5 ≤ length (now out)) ⌝ }
-    ensures { λ r. ⌜ Wrote (now (out .entry)) at (decimal n) (now (out .exit)) r × (r ≤ at + 5) ⌝ }
+    requires { ⌜ (n < numbers) × (at + mostDigits ≤ length (now out)) ⌝ }
+    ensures { λ r. ⌜ Wrote (now (out .entry)) at (decimal n) (now (out .exit)) r × (r ≤ at + mostDigits) ⌝ }
 {
     put_decimal(out, at, n)
 }
 
 // `refused`, number, place.
 fn put_refused(out: &mut [u8], at: usize, number: u64, place: u64) -> usize
-    requires { ⌜ (at + 20 ≤ length (now out)) × ((number < 100000) × (place < 100000)) ⌝ }
-    ensures { λ r. ⌜ Wrote (now (out .entry)) at (refusedLine number place) (now (out .exit)) r × (r ≤ at + 20) ⌝ }
+    requires { ⌜ (at + refusedLength ≤ length (now out)) × ((number < numbers) × (place < numbers)) ⌝ }
+    ensures { λ r. ⌜ Wrote (now (out .entry)) at (refusedLine number place) (now (out .exit)) r × (r ≤ at + refusedLength) ⌝ }
 {
     let a = put_text(out, at, b"refused");
-    let b = file_writing::put(out, a, 32);
+    let b = file_writing::put(out, a, BLANK);
     let c = put_number(out, b, number);
-    let d = file_writing::put(out, c, 32);
+    let d = file_writing::put(out, c, BLANK);
     let e = put_number(out, d, place);
-    file_writing::put(out, e, 10)
+    file_writing::put(out, e, LINE_FEED)
 }
 
 fn put_verdict(out: &mut [u8], at: usize, bad: u64) -> usize
-    requires { ⌜ at + 5 ≤ length (now out) ⌝ }
-    ensures { λ r. ⌜ Wrote (now (out .entry)) at (cond (eqb bad 0) holdsText failsText) (now (out .exit)) r × (r ≡ at + 5) ⌝ }
+    requires { ⌜ at + verdictLength ≤ length (now out) ⌝ }
+    ensures { λ r. ⌜ Wrote (now (out .entry)) at (cond (eqb bad 0) holdsText failsText) (now (out .exit)) r × (r ≡ at + verdictLength) ⌝ }
 {
     if bad == 0 {
         return put_text(out, at, b"holds");
@@ -68,42 +81,43 @@ fn put_verdict(out: &mut [u8], at: usize, bad: u64) -> usize
 
 // Number, valid, bad, holds or fails.
 fn put_line(out: &mut [u8], at: usize, k: u64, valid: u64, bad: u64) -> usize
-    requires { ⌜ (at + 24 ≤ length (now out)) × ((k < 100000) × ((valid < 100000) × (bad < 100000))) ⌝ }
-    ensures { λ r. ⌜ Wrote (now (out .entry)) at (testLine k valid bad) (now (out .exit)) r × (r ≤ at + 24) ⌝ }
+    requires { ⌜ (at + testLength ≤ length (now out)) × ((k < numbers) × ((valid < numbers) × (bad < numbers))) ⌝ }
+    ensures { λ r. ⌜ Wrote (now (out .entry)) at (testLine k valid bad) (now (out .exit)) r × (r ≤ at + testLength) ⌝ }
 {
     let a = put_number(out, at, k);
-    let b = file_writing::put(out, a, 32);
+    let b = file_writing::put(out, a, BLANK);
     let c = put_number(out, b, valid);
-    let d = file_writing::put(out, c, 32);
+    let d = file_writing::put(out, c, BLANK);
     let e = put_number(out, d, bad);
-    let f = file_writing::put(out, e, 32);
+    let f = file_writing::put(out, e, BLANK);
     let g = put_verdict(out, f, bad);
-    file_writing::put(out, g, 10)
+    file_writing::put(out, g, LINE_FEED)
 }
 
-// The line of test k.
-fn put_case(out: &mut [u8], at: usize, file: &[u8], k: u64) -> usize
-    requires { ⌜ (at + 24 ≤ length (now out)) × (k < 100000) ⌝ }
-    ensures { λ r. ⌜ Wrote (now (out .entry)) at (lineOf k (caseIn (now (file .entry)) k)) (now (out .exit)) r × (r ≤ at + 24) ⌝ }
+// The line of test k, which stands at an extent.
+fn put_case(out: &mut [u8], at: usize, file: &[u8], rules: Rules, e: Extent, k: u64) -> usize
+    requires { ⌜ ((at + testLength ≤ length (now out)) × (k < numbers)) × ((rules .count ≤ mostRules) × Inside (now file) e) ⌝ }
+    ensures { λ r. ⌜ Wrote (now (out .entry)) at (testLine k (validCount (rulesOf rules) (testAt (now (file .entry)) e)) (badCount (rulesOf rules) (testAt (now (file .entry)) e))) (now (out .exit)) r × (r ≤ at + testLength) ⌝ }
 {
-    match judge_cases::judge(file, k) {
-        Judged::Counts(j) => put_line(out, at, k, j.valid, j.bad),
-        Judged::Refused {
-            number: _,
-            place: _,
-        } => at,
-    }
+    let j = judge_cases::judge_test(file, rules, e);
+    put_line(out, at, k, j.valid, j.bad)
 }
 
-// The lines of the first tests.
-fn put_cases(out: &mut [u8], file: &[u8], tests: u64) -> usize
-    requires { ⌜ (tests ≤ 16) × (400 ≤ length (now out)) ⌝ }
-    ensures { λ r. ⌜ Wrote (now (out .entry)) 0 (caseLines (now (file .entry)) tests) (now (out .exit)) r × (r ≤ 400) ⌝ }
+// The lines of the first n tests.
+fn put_cases(
+    out: &mut [u8],
+    file: &[u8],
+    rules: Rules,
+    tests: [Extent; model::MOST_TESTS],
+    n: usize,
+) -> usize
+    requires { ⌜ ((n ≤ mostTests) × (textLength ≤ length (now out))) × ((rules .count ≤ mostRules) × AllInside (now file) tests n) ⌝ }
+    ensures { λ r. ⌜ Wrote (now (out .entry)) 0 (caseLines (rulesOf rules) (now (file .entry)) tests n) (now (out .exit)) r × (r ≤ textLength) ⌝ }
 {
     let mut at: usize = 0;
-    let mut i: u64 = 0;
-    while i < tests {
-        at = put_case(out, at, file, i + 1);
+    let mut i: usize = 0;
+    while i < n {
+        at = put_case(out, at, file, rules, tests[i], i as u64 + 1);
         i += 1;
     }
     at
@@ -111,20 +125,15 @@ fn put_cases(out: &mut [u8], file: &[u8], tests: u64) -> usize
 
 // What the judging program prints for a file, at the front of `out`, and how many bytes that is.
 pub fn judge_lines(file: &[u8], out: &mut [u8]) -> usize
-    requires { ⌜ 400 ≤ length (now out) ⌝ }
-    ensures { λ r. ⌜ Wrote (now (out .entry)) 0 (programText (now (file .entry))) (now (out .exit)) r × (r ≤ 400) ⌝ }
+    requires { ⌜ textLength ≤ length (now out) ⌝ }
+    ensures { λ r. ⌜ Wrote (now (out .entry)) 0 (programText (now (file .entry))) (now (out .exit)) r × (r ≤ textLength) ⌝ }
 {
-    match file_reader::read(file, 0) {
-        Scan::Accepted {
-            rules,
-            tests,
-            found: _,
-        } => {
-            if rule_cycles::is_cyclic(file_loading::file_rules(file, rules)) {
-                return put_refused(out, 0, 8, 0);
-            }
-            put_cases(out, file, tests as u64)
-        }
-        Scan::Refused { number, place } => put_refused(out, 0, number as u64, place as u64),
+    let opened = judge_cases::open_file(file);
+    let rules = opened.rules;
+    let tests = opened.tests;
+    let found = opened.found;
+    match found {
+        Found::Tests(n) => put_cases(out, file, rules, tests, n),
+        Found::Refused(why) => put_refused(out, 0, why.number as u64, why.place as u64),
     }
 }

@@ -13,6 +13,7 @@ use lib.Seq.{getD-append-add}
 use borrow.Author.Tests.{eq-eqb, ne-eqb}
 use Rattle.relation.proofs.ListLaws.{and-intro, getD-tabulate}
 use Rattle.relation.proofs.Cases.{not-no}
+use Rattle.model.specs.Limits.{diskBlocks}
 use Rattle.model.specs.declared.Check.the-variants.{Range}
 use Rattle.model.specs.Disk.{empty, firstOf, secondOf, blockAt}
 use Rattle.model.specs.Check.{RangeHolds, Holds, damaged}
@@ -25,9 +26,9 @@ use Rattle.log_get.proofs.Theorems.{get-answers, refused-gets, answered
 
 -- ---- a disk's blocks
 
-block-at : (disk : List ℕ) (a : ℕ) → a < 256 → blockAt (blocksOf disk) a ≡ blockIn disk a
+block-at : (disk : List ℕ) (a : ℕ) → a < diskBlocks → blockAt (blocksOf disk) a ≡ blockIn disk a
 unfolding blocksOf
-block-at disk a h = getD-tabulate (blockIn disk) 256 a 0 h
+block-at disk a h = getD-tabulate (blockIn disk) diskBlocks a 0 h
 
 abbrev RangeOf : List ℕ → ℕ → Type 0
 RangeOf disk superblock = RangeHolds (blocksOf disk) (firstOf superblock) (secondOf superblock)
@@ -63,7 +64,7 @@ module _ (superblock : ℕ) where
   filled-small (suc (suc (suc zero))) h = omega arith
   filled-small (suc (suc (suc (suc i)))) h = rw (filled-rest (suc (suc (suc (suc i)))) (omega arith) (omega (arith, filled-size))) (lit< tt)
 
-  filled-block : (a : ℕ) → 0 < a → a < 256 → empty (blockIn (filled superblock) a) ≡ false
+  filled-block : (a : ℕ) → 0 < a → a < diskBlocks → empty (blockIn (filled superblock) a) ≡ false
   unfolding blockIn word half empty
   filled-block a h l =
       rw (
@@ -74,7 +75,7 @@ module _ (superblock : ℕ) where
       )
 
   module _ (u : damaged (firstOf superblock) (secondOf superblock) ≡ false) where
-    bounds : (firstOf superblock ≤ secondOf superblock) × (firstOf superblock < secondOf superblock → secondOf superblock ≤ 256)
+    bounds : (firstOf superblock ≤ secondOf superblock) × (firstOf superblock < secondOf superblock → secondOf superblock ≤ diskBlocks)
     bounds = undamaged (firstOf superblock) (secondOf superblock) u
 
     -- head is at most tail, so that head has 16 bits too
@@ -120,7 +121,7 @@ pub shown-meets : ShownMeets
 shown-meets disk key v e = (filled (blockIn disk 0), filled-meets (blockIn disk 0) (answered-undamaged disk key v e))
 
 -- the key of a block has 16 bits
-key-small : (disk : List ℕ) (a : ℕ) → length disk ≡ 1024 → Small disk → a < 256 → firstOf (blockIn disk a) < 65536
+key-small : (disk : List ℕ) (a : ℕ) → length disk ≡ 1024 → Small disk → a < diskBlocks → firstOf (blockIn disk a) < 65536
 unfolding firstOf blockIn word half
 key-small disk a n s h =
     let p = s (4 * a) (omega arith) in
@@ -144,7 +145,7 @@ empty-exactly disk m = (
     range : RangeOf disk (blockIn disk 0)
     range = range-of disk (m .range)
 
-    inside : headOf disk < tailOf disk → headOf disk < 256
+    inside : headOf disk < tailOf disk → headOf disk < diskBlocks
     inside lt = let l = range .1 lt in omega arith
 
     key : headOf disk < tailOf disk → ℕ

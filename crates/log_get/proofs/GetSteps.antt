@@ -10,6 +10,7 @@ use lib.ListN.{length}
 use borrow.Author.Needs.{needs}
 use borrow.Author.Tests.{eq-eqb, ne-eqb}
 use Rattle.relation.proofs.Cases.{told}
+use Rattle.model.specs.Limits.{diskBlocks}
 use Rattle.model.specs.Answer.{refusal}
 use Rattle.model.specs.Disk.{empty, firstOf, secondOf}
 use Rattle.model.specs.Check.{damaged}
@@ -35,7 +36,7 @@ module _ (d : List ℕ) (key head tail a : ℕ) where
   pub seen-start : getFrom d key head (tail - head) ≡ getFrom d key head (tail - head)
   seen-start = refl
 
-  pub seen-inside : (x : ℕ) → damaged head tail ≡ false → head < a → a ≤ tail → x ≡ a - 1 → x < 256
+  pub seen-inside : (x : ℕ) → damaged head tail ≡ false → head < a → a ≤ tail → x ≡ a - 1 → x < diskBlocks
   seen-inside x u h l z = undamaged-inside head tail x u (omega arith) (omega arith)
 
   before : head < a → a - head ≡ suc (a - 1 - head)

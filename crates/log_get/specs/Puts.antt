@@ -7,10 +7,12 @@ use lib.ListN.{length, drop}
 use Rattle.relation.specs.Lists.{any, tabulate}
 use Rattle.model.specs.declared.Write.{Write}
 use Rattle.model.specs.declared.Check.the-variants.{Range}
+use Rattle.model.specs.Limits.{mostInitialPuts, mostMainPuts}
 use Rattle.model.specs.Answer.{Outcome, answer, refused}
 use Rattle.model.specs.Disk.{block}
 use Rattle.model.specs.Test.{Test, test}
 use Rattle.file_format.specs.Bytes.{half}
+use Rattle.file_format.specs.File.{putLength, endLength}
 use Rattle.file_format.specs.Encode.{testBytes}
 
 -- *put*: a key and a value
@@ -71,14 +73,14 @@ traced o b = record { outcome = o; buffer = b }
 unfoldable pub emptyPut : Put → Bool
 emptyPut p = eqb (p .key) 0 && eqb (p .value) 0
 
--- *trace*: one whole test, 26 bytes per put and 7, and its length. 19 a program's length isn't a multiple of 4; 6 over 32 initial or 6 main puts; 20 a put of (0,0); 12 buffer too short
+-- *trace*: one whole test, 26 bytes per put and 7, and its length. 19 a program's length isn't a multiple of 4; 6 too many initial or main puts; 20 a put of (0,0); 12 buffer too short
 unfoldable pub traceOf : List ℕ → List ℕ → List ℕ → Traced
 traceOf initial main buffer =
     let i = putsOf initial in
     let m = putsOf main in
-    let size = 26 * (length i + length m) + 7 in
+    let size = putLength * (length i + length m) + endLength in
     cond (not (eqb (length initial % 4) 0) || not (eqb (length main % 4) 0)) (traced (refused 19 0) buffer)
-    (cond (ltb 32 (length i) || ltb 6 (length m)) (traced (refused 6 0) buffer)
+    (cond (ltb mostInitialPuts (length i) || ltb mostMainPuts (length m)) (traced (refused 6 0) buffer)
     (cond (any emptyPut i || any emptyPut m) (traced (refused 20 0) buffer)
     (cond (ltb (length buffer) size) (traced (refused 12 0) buffer)
     (traced (answer size) (testBytes (logTest i m) ++ drop size buffer)))))

@@ -3,13 +3,14 @@ ghost use mathlib.Core.Path.{_≡_};
 ghost use Prim.Native.Nat.{_-_, _<_};
 ghost use lib.ListN.{length};
 ghost use mathlib.Core.Bool.{false};
+ghost use Rattle.model.specs.Limits.{diskBlocks};
 ghost use Rattle.model.specs.Check.{damaged};
 ghost use Rattle.file_format.specs.Bytes.{blockIn};
 ghost use Rattle.log_get.specs.Get.{keyed, getFrom, valueCode, getAnswer};
 
 // The number of block a of a disk.
 fn block_at(disk: &[u8], a: usize) -> u32
-    requires { ⌜ (length (now disk) ≡ 1024) × (a < 256) ⌝ }
+    requires { ⌜ (length (now disk) ≡ 1024) × (a < diskBlocks) ⌝ }
     ensures { λ r. ⌜ r ≡ blockIn (now (disk .entry)) a ⌝ }
 {
     file_format::word_at(disk, 4 * a)
@@ -17,7 +18,7 @@ fn block_at(disk: &[u8], a: usize) -> u32
 
 // Whether block a is non-empty and has this key.
 fn has_key(disk: &[u8], key: u16, a: usize) -> bool
-    requires { ⌜ (length (now disk) ≡ 1024) × (a < 256) ⌝ }
+    requires { ⌜ (length (now disk) ≡ 1024) × (a < diskBlocks) ⌝ }
     ensures { λ r. ⌜ r ≡ keyed (now (disk .entry)) key a ⌝ }
 {
     let b = block_at(disk, a);

@@ -6,6 +6,7 @@ use native.Mathlib.Numerals.{add-one}
 use native.Mathlib.Omega.{arith}
 use borrow.Author.Needs.{needs}
 use Rattle.model.specs.declared.Write.{Write}
+use Rattle.file_format.specs.File.{writeLength}
 use Rattle.file_format.specs.Bytes.{word, bytes4, writeBytes}
 use Rattle.file_format.specs.Encode.{fieldBytes}
 use Rattle.file_writing.specs.Writing.{Wrote}
@@ -13,7 +14,7 @@ use Rattle.file_writing.proofs.WroteLaws.{wrote-then, wrote-none}
 use Rattle.log_puts.specs.Fields.{putFields, programFields, endFields}
 
 pub write-wrote : (l : List ℕ) (at : ℕ) (l₁ l₂ l₃ l₄ l₅ l₆ l₇ : List ℕ) (r₁ r₂ r₃ r₄ r₅ r₆ r₇ tag : ℕ) (w : Write)
-    → Wrote l at (tag ∷ []) l₁ r₁ → Wrote l₁ r₁ (0 ∷ []) l₂ r₂ → Wrote l₂ r₂ (10 ∷ []) l₃ r₃ → Wrote l₃ r₃ (w .address ∷ []) l₄ r₄ → Wrote l₄ r₄ (w .name ∷ []) l₅ r₅
+    → Wrote l at (tag ∷ []) l₁ r₁ → Wrote l₁ r₁ (0 ∷ []) l₂ r₂ → Wrote l₂ r₂ (writeLength ∷ []) l₃ r₃ → Wrote l₃ r₃ (w .address ∷ []) l₄ r₄ → Wrote l₄ r₄ (w .name ∷ []) l₅ r₅
     → Wrote l₅ r₅ (bytes4 (w .epoch)) l₆ r₆ → Wrote l₆ r₆ (bytes4 (w .block)) l₇ r₇ → Wrote l at (fieldBytes tag (writeBytes w)) l₇ r₇
 unfolding fieldBytes writeBytes
 write-wrote l at l₁ l₂ l₃ l₄ l₅ l₆ l₇ r₁ r₂ r₃ r₄ r₅ r₆ r₇ tag w a b c d e f g =

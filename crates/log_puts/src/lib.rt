@@ -3,6 +3,8 @@ use model::Write;
 ghost use mathlib.Core.Path.{_≡_};
 ghost use Prim.Native.Nat.{_+_, _*_, _<_, _≤_};
 ghost use lib.ListN.{length};
+ghost use Rattle.model.specs.Limits.{lastBlock, mostInitialPuts};
+ghost use Rattle.file_format.specs.File.{putLength, endLength, headLength, writeLength};
 ghost use Rattle.file_format.specs.Bytes.{writeBytes};
 ghost use Rattle.file_format.specs.Encode.{fieldBytes};
 ghost use Rattle.file_writing.specs.Writing.{Wrote};
@@ -10,12 +12,12 @@ ghost use Rattle.log_puts.specs.Fields.{putFields, programFields, endFie
 
 // A write's field with a tag.
 fn put_write(out: &mut [u8], at: usize, tag: u8, w: Write) -> usize
-    requires { ⌜ at + 13 ≤ length (now out) ⌝ }
-    ensures { λ r. ⌜ Wrote (now (out .entry)) at (fieldBytes tag (writeBytes w)) (now (out .exit)) r × (r ≡ at + 13) ⌝ }
+    requires { ⌜ at + (headLength + writeLength) ≤ length (now out) ⌝ }
+    ensures { λ r. ⌜ Wrote (now (out .entry)) at (fieldBytes tag (writeBytes w)) (now (out .exit)) r × (r ≡ at + (headLength + writeLength)) ⌝ }
 {
     let a = file_writing::put(out, at, tag);
     let b = file_writing::put(out, a, 0);
-    let c = file_writing::put(out, b, 10);
+    let c = file_writing::put(out, b, file_format::WRITE_LENGTH_BYTE);
     let d = file_writing::put(out, c, w.address);
     let e = file_writing::put(out, d, w.name);
     let f = file_writing::put_word(out, e, w.epoch);
@@ -24,8 +26,8 @@ fn put_write(out: &mut [u8], at: usize, tag: u8, w: Write) -> usize
 
 // A put of a block at tail: the block, then the superblock.
 fn put_put(out: &mut [u8], at: usize, tag: u8, tail: u8, epoch: u32, block: u32) -> usize
-    requires { ⌜ (at + 26 ≤ length (now out)) × (tail < 200) ⌝ }
-    ensures { λ r. ⌜ Wrote (now (out .entry)) at (putFields tag tail epoch block) (now (out .exit)) r × (r ≡ at + 26) ⌝ }
+    requires { ⌜ (at + putLength ≤ length (now out)) × (tail < lastBlock) ⌝ }
+    ensures { λ r. ⌜ Wrote (now (out .entry)) at (putFields tag tail epoch block) (now (out .exit)) r × (r ≡ at + putLength) ⌝ }
 {
     let first = Write {
         address: tail,
@@ -53,8 +55,8 @@ pub fn put_program(
     tail: u8,
     epoch: u32,
 ) -> usize
-    requires { ⌜ (4 * n ≤ length (now program)) × ((from + 26 * n ≤ length (now out)) × ((n ≤ 32) × ((tail ≤ 40) × (epoch ≤ 40)))) ⌝ }
-    ensures { λ r. ⌜ Wrote (now (out .entry)) from (programFields tag tail epoch (now (program .entry)) n) (now (out .exit)) r × (r ≡ from + 26 * n) ⌝ }
+    requires { ⌜ (4 * n ≤ length (now program)) × ((from + putLength * n ≤ length (now out)) × ((n ≤ mostInitialPuts) × ((tail ≤ mostInitialPuts + 1) × (epoch ≤ mostInitialPuts)))) ⌝ }
+    ensures { λ r. ⌜ Wrote (now (out .entry)) from (programFields tag tail epoch (now (program .entry)) n) (now (out .exit)) r × (r ≡ from + putLength * n) ⌝ }
 {
     let mut at = from;
     let mut i: usize = 0;
@@ -68,8 +70,8 @@ pub fn put_program(
 
 // A range check at 0 and the end of the test.
 pub fn put_end(out: &mut [u8], at: usize) -> usize
-    requires { ⌜ at + 7 ≤ length (now out) ⌝ }
-    ensures { λ r. ⌜ Wrote (now (out .entry)) at endFields (now (out .exit)) r × (r ≡ at + 7) ⌝ }
+    requires { ⌜ at + endLength ≤ length (now out) ⌝ }
+    ensures { λ r. ⌜ Wrote (now (out .entry)) at endFields (now (out .exit)) r × (r ≡ at + endLength) ⌝ }
 {
     let a = file_writing::put(out, at, 4);
     let b = file_writing::put(out, a, 0);

@@ -10,6 +10,7 @@ use lib.Dec.{eqb}
 use borrow.Author.Tests.{eqb-true}
 use Rattle.relation.specs.Lists.{tabulate}
 use Rattle.relation.proofs.ListLaws.{length-tabulate}
+use Rattle.model.specs.Limits.{lastBlock, mostInitialPuts, mostMainPuts}
 use Rattle.model.specs.declared.Write.{Write}
 use Rattle.model.specs.declared.Check.the-variants.{Range}
 use Rattle.model.specs.Answer.{Outcome, answer, refused}
@@ -17,7 +18,7 @@ use Rattle.model.specs.Disk.{block}
 use Rattle.model.specs.Test.{file}
 use Rattle.file_format.specs.Bytes.{Small, half, word, writeBytes}
 use Rattle.file_format.specs.Encode.{fieldBytes, testBytes, WriteFits, CheckFits, TestFits}
-use Rattle.file_format.specs.File.{readOf}
+use Rattle.file_format.specs.File.{readOf, putLength}
 use Rattle.file_reader.specs.Limits.{TestLimits}
 use Rattle.file_encoding.proofs.PartLaws.{Bounded}
 use Rattle.file_encoding.proofs.FitLaws.{bounded}
@@ -42,7 +43,7 @@ unfolding writesOf putWrites
 writes-length l [] = refl
 writes-length l (p ∷ ps) = omega (arith, writes-length (after l) ps)
 
-writes-fit : (t e : ℕ) (ps : List Put) → Fit ps → t + length ps < 200 → e + length ps < 200 → (w : Write) → List·Memᴰ w (writesOf (log 1 t e) ps) → WriteFits w
+writes-fit : (t e : ℕ) (ps : List Put) → Fit ps → t + length ps < lastBlock → e + length ps < lastBlock → (w : Write) → List·Memᴰ w (writesOf (log 1 t e) ps) → WriteFits w
 unfolding writesOf putWrites after block Fit
 writes-fit t e [] f h k w m = absurd (List·Memᴰ·not-nil m)
 writes-fit t e (p ∷ ps) f h k w (List·Memᴰ·head q) =
@@ -63,7 +64,7 @@ puts-fit s b (suc n) p m =
 
 -- ---- a whole test
 
-module _ (i m : List Put) (f : Fit i) (g : Fit m) (h : length i ≤ 32) (k : length m ≤ 6) where
+module _ (i m : List Put) (f : Fit i) (g : Fit m) (h : length i ≤ mostInitialPuts) (k : length m ≤ mostMainPuts) where
   log-limits : TestLimits (logTest i m)
   unfolding logTest
   log-limits = record {
@@ -85,11 +86,11 @@ module _ (i m : List Put) (f : Fit i) (g : Fit m) (h : length i ≤ 32) (k : len
 
 -- ---- its length
 
-put-length : (tag t e b : ℕ) → length (putFields tag t e b) ≡ 26
+put-length : (tag t e b : ℕ) → length (putFields tag t e b) ≡ putLength
 unfolding putFields fieldBytes writeBytes
 put-length tag t e b = refl
 
-program-length : (tag t e : ℕ) (s : List ℕ) (n : ℕ) → length (programFields tag t e s n) ≡ 26 * n
+program-length : (tag t e : ℕ) (s : List ℕ) (n : ℕ) → length (programFields tag t e s n) ≡ putLength * n
 unfolding programFields
 program-length tag t e s zero = refl
 program-length tag t e s (suc n) =

@@ -12,6 +12,7 @@ use Rattle.relation.specs.Lists.{any, anyBelow, tabulate}
 use borrow.Author.Needs.{needs}
 use borrow.Author.Tests.{eqb-true, eq-eqb, ne-eqb, lt-ltb, le-ltb, ltb-false}
 use Rattle.relation.proofs.ListLaws.{any-append, length-tabulate, and-left, and-right, and-intro, bool-equal}
+use Rattle.model.specs.Limits.{mostInitialPuts, mostMainPuts}
 use Rattle.model.specs.declared.Write.{Write}
 use Rattle.model.specs.Disk.{block}
 use Rattle.file_format.specs.Bytes.{half, word, writeBytes}
@@ -120,14 +121,14 @@ by-fault initial main buffer =
     let n = length initial / 4 in
     let m = length main / 4 in
     rw (length-tabulate (putAt initial) n, length-tabulate (putAt main) m, any-empty initial n, any-empty main m)
-    (choices (not (eqb (length initial % 4) 0)) (not (eqb (length main % 4) 0)) (ltb 32 n) (ltb 6 m) (emptyBelow initial n) (emptyBelow main m) (ltb (length buffer) (sizeOf n m))
+    (choices (not (eqb (length initial % 4) 0)) (not (eqb (length main % 4) 0)) (ltb mostInitialPuts n) (ltb mostMainPuts m) (emptyBelow initial n) (emptyBelow main m) (ltb (length buffer) (sizeOf n m))
     (traced (answer (sizeOf n m)) (testBytes (logTest (tabulate (putAt initial) n) (tabulate (putAt main) m)) ++ drop (sizeOf n m) buffer)) (λ k. traced (refused k 0) buffer))
 
 -- which refusal, or none, in the code's order
-module _ (i m : List ℕ) (room : ℕ) (a : length i % 4 ≡ 0) (b : length m % 4 ≡ 0) (c : length i / 4 ≤ 32) (d : length m / 4 ≤ 6) where
+module _ (i m : List ℕ) (room : ℕ) (a : length i % 4 ≡ 0) (b : length m % 4 ≡ 0) (c : length i / 4 ≤ mostInitialPuts) (d : length m / 4 ≤ mostMainPuts) where
   past : traceFault i m room ≡ cond (emptyBelow i (length i / 4)) 20 (cond (emptyBelow m (length m / 4)) 20 (cond (ltb room (sizeOf (length i / 4) (length m / 4))) 12 0))
   unfolding traceFault
-  past = rw (eq-eqb (length i % 4) 0 a, eq-eqb (length m % 4) 0 b, le-ltb 32 (length i / 4) c, le-ltb 6 (length m / 4) d) refl
+  past = rw (eq-eqb (length i % 4) 0 a, eq-eqb (length m % 4) 0 b, le-ltb mostInitialPuts (length i / 4) c, le-ltb mostMainPuts (length m / 4) d) refl
 
   pub fault-initial : (e : Bool) → e ≡ emptyBelow i (length i / 4) → e ≡ true → 20 ≡ traceFault i m room
   fault-initial e p q = sym (past ∙ rw (← p, q) refl)
@@ -161,26 +162,26 @@ module _ (i m : List ℕ) (room f : ℕ) (e : f ≡ traceFault i m room) where
       rw e
       (small (not (eqb (length i % 4) 0)) 19 _ (omega arith)
       (small (not (eqb (length m % 4) 0)) 19 _ (omega arith)
-      (small (ltb 32 (length i / 4)) 6 _ (omega arith)
-      (small (ltb 6 (length m / 4)) 6 _ (omega arith)
+      (small (ltb mostInitialPuts (length i / 4)) 6 _ (omega arith)
+      (small (ltb mostMainPuts (length m / 4)) 6 _ (omega arith)
       (small (emptyBelow i (length i / 4)) 20 _ (omega arith)
       (small (emptyBelow m (length m / 4)) 20 _ (omega arith)
       (small (ltb room (sizeOf (length i / 4) (length m / 4))) 12 0 (omega arith) (omega arith))))))))
 
-  pub fits-initial : f ≡ 0 → length i / 4 ≤ 32
+  pub fits-initial : f ≡ 0 → length i / 4 ≤ mostInitialPuts
   unfolding traceFault
   fits-initial z =
-      ltb-false 32 (length i / 4)
-      (on (ltb 32 (length i / 4)) 6 _ (λ (q : 6 ≡ 0). absurd (omega arith))
+      ltb-false mostInitialPuts (length i / 4)
+      (on (ltb mostInitialPuts (length i / 4)) 6 _ (λ (q : 6 ≡ 0). absurd (omega arith))
       (rest (not (eqb (length m % 4) 0)) 19 _ (λ (q : 19 ≡ 0). absurd (omega arith))
       (rest (not (eqb (length i % 4) 0)) 19 _ (λ (q : 19 ≡ 0). absurd (omega arith)) (sym e ∙ z))))
 
-  pub fits-main : f ≡ 0 → length m / 4 ≤ 6
+  pub fits-main : f ≡ 0 → length m / 4 ≤ mostMainPuts
   unfolding traceFault
   fits-main z =
-      ltb-false 6 (length m / 4)
-      (on (ltb 6 (length m / 4)) 6 _ (λ (q : 6 ≡ 0). absurd (omega arith))
-      (rest (ltb 32 (length i / 4)) 6 _ (λ (q : 6 ≡ 0). absurd (omega arith))
+      ltb-false mostMainPuts (length m / 4)
+      (on (ltb mostMainPuts (length m / 4)) 6 _ (λ (q : 6 ≡ 0). absurd (omega arith))
+      (rest (ltb mostInitialPuts (length i / 4)) 6 _ (λ (q : 6 ≡ 0). absurd (omega arith))
       (rest (not (eqb (length m % 4) 0)) 19 _ (λ (q : 19 ≡ 0). absurd (omega arith))
       (rest (not (eqb (length i % 4) 0)) 19 _ (λ (q : 19 ≡ 0). absurd (omega arith)) (sym e ∙ z)))))
 
@@ -191,8 +192,8 @@ module _ (i m : List ℕ) (room f : ℕ) (e : f ≡ traceFault i m room) where
       (on (ltb room (sizeOf (length i / 4) (length m / 4))) 12 0 (λ (q : 12 ≡ 0). absurd (omega arith))
       (rest (emptyBelow m (length m / 4)) 20 _ (λ (q : 20 ≡ 0). absurd (omega arith))
       (rest (emptyBelow i (length i / 4)) 20 _ (λ (q : 20 ≡ 0). absurd (omega arith))
-      (rest (ltb 6 (length m / 4)) 6 _ (λ (q : 6 ≡ 0). absurd (omega arith))
-      (rest (ltb 32 (length i / 4)) 6 _ (λ (q : 6 ≡ 0). absurd (omega arith))
+      (rest (ltb mostMainPuts (length m / 4)) 6 _ (λ (q : 6 ≡ 0). absurd (omega arith))
+      (rest (ltb mostInitialPuts (length i / 4)) 6 _ (λ (q : 6 ≡ 0). absurd (omega arith))
       (rest (not (eqb (length m % 4) 0)) 19 _ (λ (q : 19 ≡ 0). absurd (omega arith))
       (rest (not (eqb (length i % 4) 0)) 19 _ (λ (q : 19 ≡ 0). absurd (omega arith)) (sym e ∙ z))))))))
 

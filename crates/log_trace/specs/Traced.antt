@@ -5,7 +5,9 @@ use lib.Dec.{eqb, ltb}
 use lib.ListN.{length}
 use Rattle.relation.specs.Lists.{anyBelow}
 use mathlib.Core.List.{List, _++_}
+use Rattle.model.specs.Limits.{mostInitialPuts, mostMainPuts}
 use Rattle.model.specs.Answer.{coded}
+use Rattle.file_format.specs.File.{putLength, endLength}
 use Rattle.file_format.specs.Bytes.{word}
 use Rattle.log_get.specs.Puts.{traceOf}
 use Rattle.log_puts.specs.Fields.{programFields, endFields}
@@ -16,7 +18,7 @@ emptyBelow s n = anyBelow (λ i. eqb (word s (4 * i)) 0) n
 
 -- the size of a trace of n and m puts
 abbrev pub sizeOf : ℕ → ℕ → ℕ
-sizeOf n m = 26 * (n + m) + 7
+sizeOf n m = putLength * (n + m) + endLength
 
 -- the fields of a test of n and m puts: main goes on where initial ended
 unfoldable pub testFields : List ℕ → List ℕ → ℕ → ℕ → List ℕ
@@ -27,8 +29,8 @@ unfoldable pub traceFault : List ℕ → List ℕ → ℕ → ℕ
 traceFault initial main room =
     cond (not (eqb (length initial % 4) 0)) 19
     (cond (not (eqb (length main % 4) 0)) 19
-    (cond (ltb 32 (length initial / 4)) 6
-    (cond (ltb 6 (length main / 4)) 6
+    (cond (ltb mostInitialPuts (length initial / 4)) 6
+    (cond (ltb mostMainPuts (length main / 4)) 6
     (cond (emptyBelow initial (length initial / 4)) 20
     (cond (emptyBelow main (length main / 4)) 20
     (cond (ltb room (sizeOf (length initial / 4) (length main / 4))) 12 0))))))

@@ -2,6 +2,7 @@
 ghost use mathlib.Core.Path.{_≡_};
 ghost use Prim.Native.Nat.{_*_, _≤_};
 ghost use lib.ListN.{length};
+ghost use Rattle.model.specs.Limits.{mostInitialPuts, mostMainPuts};
 ghost use Rattle.file_writing.specs.Writing.{Wrote};
 ghost use Rattle.log_trace.specs.Traced.{emptyBelow, sizeOf, testFields, traceFault, traceOut, traceAnswer};
 
@@ -32,10 +33,10 @@ fn trace_fault(initial: &[u8], main: &[u8], room: usize) -> u64
     }
     let n = initial.len() / 4;
     let m = main.len() / 4;
-    if 32 < n {
+    if model::MOST_INITIAL_PUTS < n {
         return 6;
     }
-    if 6 < m {
+    if model::MOST_MAIN_PUTS < m {
         return 6;
     }
     if has_empty(initial, n) {
@@ -44,7 +45,7 @@ fn trace_fault(initial: &[u8], main: &[u8], room: usize) -> u64
     if has_empty(main, m) {
         return 20;
     }
-    if room < 26 * (n + m) + 7 {
+    if room < file_format::PUT_LENGTH * (n + m) + file_format::END_LENGTH {
         return 12;
     }
     0
@@ -52,7 +53,7 @@ fn trace_fault(initial: &[u8], main: &[u8], room: usize) -> u64
 
 // The test of two programs, of n and m puts.
 fn put_test(out: &mut [u8], initial: &[u8], main: &[u8], n: usize, m: usize) -> usize
-    requires { ⌜ (4 * n ≤ length (now initial)) × ((4 * m ≤ length (now main)) × ((n ≤ 32) × ((m ≤ 6) × (sizeOf n m ≤ length (now out))))) ⌝ }
+    requires { ⌜ (4 * n ≤ length (now initial)) × ((4 * m ≤ length (now main)) × ((n ≤ mostInitialPuts) × ((m ≤ mostMainPuts) × (sizeOf n m ≤ length (now out))))) ⌝ }
     ensures { λ r. ⌜ Wrote (now (out .entry)) 0 (testFields (now (initial .entry)) (now (main .entry)) n m) (now (out .exit)) r × (r ≡ sizeOf n m) ⌝ }
 {
     let next = log_puts::put_program(out, 0, 1, initial, n, 1, 0);
@@ -62,7 +63,7 @@ fn put_test(out: &mut [u8], initial: &[u8], main: &[u8], n: usize, m: usize) -> 
 
 // The trace of a program of initial puts and one of main puts, a test with a range check at 0, into a
 // buffer; answers its length. Each put is 4 bytes: key 2, value 2. 19: a program's length isn't a
-// multiple of 4; 6: over 32 initial or 6 main puts; 20: a put of (0, 0); 12: the buffer is too short.
+// multiple of 4; 6: too many initial or main puts; 20: a put of (0, 0); 12: the buffer is too short.
 pub fn trace(initial: &[u8], main: &[u8], buffer: &mut [u8]) -> u64
     ensures { λ r. ⌜ traceOut r (now (buffer .exit)) ≡ traceAnswer (now (initial .entry)) (now (main .entry)) (now (buffer .entry)) ⌝ }
 {

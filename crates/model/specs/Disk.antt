@@ -4,6 +4,7 @@ use mathlib.Core.Bool.{Bool}
 use mathlib.Core.List.{List}
 use lib.ListN.{getD, replicate}
 use lib.Dec.{eqb}
+use Rattle.model.specs.Limits.{diskBlocks}
 
 -- *block*: two 16-bit numbers (first, second), here as one number
 unfoldable pub block : ℕ → ℕ → ℕ
@@ -21,7 +22,7 @@ empty b = eqb b 0
 
 -- *the empty disk*: 256 empty blocks. A disk is a list of 256 blocks
 unfoldable pub emptyDisk : List ℕ
-emptyDisk = replicate 256 0
+emptyDisk = replicate diskBlocks 0
 
 -- the block at an address
 abbrev pub blockAt : List ℕ → ℕ → ℕ

@@ -1,3 +1,4 @@
+pub mod Limits
 pub mod Disk
 pub mod Rules
 pub mod Cyclic

@@ -1,11 +1,12 @@
 -- The theorems of the definitions: each computed form agrees with its meaning, which speaks of every rule, write, check or schedule.
--- (Cyclic rules: crate `cyclelaws`; candidates and the choice among their sets: crate `findlaws`.)
+-- (Cyclic rules: crate `rule_cyclelaws`; candidates and the choice among their sets: crate `find_laws`.)
 use Prim.Native.Nat.{ℕ, _<_}
 use mathlib.Core.Path.{_≡_}
 use mathlib.Core.Logic.{_↔_, _⊎_}
 use mathlib.Core.Bool.{true}
 use mathlib.Core.List.{List}
 use lib.ListN.{length}
+use Rattle.model.specs.Limits.{diskBlocks}
 use Rattle.model.specs.declared.Write.{Write}
 use Rattle.model.specs.declared.Rule.{Rule}
 use Rattle.model.specs.declared.Check.{Check}
@@ -29,7 +30,7 @@ ValidSchedule = (rules : List Rule) (ws : List Write) (s : ℕ) → Valid rules 
 -- head and tail are damaged; that is, with them the range fails of every disk of 256 blocks
 abbrev pub DamagedRange : Type 0
 DamagedRange =
-    (head tail : ℕ) → (Damaged head tail ↔ damaged head tail ≡ true) × (Damaged head tail ↔ ((disk : List ℕ) → length disk ≡ 256 → RangeHolds disk head tail → ⊥))
+    (head tail : ℕ) → (Damaged head tail ↔ damaged head tail ≡ true) × (Damaged head tail ↔ ((disk : List ℕ) → length disk ≡ diskBlocks → RangeHolds disk head tail → ⊥))
 
 -- a check holds of a disk, and a disk is consistent
 abbrev pub CheckHolds : Type 0

@@ -1,7 +1,41 @@
 // Writes, rules and checks, whose meaning is in specs/, and how a refusal stands in one number.
 ghost use mathlib.Core.Path.{_≡_};
 ghost use Prim.Native.Nat.{_<_};
+ghost use Rattle.model.specs.Limits.{words};
 ghost use Rattle.model.specs.Answer.{refusal};
+
+// The limits of document 01, each by its name (specs/Limits.antt says what they are of).
+pub const NAMES: u64 = 256;
+
+pub const WORDS: u64 = 4294967296;
+
+pub const DISK_BLOCKS: usize = 256;
+
+pub const LAST_BLOCK: usize = DISK_BLOCKS - 1;
+
+pub const MOST_RULES: usize = 32;
+
+pub const MOST_TESTS: usize = 16;
+
+pub const MOST_INITIAL: usize = 64;
+
+pub const MOST_MAIN: usize = 12;
+
+pub const MOST_CHECKS: usize = 16;
+
+pub const MOST_INITIAL_PUTS: usize = MOST_INITIAL / 2;
+
+pub const MOST_MAIN_PUTS: usize = MOST_MAIN / 2;
+
+pub const MOST_FOUND: usize = 12;
+
+pub const FOUND_SCHEDULES: usize = 1 << MOST_FOUND;
+
+pub const MOST_CANDIDATES: usize = 16;
+
+pub const CANDIDATE_SETS: usize = 1 << MOST_CANDIDATES;
+
+pub const MOST_HELD: usize = 64;
 
 // A write: its address, its label (a name and an epoch) and its block, both halves in one number.
 pub struct Write {
@@ -25,10 +59,24 @@ pub enum Check {
     Pointer(u8),
 }
 
+// A refusal: its number, and its place in the file.
+pub struct Refusal {
+    pub number: u8,
+    pub place: usize,
+}
+
 // A refusal by its number and place: bit 63, the number from bit 32 on, the place below.
 pub fn refuse(number: u64, place: u64) -> u64
-    requires { ⌜ (number < 256) × (place < 4294967296) ⌝ }
+    requires { ⌜ (number < 256) × (place < words) ⌝ }
     ensures { λ r. ⌜ r ≡ refusal number place ⌝ }
 {
-    9223372036854775808 + number * 4294967296 + place
+    9223372036854775808 + number * WORDS + place
+}
+
+// A refusal as one number.
+pub fn code_of(r: Refusal) -> u64
+    requires { ⌜ r .place < words ⌝ }
+    ensures { λ n. ⌜ n ≡ refusal (r .number) (r .place) ⌝ }
+{
+    refuse(r.number as u64, r.place as u64)
 }

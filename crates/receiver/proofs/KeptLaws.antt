@@ -5,6 +5,7 @@ use mathlib.Core.List.{List, [], _∷_, _++_}
 use Prim.Native.Nat.{ℕ}
 use lib.Dec.{eqb, leb, ltb}
 use lib.ListN.{length}
+use Rattle.model.specs.Limits.{mostHeld}
 use Rattle.model.specs.declared.Write.{Write}
 use Rattle.model.specs.Answer.{Outcome, answer, refused}
 use Rattle.model.specs.Cyclic.{cyclic}
@@ -40,6 +41,6 @@ unfolding handInOf codedLeft codedKept
 hand-apart w s =
     branch (not (eqb (length s) 1024)) _ _ (λ d. refl)
     (branch (not (sound s)) _ _ (λ d. refl)
-    (branch (leb 64 (acceptedCount s)) _ _ (λ d. refl)
+    (branch (leb mostHeld (acceptedCount s)) _ _ (λ d. refl)
     (branch (late (rulesIn s) (writesIn s) (storedIn s) w) _ _ (λ d. refl)
     (branch (needsRing (rulesIn s) (writesIn s ++ (w ∷ []))) _ _ (λ d. refl) (λ d. refl)))))

@@ -47,12 +47,12 @@ pub extern "C" fn pelzhondy_hand_in(
 ) -> u64
     ensures { λ r. ⌜ callLeavesState r (now (state .exit)) ≡ codedKept (handInOf (given address name epoch first second) (now (state .entry)) []) ⌝ }
 {
-    let w = cache_appending::given(address, name, epoch, first, second);
+    let w = cache_stores::given(address, name, epoch, first, second);
     let number = cache_handin::hand_fault(state, w);
     if number != 0 {
         return model::refuse(number, 0);
     }
-    cache_appending::append(state, w)
+    cache_stores::append(state, w)
 }
 
 // Starts a state with a file's rules and no writes. Answers 0.
@@ -63,18 +63,16 @@ pub extern "C" fn pelzhondy_open(state: &mut [u8], file: &[u8]) -> u64
     if state.len() != 1024 {
         return model::refuse(14, 0);
     }
-    match file_reader::read(file, 0) {
-        Scan::Accepted {
-            rules,
-            tests,
-            found: _,
-        } => {
+    let read = file_reader::read(file);
+    let scan = read.scan;
+    match scan {
+        Scan::Accepted { rules, tests } => {
             if 0 < tests {
                 return model::refuse(22, 0);
             }
             cache_opening::open_with(state, file_loading::file_rules(file, rules))
         }
-        Scan::Refused { number, place } => model::refuse(number as u64, place as u64),
+        Scan::Refused(why) => model::code_of(why),
     }
 }
 

@@ -2,13 +2,13 @@
 use mathlib.Core.Path.{_≡_, refl, sym, ap, ap₂, subst, _∙_}
 use mathlib.Core.Logic.{_⊎_, inl, inr}
 use mathlib.Core.Bool.{Bool, true, false, cond, and-true, and-false, or-false, _&&_, _||_}
-use Prim.Native.Nat.{ℕ, zero, suc, _+_, _-_, _*_, _/_, _%_, _^_, _<_, max}
-use native.Mathlib.Nat.{zero-div, div-one, mul-mod-left, one-mul, add-zero, add-mul, mod-lt, pow-suc}
+use Prim.Native.Nat.{ℕ, zero, suc, _+_, _-_, _*_, _/_, _%_, _^_, _≤_, _<_, max}
+use native.Mathlib.Nat.{zero-div, div-one, mul-mod-left, one-mul, add-zero, add-mul, mod-lt, mul-suc, mul-le-mul-left, pow-suc}
 use native.Mathlib.Numerals.{add-one, one-add}
 use native.Mathlib.Omega.{arith}
 use lib.Dec.{eqb, ltb, leb·suc-zero, lit<, eqb·suc-zero, eqb·zero-suc, eqb·suc-suc}
 use lib.Bits.{bitOr, bitAnd, or-block, or-step, or-zero-r, or-shr, or-mod, or-lt, and-mask, and-shr, and-mod}
-use lib.Pow.{shl-exact, split, pow-pos, pow-lt, shr-lt, shr-shr, shl-shr, field, mod-mod-pow}
+use lib.Pow.{pow-add, shl-exact, split, pow-pos, pow-lt, shr-lt, shr-shr, shl-shr, field, mod-mod-pow}
 use borrow.Author.Tests.{eqb-true, eqb-false, ltb-true, lt-ltb, le-ltb}
 use Rattle.relation.specs.Bits.{bit, withBit, maskOf}
 use Rattle.relation.proofs.ListLaws.{bool-equal}
@@ -179,3 +179,20 @@ pub bit-mod : (n k i : ℕ) → i < k → bit (n % 2 ^ k) i ≡ bit n i
 bit-mod n k i h =
     let z : suc (k - suc i) + i ≡ k = omega arith in
     subst (λ (m : ℕ). bit (n % 2 ^ m) i ≡ bit n i) z (bit-low n (k - suc i) i)
+
+-- ---- sizes
+
+pub with-most : (n i : ℕ) → n ≤ withBit n i
+unfolding withBit
+with-most n i = go (bit n i)
+  where
+    go : (t : Bool) → n ≤ cond t n (n + 2 ^ i)
+    go true = omega arith
+    go false = omega arith
+
+-- a number of two parts: k bits, and m above them
+pub parts-below : (k m l h : ℕ) → l < 2 ^ k → h < 2 ^ m → l + 2 ^ k * h < 2 ^ (k + m)
+parts-below k m l h a b =
+    let p = mul-le-mul-left {m = suc h} {n = 2 ^ m} (2 ^ k) b in
+    let q = mul-suc (2 ^ k) h in
+    rw (pow-add 2 k m) (omega arith)

@@ -2,7 +2,7 @@
 use mathlib.Core.Path.{_≡_, refl, sym, ap, _∙_}
 use mathlib.Core.Logic.{_⊎_, inl, inr, ⊎-elim}
 use mathlib.Core.Bool.{Bool, true, false, true≢false, false≢true, not, _&&_, _||_, or-assoc, and-assoc, and-true}
-use mathlib.Core.List.{List, [], _∷_, _++_, List·Memᴰ, List·Memᴰ·head, List·Memᴰ·tail}
+use mathlib.Core.List.{List, map, [], _∷_, _++_, List·Memᴰ, List·Memᴰ·head, List·Memᴰ·tail}
 use Prim.Native.Nat.{ℕ, zero, suc, _+_, _<_}
 use native.Mathlib.Nat.{eq-or-lt-of-le, add-zero, add-suc}
 use native.Mathlib.Omega.{arith}
@@ -191,3 +191,18 @@ pub tabulate-ext : {A : Type 0} (f g : ℕ → A) (n : ℕ) → ((i : ℕ) → i
 unfolding tabulate
 tabulate-ext f g zero h = refl
 tabulate-ext f g (suc n) h = rw (tabulate-ext f g n (λ i l. h i (omega arith)), h n (omega arith))
+
+pub map-snoc : {A B : Type 0} (f : A → B) (l : List A) (x : A) → map f (l ++ (x ∷ [])) ≡ map f l ++ (f x ∷ [])
+map-snoc f [] x = refl
+map-snoc f (y ∷ l) x = ap (λ (r : List _). f y ∷ r) (map-snoc f l x)
+
+pub map-tabulate : {A B : Type 0} (g : A → B) (f : ℕ → A) (n : ℕ) → map g (tabulate f n) ≡ tabulate (λ i. g (f i)) n
+unfolding tabulate
+map-tabulate g f zero = refl
+map-tabulate g f (suc n) = map-snoc g (tabulate f n) (f n) ∙ ap (λ (r : List _). r ++ (g (f n) ∷ [])) (map-tabulate g f n)
+
+-- an entry that is there does not ask what stands for a missing one
+pub getD-other : {A : Type 0} (l : List A) (i : ℕ) (d e : A) → i < length l → getD l i d ≡ getD l i e
+getD-other [] i d e h = absurd (omega arith)
+getD-other (x ∷ l) zero d e h = refl
+getD-other (x ∷ l) (suc i) d e h = getD-other l i d e (omega arith)

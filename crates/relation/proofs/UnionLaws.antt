@@ -3,22 +3,23 @@ use mathlib.Core.Path.{_≡_, refl, sym, ap, subst, _∙_}
 use mathlib.Core.Logic.{⊎-elim}
 use mathlib.Core.Bool.{Bool, true, false, cond, not, and-true, or-false, _&&_, _||_, false≢true}
 use mathlib.Core.List.{List}
-use Prim.Native.Nat.{ℕ, zero, suc, _+_, _-_, _*_, _%_, _^_, _≤_, _<_}
+use Prim.Native.Nat.{ℕ, zero, suc, _+_, _-_, _*_, _/_, _%_, _^_, _≤_, _<_}
 use native.Mathlib.Nat.{pow-suc, one-mul, div-eq-of-lt}
 use native.Mathlib.Numerals.{add-one}
 use native.Mathlib.Omega.{arith}
-use lib.Bits.{bitAnd, bitOr}
+use lib.Bits.{bitAnd, bitOr, and-mod, and-shr, or-lt}
 use lib.Dec.{eqb, ltb, lit<}
-use lib.ListN.{length, getD, set, length-set}
-use lib.Pow.{pow-mono, shl-exact}
+use lib.ListN.{length, getD, set}
+use lib.Pow.{pow-pos, pow-mono, shl-exact}
 use lib.Seq.{getD-set-same, getD-set-other}
 use borrow.Author.Needs.{needs}
-use borrow.Author.Tests.{eqb-true, eq-eqb, ne-eqb, ltb-true, ltb-false}
-use Rattle.relation.specs.Bits.{bit, withBit}
-use Rattle.relation.specs.Lists.{allBelow}
+use borrow.Author.Tests.{eqb-true, eq-eqb, ne-eqb, ltb-true, ltb-false, lt-ltb}
+use Rattle.relation.specs.Bits.{bit, withBit, maskOf}
+use Rattle.relation.specs.Lists.{allBelow, anyBelow}
 use Rattle.relation.specs.Union.{partOf, union, rowsOn, Unites, Doubled}
-use Rattle.relation.proofs.BitLaws.{bit-zero, bit-or, bit-and, bit-with, bits-equal}
+use Rattle.relation.proofs.BitLaws.{bit-zero, bit-or, bit-and, bit-with, bit-mask, mask-below, bits-equal}
 use Rattle.relation.proofs.ListLaws.{and-left, and-right, and-intro, or-cases, or-left, or-right, bool-equal, below-suc}
+use Rattle.relation.proofs.MaskLaws.{mask-false}
 
 -- ---- parts
 
@@ -56,6 +57,16 @@ part-or a b s = bool-equal _ _
     (λ (r : bit b j ≡ true). part-true b s j (and-right (partOf a s) (partOf b s) h) r)
     (or-cases (bit a j) (bit b j) (sym (bit-or a b j) ∙ q))))
 
+-- a part's members below k are those of the set's, and so are its members from k on
+module _ (a s k : ℕ) (h : partOf a s ≡ true) where
+  pub part-below : partOf (a % 2 ^ k) (s % 2 ^ k) ≡ true
+  unfolding partOf
+  part-below = eq-eqb _ _ (sym (and-mod a s k) ∙ ap (λ (x : ℕ). x % 2 ^ k) (eqb-true _ _ h))
+
+  pub part-from : partOf (a / 2 ^ k) (s / 2 ^ k) ≡ true
+  unfolding partOf
+  part-from = eq-eqb _ _ (sym (and-shr a s k) ∙ ap (λ (x : ℕ). x / 2 ^ k) (eqb-true _ _ h))
+
 -- ---- unions
 
 module _ (row : ℕ → ℕ) where
@@ -92,21 +103,24 @@ low-bit x i j h l = rw (above-bit x i h, bit-with x i j, ne-eqb j i (λ (e : j �
 
 -- ---- double
 
-pub size-is : (i : ℕ) → i < 6 → 1 * 2 ^ i % 18446744073709551616 ≡ 2 ^ i
+pub size-is : (i : ℕ) → i < 32 → 1 * 2 ^ i % 18446744073709551616 ≡ 2 ^ i
 size-is i h = shl-exact {a = 1} 1 i 64 (lit< tt) (omega arith) ∙ one-mul (2 ^ i)
 
-pub size-most : (i : ℕ) → i < 6 → 1 * 2 ^ i % 18446744073709551616 ≤ 32
-size-most i h = rw (size-is i h) (pow-mono {i = i} {j = 5} (omega arith))
+pub size-most : (i : ℕ) → i < 32 → 1 * 2 ^ i % 18446744073709551616 ≤ 2147483648
+size-most i h = rw (size-is i (omega arith)) (pow-mono {i = i} {j = 31} (omega arith))
+
+-- the entries that are made have their places
+pub size-fits : (i n : ℕ) → i < 32 → 2 ^ (i + 1) ≤ n → 1 * 2 ^ i % 18446744073709551616 + 1 * 2 ^ i % 18446744073709551616 ≤ n
+size-fits i n l h = let p = pow-suc 2 i in let q : 2 ^ suc i ≤ n = rw (add-one i) at h in rw (size-is i (omega arith)) (omega arith)
 
 module _ (i row : ℕ) (old : List ℕ) where
   pub doubled-none : Doubled i row old old 0
-  doubled-none = record { size = refl; below = λ x h. refl; above = λ x h. absurd (omega arith) }
+  doubled-none = record { below = λ x h. refl; above = λ x h. absurd (omega arith) }
 
-  pub doubled-more : (new : List ℕ) (size x : ℕ) → Doubled i row old new x → size ≡ 2 ^ i → x < size → size ≤ 32 → length new ≡ 64
+  pub doubled-more : (new : List ℕ) (size x : ℕ) → Doubled i row old new x → size ≡ 2 ^ i → x < size → size + size ≤ length new
       → Doubled i row old (set new (size + x) (bitOr (getD new x 0) row)) (x + 1)
-  doubled-more new size x d e h l n =
+  doubled-more new size x d e h l =
       record {
-        size = length-set new (size + x) (bitOr (getD new x 0) row) ∙ d .size;
         below = λ y k. getD-set-other new (size + x) y (bitOr (getD new x 0) row) 0 (λ (z : y ≡ size + x). absurd (omega arith)) ∙ d .below y k;
         above = λ y k. ⊎-elim
             (λ (q : y ≡ x). rw (q, ← e) (getD-set-same new (size + x) (bitOr (getD new x 0) row) 0 (omega arith) ∙ ap (λ (z : ℕ). bitOr z row) (d .below x (omega arith))))
@@ -120,11 +134,10 @@ module _ (i row : ℕ) (old : List ℕ) where
 -- ---- unite
 
 module _ (rows : List ℕ) (from : ℕ) where
-  pub unites-none : (t : List ℕ) → length t ≡ 64 → Unites rows from 0 (set t 0 0)
+  pub unites-none : (t : List ℕ) → 0 < length t → Unites rows from 0 (set t 0 0)
   unfolding union
   unites-none t n =
       record {
-        size = length-set t 0 0 ∙ n;
         at = λ x h. let z : x ≡ 0 = omega arith in rw z (getD-set-same t 0 0 0 (omega arith));
       }
 
@@ -132,7 +145,6 @@ module _ (rows : List ℕ) (from : ℕ) where
   unfolding union
   unites-more i old new u d =
       record {
-        size = d .size ∙ u .size;
         at = λ x h. let p = pow-suc 2 i in rw (add-one i) (go x (rw (add-one i) at h) (ltb x (2 ^ i)) refl);
       }
     where
@@ -149,7 +161,80 @@ module _ (rows : List ℕ) (from : ℕ) where
           let z : x ≡ 2 ^ i + y = omega arith in
           rw (z, high-bit y i l, union-ext (rowsOn rows from) (2 ^ i + y) y i (λ j k. low-bit y i j l k)) (d .above y l ∙ ap (λ (k : ℕ). bitOr k (getD rows (from + i) 0)) (u .at y l))
 
-  pub unites-all : (i : ℕ) (t : List ℕ) → i ≤ 6 → 6 ≤ i → Unites rows from i t → Unites rows from 6 t
-  unites-all i t h l u = let z : i ≡ 6 = omega arith in subst (λ (k : ℕ). Unites rows from k t) z u
+  pub unites-all : (i k : ℕ) (t : List ℕ) → i ≤ k → k ≤ i → Unites rows from i t → Unites rows from k t
+  unites-all i k t h l u = let z : i ≡ k = omega arith in subst (λ (k : ℕ). Unites rows from k t) z u
 
-pub ruleset uniting = (needs, size-is, size-most, doubled-none, doubled-more, doubled-all, unites-none, unites-more, unites-all)
+-- a table of 2 ^ k entries has the first, and those that row i makes
+pub table-some : (k n : ℕ) → 2 ^ k ≤ n → 0 < n
+table-some k n h = let p = pow-pos k in omega arith
+
+pub table-fits : (i k n : ℕ) → i < k → 2 ^ k ≤ n → 2 ^ (i + 1) ≤ n
+table-fits i k n h l = let p = pow-mono {i = i + 1} {j = k} (omega arith) in omega arith
+
+pub ruleset uniting = (needs, size-is, size-most, size-fits, doubled-none, doubled-more, doubled-all, unites-none, unites-more, unites-all, table-some, table-fits)
+
+-- the bits of a number below 2 ^ i that has bit i too
+pub bit-top : (x i : ℕ) → x < 2 ^ i → bit (2 ^ i + x) i ≡ true
+bit-top = high-bit
+
+pub bit-under : (x i j : ℕ) → x < 2 ^ i → j < i → bit (2 ^ i + x) j ≡ bit x j
+bit-under = low-bit
+
+-- ---- the numbers that are not in a set
+
+-- a set and the others are together all
+pub mask-others : (p : ℕ → Bool) (n : ℕ) → maskOf (λ j. not (p j)) n + maskOf p n + 1 ≡ 2 ^ n
+unfolding maskOf
+mask-others p zero = refl
+mask-others p (suc n) = go (p n) (mask-others p n)
+  where
+    a : ℕ
+    a = maskOf (λ j. not (p j)) n
+
+    b : ℕ
+    b = maskOf p n
+
+    go : (t : Bool) → a + b + 1 ≡ 2 ^ n → cond (not t) (withBit a n) a + cond t (withBit b n) b + 1 ≡ 2 ^ suc n
+    go true h = let e = pow-suc 2 n in rw (← above-bit b n (mask-below p n)) (omega arith)
+    go false h = let e = pow-suc 2 n in rw (← above-bit a n (mask-below (λ j. not (p j)) n)) (omega arith)
+
+-- a number is the mask of its bits
+pub mask-bits : (s k : ℕ) → s < 2 ^ k → maskOf (bit s) k ≡ s
+mask-bits s k h = bits-equal k _ s (mask-below (bit s) k) h (λ j l. bit-mask (bit s) k j ∙ rw (lt-ltb j k l))
+
+pub others-bits : (s k : ℕ) → s < 2 ^ k → 2 ^ k - 1 - s ≡ maskOf (λ j. not (bit s j)) k
+others-bits s k h = let a = mask-others (bit s) k in let b = mask-bits s k h in omega arith
+
+pub bit-ones : (k j : ℕ) → j < k → bit (2 ^ k - 1) j ≡ true
+bit-ones k j h =
+    let a = mask-others (λ j. true) k in let b = mask-false (λ j. false) k (λ j. refl) in
+    let e : maskOf (λ j. true) k ≡ 2 ^ k - 1 = omega arith in
+    rw (← e, bit-mask (λ j. true) k j, lt-ltb j k h)
+
+-- ---- unions of other rows, and their bits
+
+pub union-rows : (f g : ℕ → ℕ) (x n : ℕ) → ((i : ℕ) → i < n → f i ≡ g i) → union f x n ≡ union g x n
+unfolding union
+union-rows f g x zero h = refl
+union-rows f g x (suc n) h = rw (h n (omega arith), union-rows f g x n (λ i l. h i (omega arith)))
+
+pub union-below : (row : ℕ → ℕ) (x n c : ℕ) → ((i : ℕ) → row i < 2 ^ c) → union row x n < 2 ^ c
+unfolding union
+union-below row x zero c h = pow-pos c
+union-below row x (suc n) c h = go (bit x n) (union-below row x n c h)
+  where
+    go : (t : Bool) → union row x n < 2 ^ c → cond t (bitOr (union row x n) (row n)) (union row x n) < 2 ^ c
+    go true l = or-lt c (union row x n) (row n) l (h n)
+    go false l = l
+
+pub bit-union : (row : ℕ → ℕ) (x n c : ℕ) → bit (union row x n) c ≡ anyBelow (λ i. bit x i && bit (row i) c) n
+unfolding union anyBelow
+bit-union row x zero c = bit-zero c
+bit-union row x (suc n) c = go (bit x n) (bit-union row x n c)
+  where
+    rest : Bool
+    rest = anyBelow (λ i. bit x i && bit (row i) c) n
+
+    go : (t : Bool) → bit (union row x n) c ≡ rest → bit (cond t (bitOr (union row x n) (row n)) (union row x n)) c ≡ rest || t && bit (row n) c
+    go true h = bit-or (union row x n) (row n) c ∙ ap (λ (b : Bool). b || bit (row n) c) h
+    go false h = h ∙ sym (or-false rest)

@@ -1,10 +1,11 @@
 -- A number without one of its bits has one 1 less, and its halves are the number's without that bit. By halving.
-use mathlib.Core.Path.{_≡_, sym, _∙_}
+use mathlib.Core.Path.{_≡_, sym, ap, _∙_}
 use mathlib.Core.Bool.{true}
 use Prim.Native.Nat.{ℕ, zero, suc, _+_, _-_, _/_, _%_, _^_, _≤_}
-use native.Mathlib.Nat.{div-one, pow-suc}
+use native.Mathlib.Nat.{div-one, mod-lt, pow-suc}
 use native.Mathlib.Omega.{arith}
-use lib.Count.{ones, ones-step}
+use lib.Count.{ones, ones-step, ones-cat}
+use lib.Pow.{pow-pos, split}
 use borrow.Author.Tests.{eqb-true}
 use Rattle.relation.specs.Bits.{bit}
 use Rattle.relation.proofs.BitLaws.{bit-suc}
@@ -43,3 +44,9 @@ ones-without m zero e =
 ones-without m (suc i) e =
     let h = ones-without (m / 2) i (sym (bit-suc m i) ∙ e) in
     rw (ones-step m, ones-step (m - 2 ^ suc i), higher-parity m i e, higher-half m i e) (omega arith)
+
+-- the bits from k on have no more
+pub ones-upper : (m k : ℕ) → ones (m / 2 ^ k) ≤ ones m
+ones-upper m k =
+    let e : ones m ≡ ones (m / 2 ^ k) + ones (m % 2 ^ k) = ap ones (sym (split m k)) ∙ ones-cat k (m / 2 ^ k) (m % 2 ^ k) (mod-lt m (pow-pos k)) in
+    omega arith

@@ -5,7 +5,7 @@ use mathlib.Core.Bool.{Bool, cond}
 use mathlib.Core.List.{List}
 use lib.Bits.{bitAnd, bitOr}
 use lib.Dec.{eqb}
-use lib.ListN.{length, getD}
+use lib.ListN.{getD}
 use Rattle.relation.specs.Bits.{bit}
 
 -- all members of a are in b
@@ -23,11 +23,9 @@ rowsOn rows from i = getD rows (from + i) 0
 
 -- a table has for each set of numbers below n the union of its rows
 pub record Unites (rows : List ℕ) (from n : ℕ) (table : List ℕ) : Type 0 where
-  pub size : length table ≡ 64
   pub at : (x : ℕ) → x < 2 ^ n → getD table x 0 ≡ union (rowsOn rows from) x n
 
 -- the first k of the entries from 2 ^ i on are those below, each joined with a row
 pub record Doubled (i row : ℕ) (old new : List ℕ) (k : ℕ) : Type 0 where
-  pub size : length new ≡ length old
   pub below : (x : ℕ) → x < 2 ^ i → getD new x 0 ≡ getD old x 0
   pub above : (x : ℕ) → x < k → getD new (2 ^ i + x) 0 ≡ bitOr (getD old x 0) row

@@ -1,6 +1,6 @@
 // Sets of numbers below 64 as masks, and relations on such numbers as tables of 64 rows.
 ghost use mathlib.Core.Path.{_≡_};
-ghost use Prim.Native.Nat.{_^_, _<_, _≤_};
+ghost use Prim.Native.Nat.{_+_, _^_, _<_, _≤_};
 ghost use lib.ListN.{length};
 ghost use Rattle.relation.specs.Bits.{bit, withBit};
 ghost use Rattle.relation.specs.Finite.{joined, round, closed, loops};
@@ -75,7 +75,7 @@ pub fn has_loop(rows: &[u64; 64], n: usize) -> bool
 
 // The entries from 2^i on: those below, each joined with a row.
 fn double(table: &mut [u64], i: usize, row: u64)
-    requires { ⌜ (length (now table) ≡ 64) × (i < 6) ⌝ }
+    requires { ⌜ (i < 32) × (2 ^ (i + 1) ≤ length (now table)) ⌝ }
     ensures { λ _. ⌜ Doubled i row (now (table .entry)) (now (table .exit)) (2 ^ i) ⌝ }
 {
     let size = 1usize << i;
@@ -86,14 +86,14 @@ fn double(table: &mut [u64], i: usize, row: u64)
     }
 }
 
-// The unions of the six rows from a place on: entry x is that of the members of x.
-pub fn unite(table: &mut [u64], rows: &[u64; 64], from: usize)
-    requires { ⌜ (length (now table) ≡ 64) × (from ≤ 58) ⌝ }
-    ensures { λ _. ⌜ Unites (now (rows .entry)) from 6 (now (table .exit)) ⌝ }
+// The unions of the k rows from a place on: entry x is that of the members of x.
+pub fn unite(table: &mut [u64], rows: &[u64; 64], from: usize, k: usize)
+    requires { ⌜ (2 ^ k ≤ length (now table)) × ((k ≤ 32) × (from + k ≤ 64)) ⌝ }
+    ensures { λ _. ⌜ Unites (now (rows .entry)) from k (now (table .exit)) ⌝ }
 {
     table[0] = 0;
     let mut i: usize = 0;
-    while i < 6 {
+    while i < k {
         double(table, i, rows[from + i]);
         i += 1;
     }

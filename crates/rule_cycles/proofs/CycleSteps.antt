@@ -15,6 +15,7 @@ use Rattle.relation.specs.Lists.{anyBelow, tabulate}
 use Rattle.relation.specs.Finite.{related, rowsOf, closed, loops, hasRing, reaches}
 use Rattle.relation.proofs.ListLaws.{anyBelow-intro, anyBelow-ext}
 use Rattle.relation.proofs.FiniteLaws.{Agree, related-rows, related-closed, loops-closed}
+use Rattle.model.specs.Limits.{mostRules}
 use Rattle.model.specs.declared.Rule.{Rule}
 use Rattle.model.specs.Cyclic.{ruleAt, leads, has, equalLeads, meets, cyclic}
 use Rattle.rule_match.specs.declared.Rules.{Rules}
@@ -78,7 +79,7 @@ pub fill-begun : (equal : Bool) (rules : Rules) (rows : List ℕ) → take 0 row
 unfolding tabulate
 fill-begun equal rules rows = refl
 
-pub fill-more : (equal : Bool) (rules : Rules) (rows : List ℕ) (i mask : ℕ) → length rows ≡ 64 → rules .count ≤ 32 → i < rules .count
+pub fill-more : (equal : Bool) (rules : Rules) (rows : List ℕ) (i mask : ℕ) → length rows ≡ 64 → rules .count ≤ mostRules → i < rules .count
     → take i rows ≡ filled equal rules i → mask ≡ maskOf (linked equal (rulesOf rules) i) (rules .count) → take (i + 1) (set rows i mask) ≡ filled equal rules (i + 1)
 unfolding tabulate
 fill-more equal rules rows i mask h few l e f =
@@ -133,17 +134,17 @@ module _ (rules : Rules) (rows : List ℕ) where
   from-more i j b h none e f = none-more (meeting rules rows i) j b none (rw (held-at rules j h) e) f
 
   -- of a > rule it is the search
-  from-greater : (i : ℕ) → length (rules .items) ≡ 32 → rules .count ≤ 32 → i < rules .count → itemAt rules i .predicate ≡ 1
+  from-greater : (i : ℕ) → length (rules .items) ≡ mostRules → rules .count ≤ mostRules → i < rules .count → itemAt rules i .predicate ≡ 1
       → meetsFrom (rulesOf rules) rows i ≡ anyBelow (meeting rules rows i) (rules .count)
   unfolding meetsFrom has
   from-greater i all few h e = rw (held-at rules i h, eq-eqb (itemAt rules i .predicate) 1 e, held-length rules all few)
 
-  pub from-found : (i j : ℕ) (b : Bool) → length (rules .items) ≡ 32 → rules .count ≤ 32 → i < rules .count → itemAt rules i .predicate ≡ 1
+  pub from-found : (i j : ℕ) (b : Bool) → length (rules .items) ≡ mostRules → rules .count ≤ mostRules → i < rules .count → itemAt rules i .predicate ≡ 1
       → j < rules .count → b ≡ meetsBy (itemAt rules j) rows i j → b ≡ true → true ≡ meetsFrom (rulesOf rules) rows i
   from-found i j b all few hi p hj e t =
       sym (from-greater i all few hi p ∙ anyBelow-intro (meeting rules rows i) (rules .count) j hj (rw (held-at rules j hj) (sym e ∙ t)))
 
-  pub from-done : (i j : ℕ) → length (rules .items) ≡ 32 → rules .count ≤ 32 → i < rules .count → itemAt rules i .predicate ≡ 1
+  pub from-done : (i j : ℕ) → length (rules .items) ≡ mostRules → rules .count ≤ mostRules → i < rules .count → itemAt rules i .predicate ≡ 1
       → j ≤ rules .count → rules .count ≤ j → anyBelow (meeting rules rows i) j ≡ false → false ≡ meetsFrom (rulesOf rules) rows i
   from-done i j all few hi p a b none =
       let q : j ≡ rules .count = omega arith in
@@ -156,7 +157,7 @@ module _ (rules : Rules) (rows : List ℕ) where
       → anyBelow (meetsFrom (rulesOf rules) rows) (i + 1) ≡ false
   meet-more = none-more (meetsFrom (rulesOf rules) rows)
 
-  module _ (all : length (rules .items) ≡ 32) (few : rules .count ≤ 32) where
+  module _ (all : length (rules .items) ≡ mostRules) (few : rules .count ≤ mostRules) where
     meet-count : meets (rulesOf rules) rows ≡ anyBelow (meetsFrom (rulesOf rules) rows) (rules .count)
     unfolding meets meetsFrom meetsBy has
     meet-count = ap (anyBelow (meetsFrom (rulesOf rules) rows)) (held-length rules all few)
@@ -186,7 +187,7 @@ module _ (rules : Rules) (rows reached : List ℕ) (b : Bool) where
   equal-ring e q f = f ∙ rw q (loops-closed rows (linked true (rulesOf rules)) (rules .count) (filled-agrees rules true rows e))
 
   -- the search asks a table about rules that are held only
-  pub mixed-ring : length (rules .items) ≡ 32 → rules .count ≤ 32 → take (rules .count) rows ≡ rowsOf (linked false (rulesOf rules)) (rules .count)
+  pub mixed-ring : length (rules .items) ≡ mostRules → rules .count ≤ mostRules → take (rules .count) rows ≡ rowsOf (linked false (rulesOf rules)) (rules .count)
       → reached ≡ closed (rules .count) rows → b ≡ meets (rulesOf rules) reached
       → b ≡ meets (rulesOf rules) (closed (rules .count) (rowsOf (leads (rulesOf rules)) (rules .count)))
   unfolding meets reaches leads links
@@ -200,12 +201,12 @@ module _ (rules : Rules) (rows reached : List ℕ) (b : Bool) where
 -- ---- is_cyclic
 
 module _ (rules : Rules) (b : Bool) where
-  pub cyclic-equal : length (rules .items) ≡ 32 → rules .count ≤ 32 → b ≡ hasRing (equalLeads (rulesOf rules)) (rules .count) → b ≡ true
+  pub cyclic-equal : length (rules .items) ≡ mostRules → rules .count ≤ mostRules → b ≡ hasRing (equalLeads (rulesOf rules)) (rules .count) → b ≡ true
       → true ≡ cyclic (rulesOf rules)
   unfolding cyclic
   cyclic-equal all few e t = rw (held-length rules all few, ← e, t)
 
-  pub cyclic-mixed : (d : Bool) → length (rules .items) ≡ 32 → rules .count ≤ 32 → b ≡ hasRing (equalLeads (rulesOf rules)) (rules .count) → b ≡ false
+  pub cyclic-mixed : (d : Bool) → length (rules .items) ≡ mostRules → rules .count ≤ mostRules → b ≡ hasRing (equalLeads (rulesOf rules)) (rules .count) → b ≡ false
       → d ≡ meets (rulesOf rules) (closed (rules .count) (rowsOf (leads (rulesOf rules)) (rules .count))) → d ≡ cyclic (rulesOf rules)
   unfolding cyclic
   cyclic-mixed d all few e n f = rw (held-length rules all few, ← e, n) f

@@ -7,6 +7,7 @@ ghost use Prim.Native.Nat.{_<_, _≤_};
 ghost use lib.ListN.{length, take};
 ghost use Rattle.relation.specs.Bits.{withBit, maskOf};
 ghost use Rattle.relation.specs.Finite.{rowsOf, closed, hasRing};
+ghost use Rattle.model.specs.Limits.{mostRules};
 ghost use Rattle.model.specs.Cyclic.{leads, equalLeads, meets, cyclic};
 ghost use Rattle.rule_match.specs.Held.{rulesOf};
 ghost use Rattle.rule_cycles.specs.Links.{links, linked, meetsBy, meetsFrom};
@@ -40,7 +41,7 @@ fn with_link(mask: u64, j: usize, a: Rule, b: Rule, equal: bool) -> u64
 
 // The rules that rule i leads to.
 fn row(rules: Rules, i: usize, equal: bool) -> u64
-    requires { ⌜ (rules .count ≤ 32) × (i < rules .count) ⌝ }
+    requires { ⌜ (rules .count ≤ mostRules) × (i < rules .count) ⌝ }
     ensures { λ r. ⌜ r ≡ maskOf (linked equal (rulesOf rules) i) (rules .count) ⌝ }
 {
     let mut mask: u64 = 0;
@@ -54,7 +55,7 @@ fn row(rules: Rules, i: usize, equal: bool) -> u64
 
 // The table of which rule leads to which.
 fn fill(rows: &mut [u64], rules: Rules, equal: bool)
-    requires { ⌜ (rules .count ≤ 32) × (length (now rows) ≡ 64) ⌝ }
+    requires { ⌜ (rules .count ≤ mostRules) × (length (now rows) ≡ 64) ⌝ }
     ensures { λ _. ⌜ take (rules .count) (now (rows .exit)) ≡ rowsOf (linked equal (rulesOf rules)) (rules .count) ⌝ }
 {
     let mut i: usize = 0;
@@ -80,7 +81,7 @@ fn meets_at(rows: &[u64; 64], rule: Rule, i: usize, j: usize) -> bool
 
 // Whether rule i is a > rule, and it and some < rule reach each other.
 fn meets_from(rows: &[u64; 64], rules: Rules, i: usize) -> bool
-    requires { ⌜ (rules .count ≤ 32) × (i < rules .count) ⌝ }
+    requires { ⌜ (rules .count ≤ mostRules) × (i < rules .count) ⌝ }
     ensures { λ r. ⌜ r ≡ meetsFrom (rulesOf rules) (now (rows .entry)) i ⌝ }
 {
     if rules.items[i].predicate != 1 {
@@ -98,7 +99,7 @@ fn meets_from(rows: &[u64; 64], rules: Rules, i: usize) -> bool
 
 // Whether some > rule and some < rule reach each other.
 fn rules_meet(rows: &[u64; 64], rules: Rules) -> bool
-    requires { ⌜ rules .count ≤ 32 ⌝ }
+    requires { ⌜ rules .count ≤ mostRules ⌝ }
     ensures { λ r. ⌜ r ≡ meets (rulesOf rules) (now (rows .entry)) ⌝ }
 {
     let mut i: usize = 0;
@@ -113,7 +114,7 @@ fn rules_meet(rows: &[u64; 64], rules: Rules) -> bool
 
 // Whether = rules lead round.
 fn equal_ring(rules: Rules) -> bool
-    requires { ⌜ rules .count ≤ 32 ⌝ }
+    requires { ⌜ rules .count ≤ mostRules ⌝ }
     ensures { λ r. ⌜ r ≡ hasRing (equalLeads (rulesOf rules)) (rules .count) ⌝ }
 {
     let mut rows = [0u64; 64];
@@ -125,7 +126,7 @@ fn equal_ring(rules: Rules) -> bool
 
 // Whether rules lead round by way of a > and a < rule.
 fn mixed_ring(rules: Rules) -> bool
-    requires { ⌜ rules .count ≤ 32 ⌝ }
+    requires { ⌜ rules .count ≤ mostRules ⌝ }
     ensures { λ r. ⌜ r ≡ meets (rulesOf rules) (closed (rules .count) (rowsOf (leads (rulesOf rules)) (rules .count))) ⌝ }
 {
     let mut rows = [0u64; 64];
@@ -137,7 +138,7 @@ fn mixed_ring(rules: Rules) -> bool
 
 // Whether the rules are cyclic.
 pub fn is_cyclic(rules: Rules) -> bool
-    requires { ⌜ rules .count ≤ 32 ⌝ }
+    requires { ⌜ rules .count ≤ mostRules ⌝ }
     ensures { λ r. ⌜ r ≡ cyclic (rulesOf rules) ⌝ }
 {
     if equal_ring(rules) {

@@ -12,6 +12,7 @@ use borrow.Author.Needs.{needs}
 use borrow.Author.Tests.{eq-eqb, ne-eqb}
 use Rattle.relation.specs.Lists.{any}
 use Rattle.relation.proofs.ListLaws.{any-append, any-intro, index-mem}
+use Rattle.model.specs.Limits.{mostRules}
 use Rattle.model.specs.declared.Rule.{Rule}
 use Rattle.model.specs.Rules.{Label, stands, matches, dependsOn}
 use Rattle.model.specs.Cyclic.{noRule, ruleAt}
@@ -25,7 +26,7 @@ pub length-mapped : (X Y : Type 0) (f : X → Y) (l : List X) (n : ℕ) → leng
 length-mapped X Y f l n e = sym (length-map l f) ∙ e
 
 module _ (rules : Rules) where
-  pub held-length : length (rules .items) ≡ 32 → rules .count ≤ 32 → length (rulesOf rules) ≡ rules .count
+  pub held-length : length (rules .items) ≡ mostRules → rules .count ≤ mostRules → length (rulesOf rules) ≡ rules .count
   held-length all few = length-take-le (rules .count) (rules .items) (omega arith)
 
   pub held-at : (i : ℕ) → i < rules .count → ruleAt (rulesOf rules) i ≡ itemAt rules i
@@ -85,12 +86,12 @@ module _ (rules : Rules) (l m : Label) where
       ∙ any-append (λ r. matches r l m) (take i (rules .items)) (itemAt rules i ∷ [])
       ∙ ap (λ (b : Bool). dependsOn (take i (rules .items)) l m || b) (or-false (matches (itemAt rules i) l m))
 
-  pub depends-more : (i : ℕ) (b : Bool) → length (rules .items) ≡ 32 → rules .count ≤ 32 → i < rules .count
+  pub depends-more : (i : ℕ) (b : Bool) → length (rules .items) ≡ mostRules → rules .count ≤ mostRules → i < rules .count
       → dependsOn (take i (rules .items)) l m ≡ false → b ≡ matches (itemAt rules i) l m → b ≡ false
       → dependsOn (take (i + 1) (rules .items)) l m ≡ false
   depends-more i b all few h none e f = rw (add-one i, depends-next i (omega arith), none) (sym e ∙ f)
 
-  pub depends-found : (i : ℕ) (b : Bool) → length (rules .items) ≡ 32 → rules .count ≤ 32 → i < rules .count
+  pub depends-found : (i : ℕ) (b : Bool) → length (rules .items) ≡ mostRules → rules .count ≤ mostRules → i < rules .count
       → b ≡ matches (itemAt rules i) l m → b ≡ true → true ≡ dependsOn (rulesOf rules) l m
   unfolding dependsOn
   depends-found i b all few h e t =

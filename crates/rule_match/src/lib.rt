@@ -1,14 +1,28 @@
 // Rule sets: which labels a rule pairs, and what a label depends on.
 use model::Rule;
 ghost use mathlib.Core.Path.{_≡_};
+ghost use mathlib.Core.List.{[]};
 ghost use Prim.Native.Nat.{_≤_};
+ghost use Rattle.model.specs.Limits.{mostRules};
 ghost use Rattle.model.specs.Rules.{label, stands, matches, dependsOn};
 ghost use Rattle.rule_match.specs.Held.{rulesOf};
 
-// Up to 32 rules.
+// Rules, as many as a file can have.
 pub struct Rules {
-    pub items: [Rule; 32],
+    pub items: [Rule; model::MOST_RULES],
     pub count: usize,
+}
+
+// No rules.
+pub fn none() -> Rules
+    ensures { λ r. ⌜ (rulesOf r ≡ []) × (r .count ≡ 0) ⌝ }
+{
+    let items = [Rule {
+        first: 0,
+        predicate: 0,
+        second: 0,
+    }; model::MOST_RULES];
+    Rules { items, count: 0 }
 }
 
 // Whether epochs t and u stand in the relation of a predicate.
@@ -42,7 +56,7 @@ pub fn matches(rule: Rule, n: u8, t: u32, m: u8, u: u32) -> bool
 
 // Whether some rule pairs the label (n, t) with the label (m, u).
 pub fn depends(rules: Rules, n: u8, t: u32, m: u8, u: u32) -> bool
-    requires { ⌜ rules .count ≤ 32 ⌝ }
+    requires { ⌜ rules .count ≤ mostRules ⌝ }
     ensures { λ r. ⌜ r ≡ dependsOn (rulesOf rules) (label n t) (label m u) ⌝ }
 {
     let mut k: usize = 0;

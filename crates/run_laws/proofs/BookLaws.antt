@@ -8,6 +8,7 @@ use native.Mathlib.Decide.{ℕ-discrete}
 use native.Mathlib.Omega.{arith}
 use lib.ListN.{length, getD, length-map, List·getD-append, List·getD-map}
 use lib.Seq.{getD-at}
+use Rattle.model.specs.Limits.{mostHeld}
 use Rattle.model.specs.declared.Write.{Write}
 use Rattle.model.specs.declared.Rule.{Rule}
 use Rattle.model.specs.Rules.{Known, DependsOn}
@@ -42,7 +43,7 @@ pub record Fine (rules : List Rule) (b : Book) : Type 0 where
   pub known : Known rules
   pub acyclic : Cyclic rules → ⊥
   pub rules-most : length rules ≤ 32
-  pub most : length b ≤ 64
+  pub most : length b ≤ mostHeld
   pub fits : (j : ℕ) → j < length b → WriteFits (getD b j (entry noWrite false) .write)
   pub closed : (i j : ℕ) → flagAt b i ≡ true → Needs rules (accepted b) i j → flagAt b j ≡ true
   pub ringless : NeedsRing rules (accepted b) → ⊥
@@ -99,7 +100,7 @@ flag-below [] i e = absurd (false≢true e)
 flag-below (x ∷ b) zero e = omega arith
 flag-below (x ∷ b) (suc i) e = let h = flag-below b i e in omega arith
 
-pub fine-appended : (rules : List Rule) (b : Book) (w : Write) → Fine rules b → length b < 64 → WriteFits w → (Late rules (accepted b) (flagAt b) w → ⊥)
+pub fine-appended : (rules : List Rule) (b : Book) (w : Write) → Fine rules b → length b < mostHeld → WriteFits w → (Late rules (accepted b) (flagAt b) w → ⊥)
     → (NeedsRing rules (accepted b ++ (w ∷ [])) → ⊥) → Fine rules (appended b w)
 unfolding appended
 fine-appended rules b w f h fw late ring =

@@ -13,6 +13,7 @@ use lib.Dec.{eqb, leb, ltb}
 use lib.ListN.{length}
 use borrow.Author.Tests.{eq-eqb, ne-eqb, lt-ltb, ltb-true}
 use Rattle.relation.proofs.ListLaws.{or-cases, or-left, or-right, untrue}
+use Rattle.model.specs.Limits.{mostHeld}
 use Rattle.model.specs.declared.Write.{Write}
 use Rattle.model.specs.Answer.{Outcome, answer, refused, coded}
 use Rattle.model.specs.Disk.{block}
@@ -214,7 +215,7 @@ diskless file s d w = (
   either d (eqb (length s) stateSize) _ _ _ _ (open-beside s d (readOf file)) refl,
   either d (not (eqb (length s) stateSize)) _ _ _ _ refl
       (either d (not (sound s)) _ _ _ _ refl
-      (either d (leb 64 (acceptedCount s)) _ _ _ _ refl
+      (either d (leb mostHeld (acceptedCount s)) _ _ _ _ refl
       (either d (late (rulesIn s) (writesIn s) (storedIn s) w) _ _ _ _ refl
       (either d (needsRing (rulesIn s) (writesIn s ++ (w ∷ []))) _ _ _ _ refl refl)))),
 )

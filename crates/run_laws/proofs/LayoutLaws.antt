@@ -12,6 +12,7 @@ use lib.ListN.{length, getD, take, drop, set, replicate, length-append, length-s
 use lib.Seq.{sets, sets-eq, drop-append-add, getD-append-add, getD-at, getD-set-same, getD-set-other, map-set-same}
 use Rattle.relation.specs.Lists.{tabulate}
 use Rattle.relation.proofs.ListLaws.{tabulate-ext}
+use Rattle.model.specs.Limits.{mostHeld}
 use Rattle.model.specs.declared.Write.{Write}
 use Rattle.model.specs.declared.Rule.{Rule}
 use Rattle.model.specs.Cyclic.{noRule}
@@ -100,7 +101,7 @@ length-front rules n c h =
     let e : length (rulesBytes rules ++ zeros (96 - 3 * length rules)) ≡ 96 = length-append (rulesBytes rules) (zeros (96 - 3 * length rules)) ∙ rw (length-rules rules, length-zeros (96 - 3 * length rules)) (omega arith) in
     omega arith
 
-pub length-state : (rules : List Rule) (b : Book) → length rules ≤ 32 → length b ≤ 64 → length (stateOf rules b) ≡ 1024
+pub length-state : (rules : List Rule) (b : Book) → length rules ≤ 32 → length b ≤ mostHeld → length (stateOf rules b) ≡ 1024
 unfolding stateOf back
 length-state rules b h l =
     length-append (front rules (length b) (flagCount b)) (entriesBytes b ++ zeros (924 - 12 * length b))
@@ -280,7 +281,7 @@ count-appended b w =
     (rw (flag-new b w, zero-add) (count-ext (flagAt (appended b w)) (flagAt b) (length b) (flag-appended b w)))
 
 -- a hand-in on the bytes of a book gives the bytes of the book with the write appended
-back-appended : (b : Book) (w : Write) → length b < 64 → sets (back b) (12 * length b) (entryBytes w) ≡ back (appended b w)
+back-appended : (b : Book) (w : Write) → length b < mostHeld → sets (back b) (12 * length b) (entryBytes w) ≡ back (appended b w)
 unfolding back entryBytes
 back-appended b w hb =
     let n = length-entries b in
@@ -298,7 +299,7 @@ back-appended b w hb =
     ∙ ap (λ (l : List ℕ). l ++ zeros (924 - 12 * suc (length b))) grown
     ∙ append-assoc (entriesBytes b) bytes (zeros (924 - 12 * suc (length b))))
 
-entry-there : (rules : List Rule) (b : Book) (w : Write) → length rules ≤ 32 → length b < 64
+entry-there : (rules : List Rule) (b : Book) (w : Write) → length rules ≤ 32 → length b < mostHeld
     → sets (stateOf rules b) (100 + 12 * length b) (entryBytes w) ≡ front rules (length b) (flagCount b) ++ back (appended b w)
 unfolding stateOf
 entry-there rules b w hr hb =
@@ -313,7 +314,7 @@ header-appended : (rules : List Rule) (b : Book) (w : Write)
 unfolding stateOf front
 header-appended rules b w = rw (length-appended b w, count-appended b w, add-one (length b))
 
-pub handed-state : (rules : List Rule) (b : Book) (w : Write) → length rules ≤ 32 → length b < 64 → handed (stateOf rules b) w ≡ stateOf rules (appended b w)
+pub handed-state : (rules : List Rule) (b : Book) (w : Write) → length rules ≤ 32 → length b < mostHeld → handed (stateOf rules b) w ≡ stateOf rules (appended b w)
 unfolding handed
 handed-state rules b w hr hb = rw (state-accepted rules b hr, entry-there rules b w hr hb) (header-appended rules b w)
 

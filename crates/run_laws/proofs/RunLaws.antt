@@ -14,6 +14,7 @@ use lib.ListN.{length}
 use borrow.Author.Tests.{eq-eqb, leb-true, leb-false, le-leb, lt-leb, lt-ltb, le-ltb, not-false}
 use Rattle.relation.proofs.ListLaws.{untrue, mem-index, length-tabulate, getD-tabulate}
 use Rattle.relation.specs.Transitive.{Plus}
+use Rattle.model.specs.Limits.{mostHeld}
 use Rattle.model.specs.declared.Write.{Write}
 use Rattle.model.specs.declared.Rule.{Rule}
 use Rattle.model.specs.Answer.{Outcome, answer, refused}
@@ -78,7 +79,7 @@ module _ (rules : List Rule) (disk : List ℕ) (size : length disk ≡ 1024) whe
   -- what hand-in gives, by the book
   handed-by : Book → Write → Left
   handed-by b w =
-      cond (leb 64 (length b)) (left (refused 16 0) (stateOf rules b) (applied b disk))
+      cond (leb mostHeld (length b)) (left (refused 16 0) (stateOf rules b) (applied b disk))
       (cond (late rules (accepted b) (flagAt b) w) (left (refused 17 0) (stateOf rules b) (applied b disk))
       (cond (needsRing rules (accepted b ++ (w ∷ []))) (left (refused 18 0) (stateOf rules b) (applied b disk))
       (left (answer (length b + 1)) (handed (stateOf rules b) w) (applied b disk))))
@@ -149,7 +150,7 @@ module _ (rules : List Rule) (disk : List ℕ) (size : length disk ≡ 1024) whe
   no-ring : (b : Book) (w : Write) → (NeedsRing rules (accepted b ++ (w ∷ [])) → ⊥) → needsRing rules (accepted b ++ (w ∷ [])) ≡ false
   no-ring b w n = untrue (needsRing rules (accepted b ++ (w ∷ []))) (λ e. n (needsRing-true rules (accepted b ++ (w ∷ [])) e))
 
-  handed-so : (b : Book) (w : Write) → Fine rules b → (x y z : Bool) → leb 64 (length b) ≡ x → late rules (accepted b) (flagAt b) w ≡ y → needsRing rules (accepted b ++ (w ∷ [])) ≡ z
+  handed-so : (b : Book) (w : Write) → Fine rules b → (x y z : Bool) → leb mostHeld (length b) ≡ x → late rules (accepted b) (flagAt b) w ≡ y → needsRing rules (accepted b ++ (w ∷ [])) ≡ z
       → called (handIn w own) (at rules disk b .held) .outcome ≡ cond x (refused 16 0) (cond y (refused 17 0) (cond z (refused 18 0) (answer (suc (length b)))))
   unfolding called handed-by
   handed-so b w f x y z ex ey ez = outcome-of (hand-book b w f) ∙ rw (ex, ey, ez) (go x y z)
@@ -171,10 +172,10 @@ module _ (rules : List Rule) (disk : List ℕ) (size : length disk ≡ 1024) whe
       go : (c : Call) (o : Outcome ℕ) → Gives rules disk b c o → called c (at rules disk b .held) .outcome ≡ o
       go c o (wrong-length w) = by-length b c w
       go c o (unsound n u) = by-soundness b f c n u
-      go c o (full {w} h) = handed-so b w f true _ _ (le-leb 64 (length b) h) refl refl
-      go c o (too-late {w} h l) = handed-so b w f false true _ (lt-leb 64 (length b) h) (true-late rules (accepted b) (flagAt b) w l) refl
-      go c o (ring {w} h n r) = handed-so b w f false false true (lt-leb 64 (length b) h) (not-late b w n) (true-needsRing rules (accepted b ++ (w ∷ [])) r)
-      go c o (taken {w} h n r) = handed-so b w f false false false (lt-leb 64 (length b) h) (not-late b w n) (no-ring b w r)
+      go c o (full {w} h) = handed-so b w f true _ _ (le-leb mostHeld (length b) h) refl refl
+      go c o (too-late {w} h l) = handed-so b w f false true _ (lt-leb mostHeld (length b) h) (true-late rules (accepted b) (flagAt b) w l) refl
+      go c o (ring {w} h n r) = handed-so b w f false false true (lt-leb mostHeld (length b) h) (not-late b w n) (true-needsRing rules (accepted b ++ (w ∷ [])) r)
+      go c o (taken {w} h n r) = handed-so b w f false false false (lt-leb mostHeld (length b) h) (not-late b w n) (no-ring b w r)
       go c o (stored {i} w) = unfold called in outcome-of (step-book rules disk size b f) ∙ ap answer (earliest-ready b i f w)
       go c o (idle h) = unfold called in outcome-of (step-book rules disk size b f) ∙ ap answer (nothing-ready b h)
       go c o emptied = unfold called in outcome-of (drain-book rules disk size b f)
@@ -336,7 +337,7 @@ module _ (rules : List Rule) (disk : List ℕ) (size : length disk ≡ 1024) whe
   applied-appended [] w d = refl
   applied-appended (e ∷ b) w d = applied-appended b w (cond (e .flag) (storedOn d (e .write)) d)
 
-  hand-taken : (b : Book) (w : Write) → Fine rules b → WriteFits w → length b < 64 → (Late rules (accepted b) (flagAt b) w → ⊥) → (NeedsRing rules (accepted b ++ (w ∷ [])) → ⊥)
+  hand-taken : (b : Book) (w : Write) → Fine rules b → WriteFits w → length b < mostHeld → (Late rules (accepted b) (flagAt b) w → ⊥) → (NeedsRing rules (accepted b ++ (w ∷ [])) → ⊥)
       → handInOf w (stateOf rules b) (applied b disk) ≡ left (answer (length b + 1)) (handed (stateOf rules b) w) (applied b disk) → Goes rules disk (handIn w own) (at rules disk b)
   hand-taken b w f fw h nl nr e =
       goes (handIn w own) b (appended b w) (answer (suc (length b))) f (taken h nl nr) (hand-next b w (handed (stateOf rules b) w) (length b + 1) e ∙ place)
@@ -350,16 +351,16 @@ module _ (rules : List Rule) (disk : List ℕ) (size : length disk ≡ 1024) whe
       place = rw (handed-state rules b w (f .rules-most) h, applied-appended b w disk)
 
   hand-own : (b : Book) (w : Write) → Fine rules b → WriteFits w → Goes rules disk (handIn w own) (at rules disk b)
-  hand-own b w f fw = go (leb 64 (length b)) (late rules (accepted b) (flagAt b) w) (needsRing rules (accepted b ++ (w ∷ []))) refl refl refl
+  hand-own b w f fw = go (leb mostHeld (length b)) (late rules (accepted b) (flagAt b) w) (needsRing rules (accepted b ++ (w ∷ []))) refl refl refl
     where
-      go : (x y z : Bool) → leb 64 (length b) ≡ x → late rules (accepted b) (flagAt b) w ≡ y → needsRing rules (accepted b ++ (w ∷ [])) ≡ z → Goes rules disk (handIn w own) (at rules disk b)
-      go true y z ex ey ez = refuses (handIn w own) b 16 0 f (full (leb-true 64 (length b) ex))
-      go false true z ex ey ez = refuses (handIn w own) b 17 0 f (too-late (leb-false 64 (length b) ex) (late-true rules (accepted b) (flagAt b) w ey))
+      go : (x y z : Bool) → leb mostHeld (length b) ≡ x → late rules (accepted b) (flagAt b) w ≡ y → needsRing rules (accepted b ++ (w ∷ [])) ≡ z → Goes rules disk (handIn w own) (at rules disk b)
+      go true y z ex ey ez = refuses (handIn w own) b 16 0 f (full (leb-true mostHeld (length b) ex))
+      go false true z ex ey ez = refuses (handIn w own) b 17 0 f (too-late (leb-false mostHeld (length b) ex) (late-true rules (accepted b) (flagAt b) w ey))
       go false false true ex ey ez =
           refuses (handIn w own) b 18 0 f
-          (ring (leb-false 64 (length b) ex) (λ l. false≢true (sym ey ∙ true-late rules (accepted b) (flagAt b) w l)) (needsRing-true rules (accepted b ++ (w ∷ [])) ez))
+          (ring (leb-false mostHeld (length b) ex) (λ l. false≢true (sym ey ∙ true-late rules (accepted b) (flagAt b) w l)) (needsRing-true rules (accepted b ++ (w ∷ [])) ez))
       go false false false ex ey ez =
-          hand-taken b w f fw (leb-false 64 (length b) ex) (λ l. false≢true (sym ey ∙ true-late rules (accepted b) (flagAt b) w l))
+          hand-taken b w f fw (leb-false mostHeld (length b) ex) (λ l. false≢true (sym ey ∙ true-late rules (accepted b) (flagAt b) w l))
           (λ r. false≢true (sym ez ∙ true-needsRing rules (accepted b ++ (w ∷ [])) r)) (hand-book b w f ∙ (unfold handed-by in rw (ex, ey, ez)))
 
   -- ---- every call, every list

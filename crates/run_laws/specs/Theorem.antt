@@ -6,6 +6,7 @@ use mathlib.Core.Bool.{true}
 use mathlib.Core.List.{List, [], _∷_, _++_, List·Memᴰ}
 use mathlib.Core.Option.{Option}
 use lib.ListN.{length}
+use Rattle.model.specs.Limits.{mostHeld}
 use Rattle.model.specs.declared.Write.{Write}
 use Rattle.model.specs.declared.Rule.{Rule}
 use Rattle.model.specs.Answer.{Outcome, answer, refused, coded}
@@ -51,11 +52,11 @@ pub record Safe (rules : List Rule) (disk : List ℕ) (m : Moment) : Type 0 wher
 pub data Gives (rules : List Rule) (disk : List ℕ) (b : Book) : Call → Outcome ℕ → Type 0 where
   wrong-length : {c : Call} → WrongLength c → Gives rules disk b c (refused 14 0)
   unsound : {c : Call} → (WrongLength c → ⊥) → UnsoundLent c → Gives rules disk b c (refused 15 0)
-  full : {w : Write} → 64 ≤ length b → Gives rules disk b (handIn w own) (refused 16 0)
-  too-late : {w : Write} → length b < 64 → Late rules (accepted b) (flagAt b) w → Gives rules disk b (handIn w own) (refused 17 0)
-  ring : {w : Write} → length b < 64 → (Late rules (accepted b) (flagAt b) w → ⊥) → NeedsRing rules (accepted b ++ (w ∷ []))
+  full : {w : Write} → mostHeld ≤ length b → Gives rules disk b (handIn w own) (refused 16 0)
+  too-late : {w : Write} → length b < mostHeld → Late rules (accepted b) (flagAt b) w → Gives rules disk b (handIn w own) (refused 17 0)
+  ring : {w : Write} → length b < mostHeld → (Late rules (accepted b) (flagAt b) w → ⊥) → NeedsRing rules (accepted b ++ (w ∷ []))
       → Gives rules disk b (handIn w own) (refused 18 0)
-  taken : {w : Write} → length b < 64 → (Late rules (accepted b) (flagAt b) w → ⊥) → (NeedsRing rules (accepted b ++ (w ∷ [])) → ⊥)
+  taken : {w : Write} → length b < mostHeld → (Late rules (accepted b) (flagAt b) w → ⊥) → (NeedsRing rules (accepted b ++ (w ∷ [])) → ⊥)
       → Gives rules disk b (handIn w own) (answer (suc (length b)))
   stored : {i : ℕ} → Earliest rules (accepted b) (flagAt b) i → Gives rules disk b (step own own) (answer (suc i))
   idle : ((i : ℕ) → i < length b → flagAt b i ≡ true) → Gives rules disk b (step own own) (answer 0)

@@ -6,7 +6,7 @@ use lib.Dec.{ltb}
 use lib.ListN.{length}
 use lib.Seq.{sets}
 use Rattle.model.specs.Answer.{refusal}
-use Rattle.judge_text.specs.Lines.{programText}
+use Rattle.judge_text.specs.Lines.{programText, textLength}
 
 -- what a call leaves: its answer and the buffer
 pub record Printed : Type 0 where
@@ -16,7 +16,7 @@ pub record Printed : Type 0 where
 abbrev pub printed : ℕ → List ℕ → Printed
 printed r b = record { answer = r; buffer = b }
 
--- the text at the front and its length; 12: a buffer under 400 bytes, which any file's text has room in
+-- the text at the front and its length; 12: a buffer with fewer bytes than any file's text has room in
 unfoldable pub printedOf : List ℕ → List ℕ → Printed
 printedOf s out =
-    cond (ltb (length out) 400) (printed (refusal 12 0) out) (printed (length (programText s)) (sets out 0 (programText s)))
+    cond (ltb (length out) textLength) (printed (refusal 12 0) out) (printed (length (programText s)) (sets out 0 (programText s)))

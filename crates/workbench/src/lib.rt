@@ -43,7 +43,7 @@ pub extern "C" fn pelzhondy_judge(file: &[u8], test: u64) -> u64
 {
     match judge_cases::judge(file, test) {
         Judged::Counts(j) => judge_answers::code_of(j),
-        Judged::Refused { number, place } => model::refuse(number as u64, place as u64),
+        Judged::Refused(why) => model::code_of(why),
     }
 }
 
@@ -55,7 +55,7 @@ pub extern "C" fn pelzhondy_verdict(file: &[u8], test: u64) -> u64
 {
     match judge_cases::decide(file, test) {
         Decided::As(v) => judge_answers::code_of_verdict(v),
-        Decided::Refused { number, place } => model::refuse(number as u64, place as u64),
+        Decided::Refused(why) => model::code_of(why),
     }
 }
 
@@ -65,7 +65,7 @@ pub extern "C" fn pelzhondy_verdict(file: &[u8], test: u64) -> u64
 pub extern "C" fn pelzhondy_judge_lines(file: &[u8], out: &mut [u8]) -> u64
     ensures { λ r. ⌜ printed r (now (out .exit)) ≡ printedOf (now (file .entry)) (now (out .entry)) ⌝ }
 {
-    if out.len() < 400 {
+    if out.len() < judge_text::TEXT_LENGTH {
         return model::refuse(12, 0);
     }
     judge_text::judge_lines(file, out) as u64

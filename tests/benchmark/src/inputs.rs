@@ -3,7 +3,7 @@
 use reference::cache::{self, DISK, STATE};
 use reference::checks::Check;
 use reference::crashes;
-use reference::file::{File, Test, MOST_CHECKS, MOST_MAIN, MOST_TESTS};
+use reference::file::{File, Test, LONGEST, MOST_CHECKS, MOST_INITIAL, MOST_MAIN, MOST_TESTS};
 use reference::generate::{self, Values};
 use reference::judge::judge_test;
 use reference::log;
@@ -11,27 +11,144 @@ use reference::random::Random;
 use reference::samples::{log_rules, test_k};
 use reference::writes::{Block, Predicate, Rule, Write};
 
+/// The main writes of a test, but for the longest file: as many as finding takes.
+const MAIN: usize = 12;
+
 fn block(first: u16, second: u16) -> Block {
     Block { first, second }
 }
 
-fn file_of(rules: &[Rule], test: Test) -> Vec<u8> {
-    let file = File {
-        rules: rules.to_vec(),
-        tests: vec![test],
-    };
-    file.to_bytes()
+fn file_of(rules: &[Rule], tests: Vec<Test>) -> Vec<u8> {
+    let rules = rules.to_vec();
+    File { rules, tests }.to_bytes()
+}
+
+fn rule(name: u8, predicate: Predicate, second: u8) -> Rule {
+    Rule {
+        name,
+        predicate,
+        second,
+    }
+}
+
+fn write(address: u8, name: u8, epoch: u32, block: Block) -> Write {
+    Write {
+        address,
+        name,
+        epoch,
+        block,
+    }
 }
 
 /// Test K of the bench sheet.
 pub fn k_file(rules: &[Rule]) -> Vec<u8> {
-    file_of(rules, test_k())
+    file_of(rules, vec![test_k()])
 }
 
 /// A log of six puts, after one that is there.
 pub fn log_file(rules: &[Rule]) -> Vec<u8> {
+    file_of(rules, vec![log_test()])
+}
+
+fn log_test() -> Test {
     let puts: Vec<Block> = (1..=6).map(|key| block(key, 80 + key)).collect();
-    file_of(rules, log::test_of(&[block(0, 42)], &puts))
+    log::test_of(&[block(0, 42)], &puts)
+}
+
+/// The addresses of settings, of marks, and of ranges of settings, which no main write changes.
+const SETTINGS: u8 = 20;
+const MARKS: u8 = 40;
+const RANGES: u8 = 60;
+
+/// Four marks, each for two settings: eight settings are written, then the marks. The marks and
+/// their settings have names of their own. A mark points to its first setting, a range has both, and
+/// with a new mark both are new. Nothing is broken before the first mark.
+fn settings_test() -> Test {
+    let (old, new) = (block(1, 1), block(2, 2));
+    let first = |k: u8| (SETTINGS + 2 * k) as u16;
+    let setting = |i: u8, block| write(SETTINGS + i, i / 2, 0, block);
+    let mark = |k: u8, number| write(MARKS + k, 10 + k, 0, block(number, first(k)));
+    let range = |k: u8| write(RANGES + k, 20, 0, block(first(k), first(k) + 2));
+    let new_mark_has = |i: u8| Check::Pair {
+        a: MARKS + i / 2,
+        v: block(1, first(i / 2)),
+        b: SETTINGS + i,
+        w: new,
+    };
+    Test {
+        initial: (0..8)
+            .map(|i| setting(i, old))
+            .chain((0..4).map(|k| mark(k, 0)))
+            .chain((0..4).map(range))
+            .collect(),
+        main: (0..8)
+            .map(|i| setting(i, new))
+            .chain((0..4).map(|k| mark(k, 1)))
+            .collect(),
+        checks: (0..4)
+            .map(|k| Check::Pointer { at: MARKS + k })
+            .chain((0..4).map(|k| Check::Range { at: RANGES + k }))
+            .chain((0..8).map(new_mark_has))
+            .collect(),
+    }
+}
+
+/// 12 main writes and 16 checks under the first so many of four rules, one for each mark.
+pub fn settings_file(rules: u8) -> Vec<u8> {
+    let rules: Vec<Rule> = (0..rules)
+        .map(|k| rule(10 + k, Predicate::Equal, k))
+        .collect();
+    file_of(&rules, vec![settings_test()])
+}
+
+/// 12 main writes and 16 checks that every schedule keeps, without rules: each write ends a list by
+/// a block that points to itself, where there was none, and four ranges are filled from the start.
+pub fn holding_file() -> Vec<u8> {
+    let filled = |i: u8| write(SETTINGS + i, 1, 0, block(1, 1));
+    let range = |k: u8| {
+        let head = SETTINGS as u16;
+        write(RANGES + k, 2, 0, block(head, head + 4))
+    };
+    let end = |i: u8| write(100 + i, 3, 0, block(i as u16, 100 + i as u16));
+    let ends = || 0..MAIN as u8;
+    let test = Test {
+        initial: (0..4).map(filled).chain((0..4).map(range)).collect(),
+        main: ends().map(end).collect(),
+        checks: ends()
+            .map(|i| Check::Pointer { at: 100 + i })
+            .chain((0..4).map(|k| Check::Range { at: RANGES + k }))
+            .collect(),
+    };
+    file_of(&[], vec![test])
+}
+
+/// The longest file that reading accepts, with rules that are not cyclic; in some of its tests the
+/// rules leave hundreds of schedules valid, some hold and some fail.
+pub fn longest_file() -> Vec<u8> {
+    let longest = |seed| {
+        let mut random = Random::new(seed);
+        let values = Values::small(&mut random);
+        let few = crashes::acyclic_rules(&mut random, &values, 8);
+        let rules = crashes::padded(&mut random, &values, &few);
+        let mut test = || {
+            let mut test = generate::test_of(&mut random, &values, MOST_INITIAL, MOST_MAIN, 0);
+            while test.checks.len() < MOST_CHECKS {
+                let (one, two) = (random.pick(&test.main), random.pick(&test.main));
+                let (a, v) = (one.address, one.block);
+                let (b, w) = (two.address, two.block);
+                test.checks.push(Check::Pair { a, v, b, w });
+            }
+            test
+        };
+        let tests: Vec<Test> = (0..MOST_TESTS).map(|_| test()).collect();
+        let judged: Vec<_> = tests.iter().map(|test| judge_test(&rules, test)).collect();
+        let valid: u64 = judged.iter().map(|judgement| judgement.valid).sum();
+        let hold = judged.iter().filter(|judgement| judgement.bad == 0).count();
+        let bytes = file_of(&rules, tests);
+        let is_telling = (2000..3000).contains(&valid) && (1..MOST_TESTS).contains(&hold);
+        (is_telling && bytes.len() == LONGEST).then_some(bytes)
+    };
+    (0..).find_map(longest).expect("seeds without end")
 }
 
 /// A random test of 12 main writes and 16 checks that holds with hundreds of valid schedules, under
@@ -41,7 +158,7 @@ pub fn dense_file() -> Vec<u8> {
         let mut random = Random::new(seed);
         let values = Values::small(&mut random);
         let rules = crashes::acyclic_rules(&mut random, &values, 16);
-        let mut test = generate::test_of(&mut random, &values, 16, MOST_MAIN, 0);
+        let mut test = generate::test_of(&mut random, &values, 16, MAIN, 0);
         let start = test.initial_disk();
         for _ in 0..200 {
             let check = generate::check(&mut random, &values);
@@ -74,13 +191,13 @@ pub fn hopeless_file() -> Vec<u8> {
         let both_or_none = |i: usize| Check::Pair {
             a: i as u8,
             v: there,
-            b: ((i + 1) % MOST_MAIN) as u8,
+            b: ((i + 1) % MAIN) as u8,
             w: there,
         };
         Test {
             initial: vec![],
-            main: (0..MOST_MAIN).map(write).collect(),
-            checks: (0..MOST_MAIN).map(both_or_none).collect(),
+            main: (0..MAIN).map(write).collect(),
+            checks: (0..MAIN).map(both_or_none).collect(),
         }
     };
     let file = File {
@@ -88,6 +205,61 @@ pub fn hopeless_file() -> Vec<u8> {
         tests: (0..MOST_TESTS).map(test).collect(),
     };
     file.to_bytes()
+}
+
+/// Writes of one epoch to blocks of their own, with these names, and a check for each two of them
+/// that the second is there if the first is.
+fn tied(names: &[u8], ties: &[(usize, usize)]) -> Test {
+    let there = block(0, 1);
+    let tie = |&(one, two): &(usize, usize)| Check::Pair {
+        a: one as u8,
+        v: there,
+        b: two as u8,
+        w: there,
+    };
+    Test {
+        initial: vec![],
+        main: (0..)
+            .zip(names)
+            .map(|(address, &name)| write(address, name, 0, there))
+            .collect(),
+        checks: ties.iter().map(tie).collect(),
+    }
+}
+
+/// 13 logs, which have ten candidates, and three writes that ask for each other, which have six: no
+/// acyclic set does.
+pub fn logs_and_impossible_file() -> Vec<u8> {
+    let mut tests = vec![log_test(); 13];
+    tests.push(tied(&[11, 12, 13], &[(0, 1), (1, 2), (2, 0)]));
+    file_of(&[], tests)
+}
+
+/// 16 tests of 12 main writes, of four names in turn, with 16 candidates: each write asks for the one
+/// before it of its four, so that three rules do. Seven ranges are filled from the start.
+pub fn chains_file() -> Vec<u8> {
+    let ties: Vec<(usize, usize)> = (0..MAIN)
+        .filter(|i| i % 4 != 0)
+        .map(|i| (i, i - 1))
+        .collect();
+    let names: Vec<u8> = (0..MAIN).map(|i| (i % 4) as u8).collect();
+    let mut test = tied(&names, &ties);
+    test.initial = (0..8)
+        .map(|i| write(SETTINGS + i, 9, 0, block(1, 1)))
+        .collect();
+    for at in RANGES..RANGES + 7 {
+        let range = block(SETTINGS as u16, SETTINGS as u16 + 8);
+        test.initial.push(write(at, 9, 0, range));
+        test.checks.insert(0, Check::Range { at });
+    }
+    file_of(&[], vec![test; MOST_TESTS])
+}
+
+/// Eight tests of two main writes with names of their own, and so 16 candidates: one of the writes
+/// asks for the other, so that eight rules do.
+pub fn couples_file() -> Vec<u8> {
+    let couple = |k: u8| tied(&[2 * k, 2 * k + 1], &[(1, 0)]);
+    file_of(&[], (0..8).map(couple).collect())
 }
 
 /// A cache's rules, and 64 writes that it accepts.
@@ -108,25 +280,25 @@ pub fn log_load() -> Load {
 /// Eight names, each of which depends on the lower ones of its epoch and some on their own earlier
 /// ones: 32 rules.
 pub fn dense_load() -> Load {
-    let rule = |name, predicate, second| Rule {
-        name,
-        predicate,
-        second,
-    };
+    load_of(|i| (i / 8) as u32)
+}
+
+/// The same with an epoch that changes from write to write.
+pub fn changing_load() -> Load {
+    load_of(|i| ((i + i / 8) % 8) as u32)
+}
+
+fn load_of(epoch: fn(u8) -> u32) -> Load {
     let mut rules = Vec::new();
     for name in 0..8 {
         rules.extend((0..name).map(|second| rule(name, Predicate::Equal, second)));
     }
     rules.extend((4..8).map(|name| rule(name, Predicate::Greater, name)));
-    let write = |i: u8| Write {
-        address: 3 * i,
-        name: i % 8,
-        epoch: (i / 8) as u32,
-        block: block(i as u16, 1),
-    };
     Load {
         rules,
-        writes: (0..64).map(write).collect(),
+        writes: (0..64)
+            .map(|i| write(3 * i, i % 8, epoch(i), block(i as u16, 1)))
+            .collect(),
     }
 }
 

@@ -44,7 +44,10 @@ fn main() {
 fn routines() {
     println!("Proved routines linked from libworkbench.a and libreceiver.a of 'rt staticlib';");
     println!("Rust from tests/fast. Release builds, same process, called in turn; time of a call,");
-    println!("median of {ROUNDS} rounds.");
+    println!(
+        "median of {ROUNDS} rounds. The judge in Rust takes one schedule at a time or, in rows of"
+    );
+    println!("their own, 64; its verdict, the program's text and find take 64.");
     println!();
     println!("| routine | input | Rattle | Rust | Rattle/Rust |");
     println!("|---|---|---:|---:|---:|");
@@ -64,7 +67,8 @@ fn routines() {
 fn print_row(mut row: rows::Row) {
     let (routine, input) = (row.routine, row.input);
     assert_eq!((row.proved)(), (row.rust)(), "{routine}, {input}");
-    let [proved, rust] = medians([&mut row.proved, &mut row.rust]);
+    let times = medians([&mut row.proved, &mut row.rust]);
+    let [proved, rust] = times.map(|time| time / row.calls as f64);
     println!(
         "| {routine} | {input} | {} | {} | {:.2} |",
         in_words(proved),

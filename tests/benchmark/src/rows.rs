@@ -9,6 +9,8 @@ use crate::measure::Call;
 pub struct Row {
     pub routine: &'static str,
     pub input: &'static str,
+    /// How often a call of each side calls its routine.
+    pub calls: u32,
     pub proved: Call,
     pub rust: Call,
 }
@@ -26,6 +28,8 @@ pub fn parts() -> Vec<Part> {
     vec![
         part("judge", library::JUDGE, judge),
         part("verdict", library::VERDICT, verdict),
+        part("judge_lines", library::JUDGE_LINES, lines),
+        part("read", library::READ, read),
         part("find", library::FIND, find),
         part("hand-in", library::HAND_IN, hand_in),
         part("step", library::STEP, step),
@@ -35,6 +39,7 @@ pub fn parts() -> Vec<Part> {
 }
 
 type OnTest = unsafe extern "C" fn(*const u8, usize, u64) -> u64;
+type Read = unsafe extern "C" fn(*const u8, usize) -> u64;
 type OnFile = unsafe extern "C" fn(*const u8, usize, *mut u8, usize) -> u64;
 type OnState = unsafe extern "C" fn(*mut u8, usize, *mut u8, usize) -> u64;
 type HandIn = unsafe extern "C" fn(*mut u8, usize, u8, u8, u32, u16, u16) -> u64;
@@ -51,6 +56,7 @@ fn on_tests(
         Row {
             routine,
             input,
+            calls: 1,
             proved: Box::new(move || compared(unsafe { proved(file.as_ptr(), file.len(), 1) })),
             rust: Box::new(move || compared(rust(&same, 1))),
         }
@@ -59,14 +65,23 @@ fn on_tests(
         row("log of 6 puts, its rules", inputs::log_file(&log_rules())),
         row("log of 6 puts, no rules", inputs::log_file(&[])),
         row("12 writes, 16 checks, many rules", inputs::dense_file()),
+        row("12 writes, 16 checks, no rules", inputs::settings_file(0)),
+        row("12 writes, 16 checks, 3 rules", inputs::settings_file(3)),
+        row("12 writes, 16 checks, all hold", inputs::holding_file()),
     ]
 }
 
 fn judge(proved: OnTest) -> Vec<Row> {
     // Which bad schedule is shown is left free.
-    on_tests("judge", proved, fast::judge::judge, |answer| {
-        answer % (1 << 42)
-    })
+    let counts = |answer| answer % (1 << 42);
+    let mut rows = on_tests("judge", proved, fast::judge::judge, counts);
+    rows.extend(on_tests(
+        "judge, Rust 64 at a time",
+        proved,
+        fast::judge::judge_by_words,
+        counts,
+    ));
+    rows
 }
 
 fn verdict(proved: OnTest) -> Vec<Row> {
@@ -75,18 +90,69 @@ fn verdict(proved: OnTest) -> Vec<Row> {
     })
 }
 
-fn find(proved: OnFile) -> Vec<Row> {
-    let file = inputs::hopeless_file();
+/// A row of a routine that writes to a buffer.
+fn on_file(
+    routine: &'static str,
+    input: &'static str,
+    file: Vec<u8>,
+    proved: OnFile,
+    rust: fn(&[u8], &mut [u8]) -> u64,
+) -> Row {
     let same = file.clone();
-    let mut buffer = [0; 96];
-    vec![Row {
-        routine: "find",
-        input: "16 candidates, 16 tests of 12 writes, none does",
+    let mut buffer = [0; 400];
+    Row {
+        routine,
+        input,
+        calls: 1,
         proved: Box::new(move || unsafe {
             proved(file.as_ptr(), file.len(), buffer.as_mut_ptr(), buffer.len())
         }),
-        rust: Box::new(move || fast::find::find(&same, &mut buffer)),
+        rust: Box::new(move || rust(&same, &mut buffer)),
+    }
+}
+
+fn lines(proved: OnFile) -> Vec<Row> {
+    vec![on_file(
+        "program's text",
+        "longest file, 19,376 bytes, 16 tests",
+        inputs::longest_file(),
+        proved,
+        fast::program::judge_lines,
+    )]
+}
+
+fn read(proved: Read) -> Vec<Row> {
+    let file = inputs::longest_file();
+    let same = file.clone();
+    vec![Row {
+        routine: "reading",
+        input: "longest file, 19,376 bytes, 16 tests",
+        calls: 1,
+        proved: Box::new(move || unsafe { proved(file.as_ptr(), file.len()) }),
+        rust: Box::new(move || fast::file::read(&same)),
     }]
+}
+
+fn find(proved: OnFile) -> Vec<Row> {
+    let row = |input, file| on_file("find", input, file, proved, fast::find::find);
+    vec![
+        row(
+            "16 candidates, 16 tests of 12 writes, none does",
+            inputs::hopeless_file(),
+        ),
+        row(
+            "16 candidates, 13 logs and an impossible test",
+            inputs::logs_and_impossible_file(),
+        ),
+        row(
+            "16 candidates, 16 tests of 12 writes, 3 rules do",
+            inputs::chains_file(),
+        ),
+        row(
+            "16 candidates, 8 tests of 2 writes, 8 rules do",
+            inputs::couples_file(),
+        ),
+    ]
 }
 
 /// A call on a state and an empty disk, which are put back before it.
@@ -99,26 +165,37 @@ fn on_state(before: &[u8], mut call: impl FnMut(&mut [u8], &mut [u8]) -> u64 + '
     })
 }
 
-fn on_states(
+fn on_states<const N: usize>(
     routine: &'static str,
-    inputs: [(&'static str, Vec<u8>); 2],
+    inputs: [(&'static str, Vec<u8>); N],
+    calls: u32,
     proved: OnState,
     rust: fn(&mut [u8], &mut [u8]) -> u64,
 ) -> Vec<Row> {
+    let proved = move |state: &mut [u8], disk: &mut [u8]| unsafe {
+        proved(
+            state.as_mut_ptr(),
+            state.len(),
+            disk.as_mut_ptr(),
+            disk.len(),
+        )
+    };
     let row = |(input, state): (&'static str, Vec<u8>)| Row {
         routine,
         input,
-        proved: on_state(&state, move |state, disk| unsafe {
-            proved(
-                state.as_mut_ptr(),
-                state.len(),
-                disk.as_mut_ptr(),
-                disk.len(),
-            )
-        }),
-        rust: on_state(&state, rust),
+        calls,
+        proved: on_state(&state, again(calls, proved)),
+        rust: on_state(&state, again(calls, rust)),
     };
     inputs.map(row).into()
+}
+
+/// So many calls one after another.
+fn again(
+    calls: u32,
+    call: impl Fn(&mut [u8], &mut [u8]) -> u64,
+) -> impl Fn(&mut [u8], &mut [u8]) -> u64 {
+    move |state, disk| (0..calls).fold(0, |sum, _| sum + call(state, disk))
 }
 
 fn step(proved: OnState) -> Vec<Row> {
@@ -132,8 +209,29 @@ fn step(proved: OnState) -> Vec<Row> {
             "64 writes, half stored, 32 rules",
             half(&inputs::dense_load()),
         ),
+        (
+            "64 writes, half stored, 32 rules, epochs in no order",
+            half(&inputs::changing_load()),
+        ),
     ];
-    on_states("step", inputs, proved, fast::cache::step)
+    let mut rows = on_states("step", inputs, 1, proved, fast::cache::step);
+    let full = |load: &Load| inputs::state_of(load, 64, 0);
+    let inputs = [
+        (
+            "mean of 64 and an idle one, the log's rules",
+            full(&inputs::log_load()),
+        ),
+        (
+            "mean of 64 and an idle one, 32 rules",
+            full(&inputs::dense_load()),
+        ),
+        (
+            "mean of 64 and an idle one, 32 rules, epochs in no order",
+            full(&inputs::changing_load()),
+        ),
+    ];
+    rows.extend(on_states("step", inputs, 65, proved, fast::cache::step));
+    rows
 }
 
 /// One drain against one drain: both look at the state once, and store by steps.
@@ -148,8 +246,12 @@ fn drain(proved: OnState) -> Vec<Row> {
             "64 writes wait, 32 rules; a drain of each",
             full(&inputs::dense_load()),
         ),
+        (
+            "64 writes wait, 32 rules, epochs in no order; a drain of each",
+            full(&inputs::changing_load()),
+        ),
     ];
-    on_states("drain", inputs, proved, fast::cache::drain)
+    on_states("drain", inputs, 1, proved, fast::cache::drain)
 }
 
 fn hand_in(proved: HandIn) -> Vec<Row> {
@@ -164,6 +266,7 @@ fn hand_in(proved: HandIn) -> Vec<Row> {
         Row {
             routine: "hand-in",
             input,
+            calls: 1,
             proved: on_state(&state, move |state, _| unsafe {
                 let (first, second) = (block.first, block.second);
                 proved(
@@ -185,6 +288,10 @@ fn hand_in(proved: HandIn) -> Vec<Row> {
     vec![
         row("the 64th write, the log's rules", &inputs::log_load()),
         row("the 64th write, 32 rules", &inputs::dense_load()),
+        row(
+            "the 64th write, 32 rules, epochs in no order",
+            &inputs::changing_load(),
+        ),
     ]
 }
 
@@ -195,6 +302,7 @@ fn get(proved: Get) -> Vec<Row> {
     vec![Row {
         routine: "get",
         input: "log of 255 blocks, another key",
+        calls: 1,
         proved: Box::new(move || unsafe { proved(disk.as_ptr(), disk.len(), KEY) }),
         rust: Box::new(move || fast::log::get(&same, KEY)),
     }]

@@ -1,11 +1,13 @@
 // The turns of the validity test, by [3] of document 02: a turn is a look-up, and none is begun after
-// one that shows an unflagged dependency. Copies of the test, over tables that note what is looked
-// up; over plain tables the same copies are timed.
+// one that shows an unflagged dependency. Copies of the test, and of the way that judge and verdict
+// go through the schedules, over tables that note what is looked up; over plain tables the same
+// copies are timed.
 
 use std::cell::RefCell;
-use std::ops::Index;
+use std::iter::StepBy;
+use std::ops::{Index, Range};
 
-use reference::file::{self, File, Test};
+use reference::file::{self, File, Test, MOST_MAIN};
 use reference::samples::log_rules;
 use reference::schedule::{dependencies, valid};
 use reference::writes::Rule;
@@ -13,46 +15,65 @@ use reference::writes::Rule;
 use crate::inputs;
 use crate::measure::{medians, Call};
 
-/// `judge_schedules::is_valid`, with the same words; a test of the documents compares them.
+/// The most writes of a half, as in `judge_schedules`.
+const HALF: usize = (MOST_MAIN + 1) / 2;
+
+/// The entries of a table of unions: the sets of so many writes.
+const HALF_SETS: usize = 1 << HALF;
+
+/// `judge_schedules::first_half`, with the same words; a test of the documents compares them, and those of
+/// the five below.
+fn first_half(n: usize) -> usize {
+    (n + 1) / 2
+}
+
+/// `judge_schedules::first_flags`.
+fn first_flags(s: u64, k: usize) -> u64 {
+    s & ((1 << k) - 1)
+}
+
+/// `judge_schedules::is_valid`.
 fn is_valid(
     low: &impl Index<usize, Output = u64>,
     high: &impl Index<usize, Output = u64>,
+    near: usize,
     s: u64,
 ) -> bool {
-    let first = low[(s & 63) as usize];
+    let first = low[first_flags(s, near) as usize];
     if first & s != first {
         return false;
     }
-    let next = high[((s >> 6) & 63) as usize];
+    let next = high[first_flags(s >> near, HALF) as usize];
     next & s == next
 }
 
-/// `judge_schedules::past_invalid`, likewise: what the verdict asks before.
-fn past_invalid(high: &impl Index<usize, Output = u64>, s: u64, total: u64) -> u64 {
-    if s & 63 != 0 {
-        return s;
-    }
-    let end = s >> 6;
-    let needed = high[(end & 63) as usize];
-    if needed & s == needed {
-        return s;
-    }
-    if (needed >> 6) & end == needed >> 6 {
-        return s + 1;
-    }
-    if total - s < 64 {
-        return total;
-    }
-    s + 64
+/// `judge_schedules::may_begin`: what judge and verdict ask of each beginning before.
+fn may_begin(low: &impl Index<usize, Output = u64>, near: usize, x: u64) -> bool {
+    let needed = first_flags(low[x as usize], near);
+    needed & x == needed
+}
+
+/// `judge_schedules::may_end`: what they ask of each end before, once for all beginnings.
+fn may_end(high: &impl Index<usize, Output = u64>, near: usize, y: u64) -> bool {
+    let needed = high[y as usize] >> near;
+    needed & y == needed
+}
+
+/// `judge_counting::joined`.
+fn joined(x: u64, near: usize, y: u64) -> u64 {
+    x | (y << near)
 }
 
 /// What the test was before: both look-ups, whatever the first one shows.
 fn both(
     low: &impl Index<usize, Output = u64>,
     high: &impl Index<usize, Output = u64>,
+    near: usize,
     s: u64,
 ) -> bool {
-    let needed = low[(s & 63) as usize] | high[((s >> 6) & 63) as usize];
+    let first = low[first_flags(s, near) as usize];
+    let next = high[first_flags(s >> near, HALF) as usize];
+    let needed = first | next;
     needed & s == needed
 }
 
@@ -69,34 +90,40 @@ fn write_by_write(rows: &impl Index<usize, Output = u64>, s: u64) -> bool {
     true
 }
 
-/// For each write the writes that it depends on, and the unions of these for each set of the first
-/// six writes and of the next six.
+/// For each write of a test the writes that it depends on, and the unions of these for each set of
+/// the `near` writes of the first half and of the `far` ones behind.
 struct Tables<T> {
     rows: T,
     low: T,
     high: T,
+    near: usize,
+    far: usize,
 }
 
-type Plain = [u64; 64];
+type Plain = [u64; HALF_SETS];
 
 impl Tables<Plain> {
     fn of(dependencies: &[Vec<usize>]) -> Self {
-        let mut rows = [0; 64];
+        let mut rows = [0; HALF_SETS];
         for (row, on) in rows.iter_mut().zip(dependencies) {
             *row = on.iter().map(|&j| 1 << j).sum();
         }
-        let unions = |from: usize| {
-            let mut table = [0; 64];
-            for (set, union) in table.iter_mut().enumerate() {
-                let members = (0..6).filter(|i| set >> i & 1 == 1);
+        let unions = |from: usize, many: usize| {
+            let mut table = [0; HALF_SETS];
+            for (set, union) in table.iter_mut().enumerate().take(1 << many) {
+                let members = (0..many).filter(|i| set >> i & 1 == 1);
                 *union = members.fold(0, |all, i| all | rows[from + i]);
             }
             table
         };
+        let near = first_half(dependencies.len());
+        let far = dependencies.len() - near;
         Tables {
             rows,
-            low: unions(0),
-            high: unions(6),
+            low: unions(0, near),
+            high: unions(near, far),
+            near,
+            far,
         }
     }
 
@@ -106,6 +133,58 @@ impl Tables<Plain> {
             rows: noted(&self.rows),
             low: noted(&self.low),
             high: noted(&self.high),
+            near: self.near,
+            far: self.far,
+        }
+    }
+}
+
+impl<T: Index<usize, Output = u64>> Tables<T> {
+    /// How many schedules the test has.
+    fn total(&self) -> u64 {
+        1 << (self.near + self.far)
+    }
+
+    /// Asks about each schedule, in rising number.
+    #[inline(always)]
+    fn one_by_one(&self, is_valid: impl Fn(u64) -> bool, mut tell: impl FnMut(About, bool)) {
+        for s in 0..self.total() {
+            tell(About::Schedule(s), is_valid(s));
+        }
+    }
+
+    /// Asks about each end, and lists those that a valid schedule can have.
+    #[inline(always)]
+    fn list_ends(&self, mut tell: impl FnMut(About, bool)) -> (Plain, usize) {
+        let mut ends = [0; HALF_SETS];
+        let mut many = 0;
+        for y in 0..1 << self.far {
+            let may = may_end(&self.high, self.near, y);
+            tell(About::End(y), may);
+            if may {
+                ends[many] = y;
+                many += 1;
+            }
+        }
+        (ends, many)
+    }
+
+    /// Asks about each beginning, and where a valid schedule can have it about those with the ends
+    /// that are listed: the way of judge and verdict, in `judge_counting`.
+    #[inline(always)]
+    fn by_halves(&self, mut tell: impl FnMut(About, bool)) {
+        let (low, high, near) = (&self.low, &self.high, self.near);
+        let (ends, many) = self.list_ends(&mut tell);
+        for x in 0..1 << near {
+            let may = may_begin(low, near, x);
+            tell(About::Beginning(x), may);
+            if !may {
+                continue;
+            }
+            for &y in &ends[..many] {
+                let s = joined(x, near, y);
+                tell(About::Schedule(s), is_valid(low, high, near, s));
+            }
         }
     }
 }
@@ -125,57 +204,68 @@ impl Index<usize> for Noted<'_> {
     }
 }
 
-/// A way through a test's schedules, in rising number.
+/// What a question is about.
+#[derive(Clone, Copy, Debug)]
+enum About {
+    Schedule(u64),
+    /// All schedules that begin with these flags.
+    Beginning(u64),
+    /// All that end with these.
+    End(u64),
+}
+
+impl About {
+    /// The schedules that it is about, of those of near + far writes.
+    fn schedules(self, near: usize, far: usize) -> StepBy<Range<u64>> {
+        match self {
+            About::Schedule(s) => (s..s + 1).step_by(1),
+            About::Beginning(x) => (x..1 << (near + far)).step_by(1 << near),
+            About::End(y) => (y << near..(y + 1) << near).step_by(1),
+        }
+    }
+}
+
+/// A way through a test's schedules.
 #[derive(Clone, Copy, Debug, PartialEq)]
 enum Form {
     Before,
     Now,
-    Verdict,
+    Halves,
     WriteByWrite,
 }
 
-const FORMS: [Form; 4] = [Form::Before, Form::Now, Form::Verdict, Form::WriteByWrite];
+const FORMS: [Form; 4] = [Form::Before, Form::Now, Form::Halves, Form::WriteByWrite];
 
 impl Form {
-    /// Whether schedule s is valid, and where the form goes on: those in between are not.
+    /// Goes that way, and tells each question with its answer.
     #[inline(always)]
-    fn step<T: Index<usize, Output = u64>>(
-        self,
-        tables: &Tables<T>,
-        s: u64,
-        total: u64,
-    ) -> (bool, u64) {
-        let Tables { rows, low, high } = tables;
+    fn ask<T: Index<usize, Output = u64>>(self, tables: &Tables<T>, tell: impl FnMut(About, bool)) {
+        let (low, high, near) = (&tables.low, &tables.high, tables.near);
         match self {
-            Form::Before => (both(low, high, s), s + 1),
-            Form::Now => (is_valid(low, high, s), s + 1),
-            Form::Verdict => match past_invalid(high, s, total) {
-                from if from != s => (false, from),
-                _ => (is_valid(low, high, s), s + 1),
-            },
-            Form::WriteByWrite => (write_by_write(rows, s), s + 1),
+            Form::Before => tables.one_by_one(|s| both(low, high, near, s), tell),
+            Form::Now => tables.one_by_one(|s| is_valid(low, high, near, s), tell),
+            Form::Halves => tables.by_halves(tell),
+            Form::WriteByWrite => tables.one_by_one(|s| write_by_write(&tables.rows, s), tell),
         }
     }
 
-    /// How many schedules below total are valid.
+    /// How many schedules are valid.
     #[inline(always)]
-    fn count(self, tables: &Tables<Plain>, total: u64) -> u64 {
-        let (mut s, mut found) = (0, 0);
-        while s != total {
-            let (valid, next) = self.step(tables, s, total);
-            found += valid as u64;
-            s = next;
-        }
+    fn count(self, tables: &Tables<Plain>) -> u64 {
+        let mut found = 0;
+        self.ask(tables, |about, answer| {
+            found += (answer && matches!(about, About::Schedule(_))) as u64;
+        });
         found
     }
 
     /// The count, to be timed. Each form is named, so that the choice is not made in the loop.
-    fn call(self, tables: Tables<Plain>, total: u64) -> Call {
+    fn call(self, tables: Tables<Plain>) -> Call {
         match self {
-            Form::Before => Box::new(move || Form::Before.count(&tables, total)),
-            Form::Now => Box::new(move || Form::Now.count(&tables, total)),
-            Form::Verdict => Box::new(move || Form::Verdict.count(&tables, total)),
-            Form::WriteByWrite => Box::new(move || Form::WriteByWrite.count(&tables, total)),
+            Form::Before => Box::new(move || Form::Before.count(&tables)),
+            Form::Now => Box::new(move || Form::Now.count(&tables)),
+            Form::Halves => Box::new(move || Form::Halves.count(&tables)),
+            Form::WriteByWrite => Box::new(move || Form::WriteByWrite.count(&tables)),
         }
     }
 
@@ -183,47 +273,78 @@ impl Form {
         match self {
             Form::Before => "both look-ups, as before",
             Form::Now => "look-ups up to the first broken one",
-            Form::Verdict => "the same, broken ends passed over",
+            Form::Halves => "the same, only of beginnings and ends that can be valid",
             Form::WriteByWrite => "a look-up for each flagged write",
         }
     }
 }
 
-/// The turns of one step of a form.
-struct Turns {
+/// A question, its answer and its turns.
+struct Asked {
+    about: About,
+    answer: bool,
     begun: u64,
-    /// Of these, the ones begun after one that showed an unflagged dependency.
+    /// Of these, the ones begun after a turn of this question or of one before it has shown an
+    /// unflagged dependency of every schedule that is asked about.
     late: u64,
 }
 
-/// The turns of a form over all schedules of a test, step by step. Panics where it says of a
-/// schedule what the reference does not.
-fn turns(form: Form, rules: &[Rule], test: &Test) -> Vec<Turns> {
+/// What a form asks over all schedules of a test, in order. Panics where it says of a schedule what
+/// the reference does not.
+fn asked(form: Form, rules: &[Rule], test: &Test) -> Vec<Asked> {
     let on = dependencies(rules, &test.main);
-    let tables = Tables::of(&on);
-    let total = 1 << test.main.len();
-    let mut found = Vec::new();
-    let mut s = 0;
-    while s != total {
-        let seen = RefCell::new(Vec::new());
-        let (answer, next) = form.step(&tables.noted(&seen), s, total);
-        assert_eq!(answer, valid(&on, s), "{form:?}, schedule {s}");
-        let passed_over = |t| t != s && valid(&on, t);
-        assert!(!(s..next).any(passed_over), "{form:?}, from {s} to {next}");
-        let seen = seen.into_inner();
-        let broken = seen.iter().position(|entry| entry & !s != 0);
-        let in_time = broken.map_or(seen.len(), |i| i + 1);
-        found.push(Turns {
-            begun: seen.len() as u64,
-            late: (seen.len() - in_time) as u64,
-        });
-        s = next;
-    }
+    let found = watched(&Tables::of(&on), |noted, tell| form.ask(noted, tell));
+    compare(form, &found, &on);
     found
 }
 
-fn sum(turns: &[Turns], of: fn(&Turns) -> u64) -> u64 {
-    turns.iter().map(of).sum()
+/// What a way asks of the tables that it is given, in order.
+fn watched(
+    tables: &Tables<Plain>,
+    way: impl FnOnce(&Tables<Noted>, &mut dyn FnMut(About, bool)),
+) -> Vec<Asked> {
+    let seen = RefCell::new(Vec::new());
+    let mut broken = vec![false; tables.total() as usize];
+    let mut found = Vec::new();
+    way(&tables.noted(&seen), &mut |about, answer| {
+        let schedules = about.schedules(tables.near, tables.far);
+        let (mut begun, mut late) = (0, 0);
+        for entry in seen.take() {
+            begun += 1;
+            late += schedules.clone().all(|s| broken[s as usize]) as u64;
+            // It shows an unflagged dependency if none of the schedules flags all that it names.
+            if schedules.clone().all(|s| entry & !s != 0) {
+                schedules.clone().for_each(|s| broken[s as usize] = true);
+            }
+        }
+        found.push(Asked {
+            about,
+            answer,
+            begun,
+            late,
+        });
+    });
+    found
+}
+
+/// Panics unless the answers about schedules are the reference's, and each is asked about once; by
+/// halves those that are not valid may be left out.
+fn compare(form: Form, asked: &[Asked], on: &[Vec<usize>]) {
+    let mut times = vec![0; 1 << on.len()];
+    for question in asked {
+        if let About::Schedule(s) = question.about {
+            assert_eq!(question.answer, valid(on, s), "{form:?}, schedule {s}");
+            times[s as usize] += 1;
+        }
+    }
+    for (s, times) in (0..).zip(times) {
+        let left_out = times == 0 && form == Form::Halves && !valid(on, s);
+        assert!(times == 1 || left_out, "{form:?}, schedule {s}: {times}");
+    }
+}
+
+fn sum(asked: &[Asked], of: fn(&Asked) -> u64) -> u64 {
+    asked.iter().map(of).sum()
 }
 
 /// The tests of the table, each in a file of its own.
@@ -250,7 +371,7 @@ pub fn print() {
     println!(
         "all schedules of a test; look-ups begun after one that shows an unflagged dependency,"
     );
-    println!("sum of all; and the time of a schedule where they are asked in rising number.");
+    println!("sum of all; and the time of a schedule where they are asked one after another.");
     println!();
     println!("| input | valid | test of a schedule | turns | begun too late | time |");
     println!("|---|---:|---|---:|---:|---:|");
@@ -264,18 +385,18 @@ fn print_forms(input: &str, file: &File) {
     let test = &file.tests[0];
     let total = 1u64 << test.main.len();
     let tables = || Tables::of(&dependencies(&file.rules, &test.main));
-    let mut calls = FORMS.map(|form| form.call(tables(), total));
+    let mut calls = FORMS.map(|form| form.call(tables()));
     let valid = calls[0]();
     let [a, b, c, d] = &mut calls;
     let times = medians([a, b, c, d]);
     for (form, time) in FORMS.into_iter().zip(times) {
-        let turns = turns(form, &file.rules, test);
-        let late = sum(&turns, |step| step.late);
+        let asked = asked(form, &file.rules, test);
+        let late = sum(&asked, |question| question.late);
         assert!(form == Form::Before || late == 0, "{form:?}, {input}");
         println!(
             "| {input} | {valid} of {total} | {} | {:.2} | {late} | {:.2} ns |",
             form.words(),
-            sum(&turns, |step| step.begun) as f64 / total as f64,
+            sum(&asked, |question| question.begun) as f64 / total as f64,
             time / total as f64 * 1e9
         );
     }
@@ -293,38 +414,89 @@ mod tests {
         named.into_iter().chain((0..200).map(random_file)).collect()
     }
 
-    #[test]
-    fn no_turn_is_begun_after_a_broken_one() {
+    /// Each test of these files, with what its main writes depend on.
+    fn for_each_test(mut look: impl FnMut(&[Rule], &Test, &[Vec<usize>])) {
         for file in many_files() {
             for test in &file.tests {
-                for form in [Form::Now, Form::Verdict, Form::WriteByWrite] {
-                    assert_eq!(sum(&turns(form, &file.rules, test), |step| step.late), 0);
-                }
+                look(&file.rules, test, &dependencies(&file.rules, &test.main));
             }
         }
     }
 
+    #[test]
+    fn no_turn_is_begun_after_a_broken_one() {
+        for_each_test(|rules, test, _| {
+            for form in [Form::Now, Form::Halves, Form::WriteByWrite] {
+                let asked = asked(form, rules, test);
+                assert_eq!(sum(&asked, |question| question.late), 0, "{form:?}");
+            }
+        });
+    }
+
+    /// Where a schedule's first flagged write with an unflagged dependency stands: 0 in the first
+    /// half, 1 in the second; 2 if there is none.
+    fn first_broken(on: &[Vec<usize>], schedule: u64) -> usize {
+        let is = |i| flagged(schedule, i);
+        let broken = |&i: &usize| is(i) && on[i].iter().any(|&j| !is(j));
+        let first = (0..on.len()).find(broken);
+        first.map_or(2, |i| (i >= first_half(on.len())) as usize)
+    }
+
     /// The turns that the meaning asks for: up to the one that asks about the first flagged write
-    /// with an unflagged dependency, or both.
+    /// with an unflagged dependency, or both. One for a beginning, and one for an end.
     #[test]
     fn the_turns_are_those_up_to_the_first_broken_write() {
-        let mut kinds = [0; 3];
-        for file in many_files() {
-            for test in &file.tests {
-                let on = dependencies(&file.rules, &test.main);
-                // One step for each schedule.
-                for (schedule, Turns { begun, .. }) in
-                    (0..).zip(turns(Form::Now, &file.rules, test))
-                {
-                    let is = |i| flagged(schedule, i);
-                    let broken = |&i: &usize| is(i) && on[i].iter().any(|&j| !is(j));
-                    let first = (0..on.len()).find(broken);
-                    assert_eq!(begun, first.map_or(2, |i| i as u64 / 6 + 1));
-                    kinds[first.map_or(2, |i| i / 6)] += 1;
+        let mut kinds = [[0; 3]; 2];
+        for_each_test(|rules, test, on| {
+            for (form, kinds) in [Form::Now, Form::Halves].into_iter().zip(&mut kinds) {
+                for Asked { about, begun, .. } in asked(form, rules, test) {
+                    let expected = match about {
+                        About::Schedule(s) => {
+                            let kind = first_broken(on, s);
+                            kinds[kind] += 1;
+                            [1, 2, 2][kind]
+                        }
+                        About::Beginning(_) | About::End(_) => 1,
+                    };
+                    assert_eq!(begun, expected, "{form:?}, {about:?}");
                 }
             }
-        }
-        // Schedules of each kind: broken among the first six, among the next, valid.
+        });
+        // Schedules of each kind: broken in the first half, in the second, valid.
+        let often = |kinds: &[u64; 3]| kinds.iter().all(|&count| count > 1000);
+        assert!(kinds.iter().all(often), "{kinds:?}");
+    }
+
+    /// Whether a flagged write of these depends on an unflagged one of them.
+    fn broken_within(writes: Range<usize>, on: &[Vec<usize>], schedule: u64) -> bool {
+        let is = |i| flagged(schedule, i);
+        let unflagged = |j: &usize| writes.contains(j) && !is(*j);
+        writes.clone().any(|i| is(i) && on[i].iter().any(unflagged))
+    }
+
+    /// By halves those schedules are asked about whose halves, each by itself, are not broken.
+    #[test]
+    fn what_cannot_be_valid_by_its_beginning_or_end_is_left_out() {
+        let mut kinds = [0; 3];
+        for_each_test(|rules, test, on| {
+            let near = first_half(on.len());
+            let mut times = vec![0; 1 << on.len()];
+            for question in asked(Form::Halves, rules, test) {
+                if let About::Schedule(s) = question.about {
+                    times[s as usize] += 1;
+                }
+            }
+            for (s, times) in (0..).zip(times) {
+                let halves = [0..near, near..on.len()];
+                let broken = halves
+                    .into_iter()
+                    .position(|half| broken_within(half, on, s));
+                let kind = broken.unwrap_or(2);
+                assert_eq!(times, [0, 0, 1][kind], "schedule {s}");
+                kinds[kind] += 1;
+            }
+        });
+        // Schedules of each kind: by the beginning, by the end, not left out.
         assert!(kinds.iter().all(|&count| count > 1000), "{kinds:?}");
     }
 
@@ -332,8 +504,28 @@ mod tests {
     #[test]
     fn what_was_before_goes_on() {
         let [_, (_, file), ..] = files();
-        let before = turns(Form::Before, &file.rules, &file.tests[0]);
-        assert_eq!(sum(&before, |step| step.begun), 2 * 4096);
-        assert_ne!(sum(&before, |step| step.late), 0);
+        let before = asked(Form::Before, &file.rules, &file.tests[0]);
+        assert_eq!(sum(&before, |question| question.begun), 2 * 4096);
+        assert_ne!(sum(&before, |question| question.late), 0);
+    }
+
+    /// And schedules asked about although their beginning, or their end, was refused.
+    #[test]
+    fn answers_passed_over_are_noticed() {
+        let [_, (_, file), ..] = files();
+        let tables = Tables::of(&dependencies(&file.rules, &file.tests[0].main));
+        let after_ends = watched(&tables, |noted, tell| {
+            noted.list_ends(&mut *tell);
+            Form::Now.ask(noted, tell);
+        });
+        let after_beginnings = watched(&tables, |noted, tell| {
+            for x in 0..1 << noted.near {
+                tell(About::Beginning(x), may_begin(&noted.low, noted.near, x));
+            }
+            Form::Now.ask(noted, tell);
+        });
+        for asked in [after_ends, after_beginnings] {
+            assert_ne!(sum(&asked, |question| question.late), 0);
+        }
     }
 }

@@ -447,9 +447,9 @@ fn most_main_writes(run: &mut Run) -> Outcome {
     kinds.spread(run)
 }
 
-/// [3] of document 02 keeps every answer, and so the bad schedule shown, which document 01 leaves
-/// free: the verdict shows the first in rising number, the judge the last by the first six flags
-/// and, among equals, by the others.
+/// The bad schedule shown, which document 01 leaves free: judge and verdict go through the schedules
+/// by the flags of the first half of the writes and, among equals, by the others; the verdict shows
+/// the first bad one, the judge the last.
 fn schedules_shown(run: &mut Run) -> Outcome {
     let mut late = 0;
     for _ in 0..run.times(800) {
@@ -464,24 +464,19 @@ fn schedules_shown(run: &mut Run) -> Outcome {
         let bad: Vec<u64> = schedules(test)
             .filter(|&s| is_bad(&file.rules, test, s))
             .collect();
-        let first = bad.first().map_or(0, |s| 1 + s);
-        let last = bad
-            .into_iter()
-            .max_by_key(|s| (s % 64, s / 64))
-            .unwrap_or(0);
-        late += u64::from(first > 64);
+        let beginnings = 1u64 << ((test.main.len() + 1) / 2);
+        let order = |s: &u64| (s % beginnings, s / beginnings);
+        let first = bad.iter().min_by_key(|&s| order(s)).map_or(0, |s| 1 + s);
+        let last = bad.into_iter().max_by_key(order).unwrap_or(0);
+        late += u64::from(first > beginnings);
         let lent = Lent::new(&mut random, &file.to_bytes());
         same_answer("verdict", lent.content(), first, calls::verdict(&lent, 1))?;
         let shown = judgement_of(calls::judge(&lent, 1)).shown;
         same_answer("shown", lent.content(), last, shown)?;
     }
-    let note = format!("{late} verdicts by a schedule above 63");
+    let note = format!("{late} verdicts by a schedule that flags a write of the second half");
     run.note(note.clone());
-    require(
-        late >= 20,
-        "20 verdicts at least by a schedule above 63",
-        note,
-    )
+    require(late >= 20, "20 of them at least", note)
 }
 
 /// One test, and rules of which the last of 32 often decides.

@@ -59,12 +59,20 @@ fn bench_sheet(run: &mut Run) -> Outcome {
     ];
     for (initial, main, length, expected, bytes) in lines {
         let mut random = run.next_case();
-        let (one, two) = (Lent::new(&mut random, initial), Lent::new(&mut random, main));
+        let (one, two) = (
+            Lent::new(&mut random, initial),
+            Lent::new(&mut random, main),
+        );
         let mut after = random.bytes(length);
         let mut buffer = Lent::new(&mut random, &after);
         let got = calls::trace(&one, &two, &mut buffer);
         let inputs = [("initial", initial), ("main", main)];
-        same_answer_on(&format!("trace into {length} bytes"), &inputs, expected, got)?;
+        same_answer_on(
+            &format!("trace into {length} bytes"),
+            &inputs,
+            expected,
+            got,
+        )?;
         if expected < 1 << 63 && bytes.is_empty() {
             continue;
         }

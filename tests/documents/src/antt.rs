@@ -14,7 +14,7 @@ pub struct Declaration {
 }
 
 /// A line without its comment.
-fn without_comment(line: &str) -> &str {
+pub fn without_comment(line: &str) -> &str {
     let starts = |i: &usize| *i == 0 || line[..*i].ends_with(' ');
     let comment = line.match_indices("--").map(|(i, _)| i).find(starts);
     line[..comment.unwrap_or(line.len())].trim_end()

@@ -47,7 +47,7 @@ pub fn without_comments(source: &str) -> String {
     found
 }
 
-fn is_part_of_name(c: char) -> bool {
+pub fn is_part_of_name(c: char) -> bool {
     c.is_alphanumeric() || c == '_'
 }
 

@@ -1,5 +1,5 @@
 // What the documents name, and what the crates have: references, definitions, edits, routines. And
-// what is pinned of the crates: contracts, theorems and their definitions.
+// what is pinned of the crates: contracts, theorems and their definitions. And which crates need which.
 
 use std::collections::{BTreeMap, BTreeSet};
 use std::fs;
@@ -7,6 +7,7 @@ use std::path::{Path, PathBuf};
 
 pub mod antt;
 pub mod code;
+pub mod listing;
 pub mod pins;
 
 #[cfg(test)]
@@ -24,7 +25,9 @@ pub fn text(path: &Path) -> String {
 /// The entries of a folder, sorted; none if there is no such folder.
 pub fn entries(folder: &Path) -> Vec<PathBuf> {
     let mut found: Vec<PathBuf> = match fs::read_dir(folder) {
-        Ok(entries) => entries.map(|entry| entry.expect("an entry").path()).collect(),
+        Ok(entries) => entries
+            .map(|entry| entry.expect("an entry").path())
+            .collect(),
         Err(_) => Vec::new(),
     };
     found.sort();
@@ -32,7 +35,10 @@ pub fn entries(folder: &Path) -> Vec<PathBuf> {
 }
 
 pub fn stem(path: &Path) -> String {
-    path.file_stem().expect("a name").to_string_lossy().into_owned()
+    path.file_stem()
+        .expect("a name")
+        .to_string_lossy()
+        .into_owned()
 }
 
 /// The crates, by crates.txt.
@@ -81,7 +87,11 @@ pub fn references(text: &str) -> Vec<Reference> {
             found.push(Reference {
                 path: path.to_string(),
                 line,
-                names: names.split(", ").filter(|name| !name.is_empty()).map(String::from).collect(),
+                names: names
+                    .split(", ")
+                    .filter(|name| !name.is_empty())
+                    .map(String::from)
+                    .collect(),
             });
         }
     }
@@ -98,7 +108,8 @@ pub fn target(path: &str) -> PathBuf {
 }
 
 fn is_antt(path: &Path) -> bool {
-    path.extension().map_or(false, |extension| extension == "antt")
+    path.extension()
+        .map_or(false, |extension| extension == "antt")
 }
 
 /// What a file defines: each name with its first line, counted from 1.
@@ -107,9 +118,17 @@ pub fn definitions(path: &Path) -> BTreeMap<String, usize> {
     // A member of a record or data type counts as its own only.
     let mut in_type = false;
     for (i, line) in text(path).lines().enumerate() {
-        let name = if is_antt(path) { antt::declared_name(line) } else { code_name(line) };
+        let name = if is_antt(path) {
+            antt::declared_name(line)
+        } else {
+            code_name(line)
+        };
         let indented = line.starts_with(' ') || line.is_empty();
-        in_type = if indented { in_type } else { antt::begins_type(line) };
+        in_type = if indented {
+            in_type
+        } else {
+            antt::begins_type(line)
+        };
         if let Some(name) = name.filter(|_| !(indented && in_type)) {
             found.entry(name).or_insert(i + 1);
         }
@@ -147,11 +166,17 @@ pub fn has(path: &Path, name: &str) -> bool {
 pub fn has_member(source: &str, antt: bool, outer: &str, member: &str) -> bool {
     if antt {
         let declared = antt::declarations(source);
-        let mut members = declared.iter().filter(|d| d.name == outer).flat_map(|d| d.members());
+        let mut members = declared
+            .iter()
+            .filter(|d| d.name == outer)
+            .flat_map(|d| d.members());
         members.any(|name| name == member)
     } else {
         let inside = code::type_text(source, outer).unwrap_or_default();
-        inside.split(|c| "{(".contains(c)).skip(1).any(|part| code::uses(part, member) > 0)
+        inside
+            .split(|c| "{(".contains(c))
+            .skip(1)
+            .any(|part| code::uses(part, member) > 0)
     }
 }
 
@@ -183,7 +208,9 @@ pub fn fault_of(crate_name: &str, edit: &str) -> Option<String> {
             if !folder.join(&file).is_file() {
                 return Some(format!("there is no {}", file));
             }
-            let before = changed.remove(&file).unwrap_or_else(|| text(&folder.join(&file)));
+            let before = changed
+                .remove(&file)
+                .unwrap_or_else(|| text(&folder.join(&file)));
             let times = before.matches(&old).count();
             if times != 1 {
                 return Some(format!("'{}' stands {} times in {}", old, times, file));
@@ -194,5 +221,7 @@ pub fn fault_of(crate_name: &str, edit: &str) -> Option<String> {
             changed.insert(file.clone(), before.replace(&old, new));
         }
     }
-    changed.is_empty().then(|| "it has no 'old:' and 'new:'".to_string())
+    changed
+        .is_empty()
+        .then(|| "it has no 'old:' and 'new:'".to_string())
 }

@@ -1,10 +1,14 @@
+use std::collections::BTreeMap;
+
 use super::*;
 use crate::antt::declarations as antt_declarations;
 use crate::code::{calls, functions, uses, without_comments};
+use crate::listing::{faults_in, listing, named, named_in, Crates};
 use crate::pins::{exported, Sources, CONTRACTS, DEFINITIONS, THEOREMS};
 
-const DOCUMENTS: [&str; 6] = [
+const DOCUMENTS: [&str; 7] = [
     "README.md",
+    "docs/ARCHITECTURE.md",
     "docs/PROMISES.md",
     "docs/WHOLE-RUNS.md",
     "docs/DECISIONS.md",
@@ -15,7 +19,10 @@ const DOCUMENTS: [&str; 6] = [
 /// The documents that are there, each with its text.
 fn documents() -> impl Iterator<Item = (&'static str, String)> {
     let there = |document: &&str| root().join(document).exists();
-    DOCUMENTS.into_iter().filter(there).map(|document| (document, text(&root().join(document))))
+    DOCUMENTS
+        .into_iter()
+        .filter(there)
+        .map(|document| (document, text(&root().join(document))))
 }
 
 fn none(faults: Vec<String>) {
@@ -70,10 +77,20 @@ fn every_edit_is_named() {
     let mut named = BTreeSet::new();
     for reference in references(&text(&root().join("docs/PROMISES.md"))) {
         if let Some(name) = reference.path.strip_suffix("/must-fail") {
-            named.extend(reference.names.iter().map(|edit| (name.to_string(), edit.clone())));
+            named.extend(
+                reference
+                    .names
+                    .iter()
+                    .map(|edit| (name.to_string(), edit.clone())),
+            );
         }
     }
-    none(edits().difference(&named).map(|(name, edit)| format!("{}/{}", name, edit)).collect());
+    none(
+        edits()
+            .difference(&named)
+            .map(|(name, edit)| format!("{}/{}", name, edit))
+            .collect(),
+    );
 }
 
 /// A member is looked for in its own record, and not in the rest of the file.
@@ -90,9 +107,16 @@ fn members_belong_to_their_own() {
         ("fourth", "first", false),
         ("Five", "first", false),
     ] {
-        assert_eq!(has_member(specs, true, outer, member), there, "{}.{}", outer, member);
+        assert_eq!(
+            has_member(specs, true, outer, member),
+            there,
+            "{}.{}",
+            outer,
+            member
+        );
     }
-    let code = "struct One {\n    first: u8, // third\n}\n\nenum Two {\n    Third { fourth: u8 },\n}\n";
+    let code =
+        "struct One {\n    first: u8, // third\n}\n\nenum Two {\n    Third { fourth: u8 },\n}\n";
     for (outer, member, there) in [
         ("One", "first", true),
         ("One", "third", false),
@@ -100,7 +124,13 @@ fn members_belong_to_their_own() {
         ("Two", "Third", true),
         ("Two", "first", false),
     ] {
-        assert_eq!(has_member(code, false, outer, member), there, "{}.{}", outer, member);
+        assert_eq!(
+            has_member(code, false, outer, member),
+            there,
+            "{}.{}",
+            outer,
+            member
+        );
     }
 }
 
@@ -114,7 +144,12 @@ fn edits_of(row: &str) -> Vec<(String, String)> {
     let mut found = Vec::new();
     for reference in references(row) {
         if let Some(name) = reference.path.strip_suffix("/must-fail") {
-            found.extend(reference.names.iter().map(|edit| (name.to_string(), edit.clone())));
+            found.extend(
+                reference
+                    .names
+                    .iter()
+                    .map(|edit| (name.to_string(), edit.clone())),
+            );
         }
     }
     found
@@ -130,7 +165,8 @@ fn exported_routines_have_two_edits() {
     for (path, function) in exported(&sources) {
         let own = path.split('/').next().unwrap_or("");
         let start = format!("| `{}: {}` |", path, function.name);
-        let named: BTreeSet<(String, String)> = rows(&promises, &start).flat_map(edits_of).collect();
+        let named: BTreeSet<(String, String)> =
+            rows(&promises, &start).flat_map(edits_of).collect();
         let count = named.iter().filter(|(name, _)| name == own).count();
         if count < 2 {
             faults.push(format!("{}: {} edits of {}", function.name, count, own));
@@ -180,7 +216,10 @@ fn exported_contracts_are_pinned() {
     let mut faults = CONTRACTS.differences(&sources);
     for (_, function) in exported(&sources) {
         if !function.clauses_of("requires").is_empty() {
-            faults.push(format!("{} has a requires: it must refuse instead", function.name));
+            faults.push(format!(
+                "{} has a requires: it must refuse instead",
+                function.name
+            ));
         }
         if function.clauses_of("ensures").is_empty() {
             faults.push(format!("{} has no ensures", function.name));
@@ -210,13 +249,20 @@ fn a_weaker_contract_is_noticed() {
     for (path, function) in all {
         let ensures = function.clauses_of("ensures")[0].to_string();
         let before = sources.get(&path);
-        let at = before.find(&format!("fn {}(", function.name)).expect("the routine");
+        let at = before
+            .find(&format!("fn {}(", function.name))
+            .expect("the routine");
         let changed = before[at..].replacen(&ensures, WEAK, 1);
         let name = format!("{} {}", path.split('/').next().unwrap_or(""), function.name);
         let weak = sources.with(&path, format!("{}{}", &before[..at], changed));
         let found = CONTRACTS.differences(&weak);
         let expected = format!("{} changed: ", name);
-        assert!(found.len() == 1 && found[0].starts_with(&expected), "{}: {:?}", name, found);
+        assert!(
+            found.len() == 1 && found[0].starts_with(&expected),
+            "{}: {:?}",
+            name,
+            found
+        );
     }
 }
 
@@ -226,7 +272,10 @@ fn with_more(sources: &Sources, names: &[&String]) -> Sources {
     for name in names {
         let (path, declared) = name.split_once(' ').expect("a file and a name");
         let declarations = antt_declarations(sources.get(path));
-        let declaration = declarations.iter().find(|d| d.name == declared).expect(name);
+        let declaration = declarations
+            .iter()
+            .find(|d| d.name == declared)
+            .expect(name);
         let mut lines: Vec<String> = changed.get(path).lines().map(String::from).collect();
         lines[declaration.line - 1].push_str(" ⊤");
         changed = changed.with(path, lines.join("\n"));
@@ -242,18 +291,40 @@ fn another_statement_is_noticed() {
     for name in THEOREMS.pinned().keys() {
         let found = THEOREMS.differences(&with_more(&sources, &[name]));
         let expected = format!("{} changed: ", name);
-        assert!(found.len() == 1 && found[0].starts_with(&expected), "{}: {:?}", name, found);
+        assert!(
+            found.len() == 1 && found[0].starts_with(&expected),
+            "{}: {:?}",
+            name,
+            found
+        );
     }
     let pinned = DEFINITIONS.pinned();
-    let names: Vec<&String> = pinned.keys().filter(|name| name.contains(".antt ")).collect();
+    let names: Vec<&String> = pinned
+        .keys()
+        .filter(|name| name.contains(".antt "))
+        .collect();
     let found = DEFINITIONS.differences(&with_more(&sources, &names));
     let expected = names.iter().map(|name| format!("{} changed: ", name));
     assert_eq!(found.len(), names.len());
-    assert!(expected.zip(&found).all(|(start, line)| line.starts_with(&start)), "{:?}", found);
+    assert!(
+        expected
+            .zip(&found)
+            .all(|(start, line)| line.starts_with(&start)),
+        "{:?}",
+        found
+    );
     let path = "run_laws/specs/Theorem.antt";
-    let other = sources.get(path).replace("Schedule.{labelAt, Valid}", "Elsewhere.{labelAt, Valid}");
+    let other = sources
+        .get(path)
+        .replace("Schedule.{labelAt, Valid}", "Elsewhere.{labelAt, Valid}");
     let found = THEOREMS.differences(&sources.with(path, other));
-    assert!(found.iter().any(|line| line.starts_with(&format!("{} Safe changed", path))), "{:?}", found);
+    assert!(
+        found
+            .iter()
+            .any(|line| line.starts_with(&format!("{} Safe changed", path))),
+        "{:?}",
+        found
+    );
 }
 
 /// Each theorem has a term of that type among the proofs. A theorem is a declaration of type
@@ -269,7 +340,9 @@ fn every_theorem_is_proved() {
                 let imports = antt::imports(&source);
                 for declaration in antt_declarations(&source) {
                     let of = declaration.declared_type();
-                    let module = imports.get(&of).map(|module| module.replace("·specs.", "."));
+                    let module = imports
+                        .get(&of)
+                        .map(|module| module.replace("·specs.", "."));
                     proved.insert((module.unwrap_or_default(), of));
                 }
             }
@@ -278,7 +351,10 @@ fn every_theorem_is_proved() {
     let sources = Sources::load();
     let mut faults = Vec::new();
     for path in sources.theorem_files() {
-        let module = format!("Rattle.{}", path.trim_end_matches(".antt").replace('/', "."));
+        let module = format!(
+            "Rattle.{}",
+            path.trim_end_matches(".antt").replace('/', ".")
+        );
         for declaration in antt_declarations(sources.get(path)) {
             let is_theorem = match declaration.declared_type().as_str() {
                 "Type 0" => true,
@@ -287,8 +363,12 @@ fn every_theorem_is_proved() {
             };
             let listed = !path.ends_with("/Sheet.antt")
                 || ["Sheet", "Unstarred", "Requested"].contains(&declaration.name.as_str());
-            if is_theorem && listed && !proved.contains(&(module.clone(), declaration.name.clone())) {
-                faults.push(format!("{}: no proof has the type {}", path, declaration.name));
+            if is_theorem && listed && !proved.contains(&(module.clone(), declaration.name.clone()))
+            {
+                faults.push(format!(
+                    "{}: no proof has the type {}",
+                    path, declaration.name
+                ));
             }
         }
     }
@@ -309,7 +389,13 @@ const DISK_PASSED_ON: [(&str, &str, &[&str]); 6] = [
 const CALLERS: [(&str, &[(&str, &str)]); 4] = [
     ("store_block", &[("cache_steps", "store_write")]),
     ("store_write", &[("cache_steps", "step_sound")]),
-    ("step_sound", &[("receiver", "pelzhondy_step"), ("cache_steps", "drain_sound")]),
+    (
+        "step_sound",
+        &[
+            ("receiver", "pelzhondy_step"),
+            ("cache_steps", "drain_sound"),
+        ],
+    ),
     ("drain_sound", &[("receiver", "pelzhondy_drain")]),
 ];
 
@@ -333,7 +419,9 @@ fn stores_elsewhere(sources: &Sources) -> Vec<String> {
             }
             let is_disk = |(name, kind): &(String, String)| name == "disk" && kind == "&mut [u8]";
             if function.parameters.iter().any(is_disk) {
-                let given = made.iter().filter(|(_, with)| with.iter().any(|a| a == "disk"));
+                let given = made
+                    .iter()
+                    .filter(|(_, with)| with.iter().any(|a| a == "disk"));
                 let given: Vec<&str> = given.map(|(callee, _)| callee.as_str()).collect();
                 // A use that is no argument of its own could be a store.
                 if uses(&function.body, "disk") != given.len() {
@@ -345,7 +433,9 @@ fn stores_elsewhere(sources: &Sources) -> Vec<String> {
         // A call outside of what is taken for a function would not be seen.
         let whole = without_comments(source);
         let named: usize = CALLERS.iter().map(|(callee, _)| uses(&whole, callee)).sum();
-        let declared = CALLERS.iter().map(|(callee, _)| uses(&whole, &format!("fn {}", callee)));
+        let declared = CALLERS
+            .iter()
+            .map(|(callee, _)| uses(&whole, &format!("fn {}", callee)));
         if named != calls_made + declared.sum::<usize>() {
             faults.push(format!("{} names one of them other than in a call", path));
         }
@@ -355,32 +445,154 @@ fn stores_elsewhere(sources: &Sources) -> Vec<String> {
         .map(|(name, function, to)| format!("{}::{} passes its disk to {:?}", name, function, to));
     faults.extend(lent.symmetric_difference(&known.collect()).cloned());
     let known = CALLERS.iter().flat_map(|(callee, by)| {
-        by.iter().map(move |(name, function)| format!("{}::{} calls {} (1)", name, function, callee))
+        by.iter()
+            .map(move |(name, function)| format!("{}::{} calls {} (1)", name, function, callee))
     });
     faults.extend(callers.symmetric_difference(&known.collect()).cloned());
     faults
 }
 
-/// The benchmark counts the turns of copies: they must be copies.
+/// The sources with another text in place of the first that is so.
+fn edited(sources: &Sources, path: &str, old: &str, new: &str) -> Sources {
+    let before = sources.get(path);
+    assert!(before.contains(old), "{} has no {}", path, old);
+    sources.with(path, before.replacen(old, new, 1))
+}
+
+/// What the benchmark has copies of.
+const COPIED: [(&str, &str); 6] = [
+    ("judge_schedules", "first_half"),
+    ("judge_schedules", "first_flags"),
+    ("judge_schedules", "is_valid"),
+    ("judge_schedules", "may_begin"),
+    ("judge_schedules", "may_end"),
+    ("judge_counting", "joined"),
+];
+
+/// Who asks a question of judging, which, and how: what is answered no is passed over.
+const ASKED: [(&str, &str, &str, &str); 5] = [
+    (
+        "judge_schedules",
+        "list_ends",
+        "may_end",
+        "if !may_end(high, near, y) { y += 1; continue 'ends; } ends[many] = y;",
+    ),
+    (
+        "judge_counting",
+        "count_by",
+        "may_begin",
+        "if !judge_schedules::may_begin(low, near, x) { x += 1; continue 'beginnings; }",
+    ),
+    (
+        "judge_counting",
+        "count_after",
+        "is_valid",
+        "let y = ends[k]; let s = joined(x, near, y); \
+         if !judge_schedules::is_valid(low, high, near, s) { k += 1; continue 'schedules; }",
+    ),
+    (
+        "judge_counting",
+        "search_by",
+        "may_begin",
+        "if !judge_schedules::may_begin(low, near, x) { x += 1; continue 'beginnings; }",
+    ),
+    (
+        "judge_counting",
+        "bad_end",
+        "is_valid",
+        "let y = ends[k]; \
+         if !judge_schedules::is_valid(low, high, near, joined(x, near, y)) \
+         { k += 1; continue 'search; }",
+    ),
+];
+
+/// The body of a function, if there is one of that name.
+fn body_of(source: &str, name: &str) -> Option<String> {
+    functions(source)
+        .into_iter()
+        .find(|function| function.name == name)
+        .map(|function| function.body)
+}
+
+/// What is against it that the turns counted are those of the code: copies with other words, a
+/// question asked in another way, or one more of them.
+fn turns_elsewhere(sources: &Sources) -> Vec<String> {
+    let mut faults = Vec::new();
+    let copies = text(&target("tests/benchmark/src/turns.rs"));
+    let code = |name: &str| sources.get(&format!("{}/src/lib.rt", name)).to_string();
+    for (name, function) in COPIED {
+        let body = body_of(&code(name), function);
+        if body.is_none() || body != body_of(&copies, function) {
+            faults.push(format!("{}::{} is not what was copied", name, function));
+        }
+    }
+    for (name, function, question, words) in ASKED {
+        let body = body_of(&code(name), function).unwrap_or_default();
+        if !body.contains(words) || uses(&body, question) != 1 {
+            faults.push(format!(
+                "{}::{} does not ask {} once, and so",
+                name, function, question
+            ));
+        }
+    }
+    // Another function could ask as well.
+    for path in sources.code() {
+        let all = functions(sources.get(path));
+        for question in ["is_valid", "may_begin", "may_end"] {
+            let known = ASKED.iter().filter(|(_, _, asked, _)| *asked == question);
+            let known = known
+                .filter(|(name, ..)| path.split('/').next() == Some(name))
+                .count();
+            let made: usize = all
+                .iter()
+                .map(|function| uses(&function.body, question))
+                .sum();
+            if made != known {
+                faults.push(format!("{} asks {} {} times", path, question, made));
+            }
+        }
+    }
+    faults
+}
+
 #[test]
 fn the_turns_counted_are_those_of_the_code() {
-    let copies = functions(&text(&target("tests/benchmark/src/turns.rs")));
-    let code = functions(&text(&target("judge_schedules/src/lib.rt")));
-    for name in ["is_valid", "past_invalid"] {
-        let body = |functions: &[code::Function]| {
-            let found = functions.iter().find(|function| function.name == name);
-            found.unwrap_or_else(|| panic!("there is no {}", name)).body.clone()
-        };
-        assert_eq!(body(&copies), body(&code), "{}", name);
+    none(turns_elsewhere(&Sources::load()));
+}
+
+/// Each of these would begin other turns than those counted.
+#[test]
+fn other_turns_are_noticed() {
+    let sources = Sources::load();
+    for (name, old, new) in [
+        (
+            "judge_schedules",
+            "if first & s != first {",
+            "if first & s > first {",
+        ),
+        ("judge_schedules", "(n + 1) / 2", "n / 2"),
+        (
+            "judge_schedules",
+            "if !may_end(",
+            "if !may_end(high, near, 0) && !may_end(",
+        ),
+        ("judge_counting", "x | (y << near)", "x + (y << near)"),
+        ("judge_counting", "let y = ends[k];", "let y = k as u64;"),
+        ("judge_counting", "::may_begin(low", "::may_begin(high"),
+        (
+            "judge_counting",
+            "::first_half(n);",
+            "::first_half(n);\n    judge_schedules::may_begin(low, near, 0);",
+        ),
+        (
+            "find_table",
+            "{\n    let ",
+            "{\n    judge_schedules::is_valid(low, high, near, 0);\n    let ",
+        ),
+    ] {
+        let changed = edited(&sources, &format!("{}/src/lib.rt", name), old, new);
+        assert_ne!(turns_elsewhere(&changed), [""; 0], "{} for {}", new, old);
     }
-    // The verdict asks both in turn, as the copy's step does, and neither anywhere else.
-    let all = functions(&text(&target("judge_counting/src/lib.rt")));
-    let search = all.iter().find(|function| function.name == "first_bad").expect("first_bad");
-    let asked = "let from = judge_schedules::past_invalid(high, s, total); \
-                 if from != s { s = from; continue 'search; } \
-                 if !judge_schedules::is_valid(low, high, s) { s += 1; continue 'search; }";
-    assert!(search.body.contains(asked), "{}", search.body);
-    assert_eq!((uses(&search.body, "is_valid"), uses(&search.body, "past_invalid")), (1, 1));
 }
 
 #[test]
@@ -394,16 +606,212 @@ fn another_store_is_noticed() {
     let sources = Sources::load();
     for (path, old, new) in [
         ("cache_steps/src/lib.rt", "= step_sound(", "= store_write("),
-        ("cache_steps/src/lib.rt", "    store_write(", "    // store_write("),
-        ("cache_steps/src/lib.rt", "    store_write(", "    store_write(state, disk, 0);\n    store_write("),
-        ("cache_steps/src/lib.rt", "    store_write(", "    disk[0] = 0;\n    store_write("),
-        ("cache_steps/src/lib.rt", "    store_write(", "    let d = disk;\n    store_write("),
+        (
+            "cache_steps/src/lib.rt",
+            "    store_write(",
+            "    // store_write(",
+        ),
+        (
+            "cache_steps/src/lib.rt",
+            "    store_write(",
+            "    store_write(state, disk, 0);\n    store_write(",
+        ),
+        (
+            "cache_steps/src/lib.rt",
+            "    store_write(",
+            "    disk[0] = 0;\n    store_write(",
+        ),
+        (
+            "cache_steps/src/lib.rt",
+            "    store_write(",
+            "    let d = disk;\n    store_write(",
+        ),
         ("cache_steps/src/lib.rt", "disk: &[u8]", "disk: &mut [u8]"),
-        ("receiver/src/lib.rt", "    cache_appending::append(", "    cache_stores::store_block(state, w);\n    cache_appending::append("),
-        ("cache_appending/src/lib.rt", "pub fn append(", "pub fn append(disk: &mut [u8], "),
+        (
+            "receiver/src/lib.rt",
+            "    cache_stores::append(",
+            "    cache_stores::store_block(state, w);\n    cache_stores::append(",
+        ),
+        (
+            "cache_stores/src/lib.rt",
+            "pub fn append(",
+            "pub fn append(disk: &mut [u8], ",
+        ),
     ] {
-        let changed = sources.get(path).replacen(old, new, 1);
-        assert_ne!(changed, sources.get(path), "{} has no {}", path, old);
-        assert_ne!(stores_elsewhere(&sources.with(path, changed)), [""; 0], "{} for {}", new, old);
+        let changed = edited(&sources, path, old, new);
+        assert_ne!(stores_elsewhere(&changed), [""; 0], "{} for {}", new, old);
+    }
+}
+
+/// With a crate more or less, or one that names others, crates.txt is renewed by 'make crates'.
+#[test]
+fn the_crates_listed_are_those_needed() {
+    none(faults_in(&text(&root().join("crates.txt")), &named()));
+}
+
+/// Where each crate first stands in a drawing: its line, and its place there.
+fn drawn(drawing: &str, named: &Crates) -> BTreeMap<String, (usize, usize)> {
+    let mut places = BTreeMap::new();
+    for (row, line) in drawing.lines().enumerate() {
+        let words = line.split(|c: char| !(c.is_ascii_lowercase() || c == '_'));
+        for word in words.filter(|word| named.contains_key(*word)) {
+            let column = word.as_ptr() as usize - line.as_ptr() as usize;
+            places.entry(word.to_string()).or_insert((row, column));
+        }
+    }
+    places
+}
+
+/// What is wrong with a drawing: a crate that is not in it, or that stands below what it names.
+fn faults_drawn(drawing: &str, named: &Crates) -> Vec<String> {
+    let places = drawn(drawing, named);
+    let mut faults = Vec::new();
+    for (name, below) in named {
+        match places.get(name) {
+            None => faults.push(format!("{} is not drawn", name)),
+            Some(place) => {
+                let above =
+                    |other: &&String| places.get(*other).map_or(false, |there| there < place);
+                let told = below
+                    .iter()
+                    .filter(above)
+                    .map(|other| format!("{} is drawn below {}", name, other));
+                faults.extend(told);
+            }
+        }
+    }
+    faults
+}
+
+fn drawing() -> String {
+    let page = text(&root().join("docs/ARCHITECTURE.md"));
+    page.split("```").nth(1).expect("a drawing").to_string()
+}
+
+/// The page says that what a crate stands on is drawn below it, or to its right.
+#[test]
+fn the_drawing_is_of_the_crates() {
+    none(faults_drawn(&drawing(), &named()));
+}
+
+#[test]
+fn another_drawing_is_noticed() {
+    for (old, new) in [
+        ("find_sets", "find"),
+        ("judge_cases", "judge_disks"),
+        ("log_puts ", "log_trace"),
+        ("log_trace", "log_puts "),
+    ] {
+        let changed = drawing().replacen(old, new, 1);
+        assert_ne!(
+            faults_drawn(&changed, &named()),
+            [""; 0],
+            "{} for {}",
+            new,
+            old
+        );
+    }
+}
+
+/// Crates that name others, in no order.
+fn some_crates() -> Crates {
+    let crates: [(&str, &[&str]); 7] = [
+        ("exports", &["log_get"]),
+        ("file_calls", &["rule_match"]),
+        ("file_text", &["model"]),
+        ("log_get", &["judge", "file_text"]),
+        ("judge", &["model", "io"]),
+        ("model", &[]),
+        ("rule_match", &["model"]),
+    ];
+    let names = |others: &[&str]| others.iter().map(|other| other.to_string()).collect();
+    crates
+        .into_iter()
+        .map(|(name, others)| (name.to_string(), names(others)))
+        .collect()
+}
+
+#[test]
+fn crates_stand_behind_those_below_them() {
+    let expected = [
+        "model:",
+        "file_text: model",
+        "rule_match: model",
+        "file_calls: model rule_match",
+        "judge: model io",
+        "log_get: model file_text judge io",
+        "exports: model file_text judge log_get io",
+    ];
+    let whole = listing(&some_crates());
+    let lines: Vec<&str> = whole
+        .lines()
+        .filter(|line| !line.starts_with('#'))
+        .collect();
+    assert_eq!(lines, expected);
+}
+
+#[test]
+fn another_list_of_crates_is_noticed() {
+    let right = listing(&some_crates());
+    assert_eq!(faults_in(&right, &some_crates()), [""; 0]);
+    for (old, new, fault) in [
+        ("file_text: model\n", "", "file_text is not listed"),
+        (
+            "model:\n",
+            "model:\nlens: model\n",
+            "lens is listed, and there is no such crate",
+        ),
+        (
+            "log_get: model file_text",
+            "log_get: model",
+            "log_get needs file_text",
+        ),
+        ("judge: model io\n", "judge: model\n", "judge needs io"),
+        (
+            "rule_match: model\n",
+            "rule_match: model log_get\n",
+            "rule_match names log_get and does not need it",
+        ),
+        (
+            "model:\nfile_text: model\n",
+            "file_text: model\nmodel:\n",
+            "line 3 is not what 'make crates' writes",
+        ),
+        (
+            "file_calls: model rule_match",
+            "file_calls: rule_match model",
+            "line 6 is not what 'make crates' writes",
+        ),
+    ] {
+        assert_eq!(right.matches(old).count(), 1, "{}", old);
+        assert_eq!(faults_in(&right.replace(old, new), &some_crates()), [fault]);
+    }
+}
+
+#[test]
+#[should_panic(expected = "name each other: judge log_get exports")]
+fn crates_that_name_each_other_are_noticed() {
+    let mut crates = some_crates();
+    crates
+        .get_mut("judge")
+        .expect("a crate")
+        .insert("exports".to_string());
+    listing(&crates);
+}
+
+/// Comments name no crate, and neither does what is no path's beginning.
+#[test]
+fn crates_are_named_in_modules_and_paths() {
+    let code = "use one::Two; // three::four\nghost use Rattle.five.specs.Six.{seven};\n\
+                // Rattle.eight.specs\nlet n = nine::ten::eleven(\"//\", twelve.len::<u8>());\n";
+    let specs = "use Rattle.one.specs.Two.{three}\n-- Rattle.four.specs\n\
+                 use Rattle.five.specs.Six as Six\nsix : nine::ten\n";
+    for (file, source, expected) in [
+        ("lib.rt", code, vec!["five", "nine", "one"]),
+        ("Six.antt", specs, vec!["five", "one"]),
+        ("stdin", code, vec![]),
+    ] {
+        let found: Vec<String> = named_in(file, source).into_iter().collect();
+        assert_eq!(found, expected, "{}", file);
     }
 }

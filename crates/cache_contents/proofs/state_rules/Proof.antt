@@ -1,15 +1,16 @@
--- `contents::state_rules` meets its contract. The invariant: the first i rules are read.
+-- `cache_contents::state_rules` meets its contract. The invariant: the first i rules are loaded.
+use Prim.Native.Nat.{_-_, _≤_}
 use mathlib.Core.Path.{_≡_}
-use Prim.Native.Nat.{_≤_, _-_}
 use lib.ListN.{length, take}
 use Rattle.relation.specs.Lists.{tabulate}
+use Rattle.model.specs.Limits.{mostRules}
 use Rattle.cache_model.specs.State.{ruleIn}
 use Rattle.cache_contents.proofs.ContentSteps.{reading}
 use Rattle.cache_contents.proofs.state_rules.Statement.{statement}
 use Rattle.cache_contents.proofs.state_rules.Tie as tie
 
 abbrev Inv-loop : tie.InvT-loop
-Inv-loop state n items₀ i₀ items i = (i ≤ n) × (length items ≡ 32) × (take i items ≡ tabulate (ruleIn state) i)
+Inv-loop state n items₀ i₀ items i = (i ≤ n) × (length items ≡ mostRules) × (take i items ≡ tabulate (ruleIn state) i)
 
 abbrev μ-loop : tie.MeasureT-loop
 μ-loop state n items₀ i₀ items i = n - i
@@ -23,14 +24,26 @@ wide-requires c κs = search reading
 loop-holds : tie.Need-loop-holds Inv-loop μ-loop
 loop-holds c = search reading
 
-mul-rule-at : tie.Need-mul-rule-at Inv-loop μ-loop
-mul-rule-at c = search reading
+mul-b : tie.Need-mul-b Inv-loop μ-loop
+mul-b c = search reading
 
-add-rule-at : tie.Need-add-rule-at Inv-loop μ-loop
-add-rule-at c = search reading
+add-b : tie.Need-add-b Inv-loop μ-loop
+add-b c = search reading
 
-rule-at-requires : tie.Need-rule-at-requires Inv-loop μ-loop
-rule-at-requires c κs = search reading
+add-e : tie.Need-add-e Inv-loop μ-loop
+add-e c = search reading
+
+sub-read-rule : tie.Need-sub-read-rule Inv-loop μ-loop
+sub-read-rule c = search reading
+
+part-read-rule-start : tie.Need-part-read-rule-start Inv-loop μ-loop
+part-read-rule-start c = search reading
+
+part-read-rule-end : tie.Need-part-read-rule-end Inv-loop μ-loop
+part-read-rule-end c = search reading
+
+read-rule-requires : tie.Need-read-rule-requires Inv-loop μ-loop
+read-rule-requires c κs = search reading
 
 mul-items : tie.Need-mul-items Inv-loop μ-loop
 mul-items c = search reading
@@ -45,7 +58,7 @@ loop-less : tie.Need-loop-less Inv-loop μ-loop
 loop-less c = search reading
 
 loop-again : tie.Need-loop-again Inv-loop μ-loop
-loop-again c = search reading
+loop-again c = (search reading, search reading, search reading)
 
 returns : tie.Need-returns Inv-loop μ-loop
 returns c = search reading
@@ -59,9 +72,13 @@ state-rules-spec =
     shared-slice-read-wide
     wide-requires
     loop-holds
-    mul-rule-at
-    add-rule-at
-    rule-at-requires
+    mul-b
+    add-b
+    add-e
+    sub-read-rule
+    part-read-rule-start
+    part-read-rule-end
+    read-rule-requires
     mul-items
     array-set-from-items
     add-i

@@ -1,4 +1,4 @@
--- `handing::closes_ring` meets its contract: the closure of the table with w has a loop exactly if there is a ring (`ring-closed`).
+-- `cache_handin::closes_ring` meets its contract: the closure of the table with w has a loop exactly if there is a ring (`ring-closed`).
 use Rattle.cache_handin.proofs.HandInSteps.{ringing}
 use Rattle.cache_handin.proofs.closes_ring.Statement.{statement}
 use Rattle.cache_handin.proofs.closes_ring.Tie as tie

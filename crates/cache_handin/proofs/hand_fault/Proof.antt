@@ -1,4 +1,4 @@
--- `handing::hand_fault` meets its contract: one law for each of its returns.
+-- `cache_handin::hand_fault` meets its contract: one law for each of its returns.
 use Rattle.cache_handin.proofs.HandInSteps.{faulting}
 use Rattle.cache_handin.proofs.hand_fault.Statement.{statement}
 use Rattle.cache_handin.proofs.hand_fault.Tie as tie
@@ -11,6 +11,9 @@ is-sound-requires c κs = search faulting
 
 returns-2 : tie.Need-returns-2
 returns-2 c = search faulting
+
+cast-if3 : tie.Need-cast-if3
+cast-if3 c = search faulting
 
 shared-slice-read-if3 : tie.Need-shared-slice-read-if3
 shared-slice-read-if3 c = search faulting
@@ -43,6 +46,7 @@ hand-fault-spec =
     returns
     is-sound-requires
     returns-2
+    cast-if3
     shared-slice-read-if3
     returns-3
     state-rules-requires

@@ -1,4 +1,4 @@
--- `handing::is_late` meets its contract. The invariant: no write below i makes it late.
+-- `cache_handin::is_late` meets its contract. The invariant: no write below i makes it late.
 use mathlib.Core.Path.{_≡_}
 use mathlib.Core.Bool.{false}
 use Prim.Native.Nat.{_≤_, _-_}

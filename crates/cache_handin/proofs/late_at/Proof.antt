@@ -1,4 +1,4 @@
--- `handing::late_at` meets its contract: one law for each of its returns.
+-- `cache_handin::late_at` meets its contract: one law for each of its returns.
 use Rattle.cache_handin.proofs.HandInSteps.{lateness}
 use Rattle.cache_handin.proofs.late_at.Statement.{statement}
 use Rattle.cache_handin.proofs.late_at.Tie as tie

@@ -1,4 +1,4 @@
--- `layout::are_zero` meets its contract. The invariant: the bytes up to k are zero.
+-- `cache_layout::are_zero` meets its contract. The invariant: the bytes up to k are zero.
 use mathlib.Core.Path.{_≡_}
 use mathlib.Core.Bool.{true}
 use Prim.Native.Nat.{_≤_, _-_}

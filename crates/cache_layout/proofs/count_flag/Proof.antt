@@ -1,4 +1,4 @@
--- `layout::count_flag` meets its contract, by the cases of its definition.
+-- `cache_layout::count_flag` meets its contract, by the cases of its definition.
 use Rattle.relation.proofs.Cases.{cases}
 use Rattle.cache_layout.proofs.count_flag.Statement.{statement}
 use Rattle.cache_layout.proofs.count_flag.Tie as tie

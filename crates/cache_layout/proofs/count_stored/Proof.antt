@@ -1,4 +1,4 @@
--- `layout::count_stored` meets its contract. The invariant: the flags below i are counted.
+-- `cache_layout::count_stored` meets its contract. The invariant: the flags below i are counted.
 use mathlib.Core.Path.{_≡_}
 use Prim.Native.Nat.{_≤_, _-_}
 use Rattle.model.specs.Test.{countBelow}

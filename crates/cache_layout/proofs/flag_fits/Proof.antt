@@ -1,4 +1,4 @@
--- `layout::flag_fits` meets its contract, by the cases of its definition.
+-- `cache_layout::flag_fits` meets its contract, by the cases of its definition.
 use Rattle.relation.proofs.Cases.{cases}
 use Rattle.cache_layout.proofs.flag_fits.Statement.{statement}
 use Rattle.cache_layout.proofs.flag_fits.Tie as tie

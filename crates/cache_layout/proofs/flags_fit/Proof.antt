@@ -1,4 +1,4 @@
--- `layout::flags_fit` meets its contract. The invariant: the flags below i fit.
+-- `cache_layout::flags_fit` meets its contract. The invariant: the flags below i fit.
 use mathlib.Core.Path.{_≡_}
 use mathlib.Core.Bool.{true}
 use Prim.Native.Nat.{_≤_, _-_}

@@ -1,13 +1,19 @@
--- `layout::has_layout` meets its contract: one law for each of its returns.
+-- `cache_layout::has_layout` meets its contract: one law for each of its returns.
 use Rattle.cache_layout.proofs.HasLayoutSteps.{laying}
 use Rattle.cache_layout.proofs.has_layout.Statement.{statement}
 use Rattle.cache_layout.proofs.has_layout.Tie as tie
+
+cast-if1 : tie.Need-cast-if1
+cast-if1 c = search laying
 
 shared-slice-read-if1 : tie.Need-shared-slice-read-if1
 shared-slice-read-if1 c = search laying
 
 returns : tie.Need-returns
 returns c = search laying
+
+cast-if2 : tie.Need-cast-if2
+cast-if2 c = search laying
 
 shared-slice-read-if2 : tie.Need-shared-slice-read-if2
 shared-slice-read-if2 c = search laying
@@ -67,8 +73,10 @@ pub has-layout-spec : {M : Type 1} → statement M
 has-layout-spec =
     tie.close
     (tie.spec
+    cast-if1
     shared-slice-read-if1
     returns
+    cast-if2
     shared-slice-read-if2
     returns-2
     shared-slice-read-if3

@@ -1,4 +1,4 @@
--- `layout::stored_mask` meets its contract. The invariant: the mask has the flags below i.
+-- `cache_layout::stored_mask` meets its contract. The invariant: the mask has the flags below i.
 use mathlib.Core.Path.{_≡_}
 use Prim.Native.Nat.{_≤_, _-_}
 use Rattle.relation.specs.Bits.{maskOf}

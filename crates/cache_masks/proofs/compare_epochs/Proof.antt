@@ -1,4 +1,4 @@
--- `masks::compare_epochs` meets its contract. The invariant: the masks have the bits below j.
+-- `cache_masks::compare_epochs` meets its contract. The invariant: the masks have the bits below j.
 use mathlib.Core.Path.{_≡_}
 use Prim.Native.Nat.{_≤_, _-_}
 use borrow.Author.Needs.{needs}

@@ -1,4 +1,4 @@
--- `masks::needs_write` meets its contract: one law for each of its returns.
+-- `cache_masks::needs_write` meets its contract: one law for each of its returns.
 use Rattle.cache_masks.proofs.MaskSteps.{masks}
 use Rattle.cache_masks.proofs.needs_write.Statement.{statement}
 use Rattle.cache_masks.proofs.needs_write.Tie as tie

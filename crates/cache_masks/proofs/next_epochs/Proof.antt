@@ -1,4 +1,4 @@
--- `masks::next_epochs` meets its contract: one law for each of its returns.
+-- `cache_masks::next_epochs` meets its contract: one law for each of its returns.
 use Rattle.cache_masks.proofs.MaskSteps.{comparing}
 use Rattle.cache_masks.proofs.next_epochs.Statement.{statement}
 use Rattle.cache_masks.proofs.next_epochs.Tie as tie

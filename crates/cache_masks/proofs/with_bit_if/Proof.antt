@@ -1,4 +1,4 @@
--- `masks::with_bit_if` meets its contract: one law for each of its returns.
+-- `cache_masks::with_bit_if` meets its contract: one law for each of its returns.
 use Rattle.cache_masks.proofs.MaskSteps.{masks}
 use Rattle.cache_masks.proofs.with_bit_if.Statement.{statement}
 use Rattle.cache_masks.proofs.with_bit_if.Tie as tie

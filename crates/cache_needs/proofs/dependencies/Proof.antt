@@ -1,4 +1,4 @@
--- `needs::dependencies` meets its contract. The invariant: the mask has what the first k rules pair with the write.
+-- `cache_needs::dependencies` meets its contract. The invariant: the mask has what the first k rules pair with the write.
 use mathlib.Core.Path.{_≡_}
 use Prim.Native.Nat.{_≤_, _-_}
 use Rattle.cache_masks.specs.Masks.{pairedBy}

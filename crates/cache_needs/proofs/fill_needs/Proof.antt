@@ -1,7 +1,8 @@
--- `needs::fill_needs` meets its contract. The invariant: n is the count of the accepted writes, epochs says how the epochs stand to t, and the first i rows are filled.
+-- `cache_needs::fill_needs` meets its contract. The invariant: n is the count of the accepted writes, epochs says how the epochs stand to t, and the first i rows are filled.
 use mathlib.Core.Path.{_≡_}
 use Prim.Native.Nat.{_≤_, _-_}
 use lib.ListN.{length, take}
+use Rattle.model.specs.Limits.{mostHeld}
 use Rattle.rule_match.specs.Held.{rulesOf}
 use Rattle.cache_model.specs.Needs.{needs}
 use Rattle.cache_model.specs.State.{acceptedCount, writesIn}
@@ -12,7 +13,7 @@ use Rattle.cache_needs.proofs.fill_needs.Statement.{statement}
 use Rattle.cache_needs.proofs.fill_needs.Tie as tie
 
 abbrev Inv-loop : tie.InvT-loop
-Inv-loop rows₀ state rules n seconds t₀ epochs₀ i₀ rows t epochs i = (i ≤ n) × (n ≡ acceptedCount state) × (n ≤ 64) × (length rows ≡ 64) × Compared state t epochs × (take i rows ≡ rowsFrom (needs (rulesOf rules) (writesIn state)) (acceptedCount state) i)
+Inv-loop rows₀ state rules n seconds t₀ epochs₀ i₀ rows t epochs i = (i ≤ n) × (n ≡ acceptedCount state) × (n ≤ mostHeld) × (length rows ≡ 64) × Compared state t epochs × (take i rows ≡ rowsFrom (needs (rulesOf rules) (writesIn state)) (acceptedCount state) i)
 
 abbrev μ-loop : tie.MeasureT-loop
 μ-loop rows₀ state rules n seconds t₀ epochs₀ i₀ rows t epochs i = n - i

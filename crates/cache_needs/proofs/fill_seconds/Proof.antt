@@ -1,4 +1,4 @@
--- `needs::fill_seconds` meets its contract. The invariant: the first k masks are filled in.
+-- `cache_needs::fill_seconds` meets its contract. The invariant: the first k masks are filled in.
 use mathlib.Core.Path.{_≡_}
 use Prim.Native.Nat.{_≤_, _-_}
 use lib.ListN.{length, take}

@@ -1,4 +1,4 @@
--- `needs::fill_with` meets its contract. The invariant: the first i rows are filled.
+-- `cache_needs::fill_with` meets its contract. The invariant: the first i rows are filled.
 use mathlib.Core.Path.{_≡_}
 use Prim.Native.Nat.{_≤_, _+_, _-_}
 use lib.ListN.{length, take}

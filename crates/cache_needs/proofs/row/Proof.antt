@@ -1,4 +1,4 @@
--- `needs::row` meets its contract: what u depends on and the earlier writes to its address are joined (`row-joined`).
+-- `cache_needs::row` meets its contract: what u depends on and the earlier writes to its address are joined (`row-joined`).
 use Rattle.cache_needs.proofs.NeedSteps.{pairing}
 use Rattle.cache_needs.proofs.row.Statement.{statement}
 use Rattle.cache_needs.proofs.row.Tie as tie

@@ -1,4 +1,4 @@
--- `needs::standing` meets its contract: one law for each of its returns.
+-- `cache_needs::standing` meets its contract: one law for each of its returns.
 use Rattle.cache_needs.proofs.NeedSteps.{pairing}
 use Rattle.cache_needs.proofs.standing.Statement.{statement}
 use Rattle.cache_needs.proofs.standing.Tie as tie

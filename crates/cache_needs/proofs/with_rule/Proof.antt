@@ -1,4 +1,4 @@
--- `needs::with_rule` meets its contract: one law for each of its returns.
+-- `cache_needs::with_rule` meets its contract: one law for each of its returns.
 use Rattle.cache_needs.proofs.NeedSteps.{pairing}
 use Rattle.cache_needs.proofs.with_rule.Statement.{statement}
 use Rattle.cache_needs.proofs.with_rule.Tie as tie

@@ -1,4 +1,4 @@
--- `opening::clear` meets its contract. The invariant: the first i bytes are zero.
+-- `cache_opening::clear` meets its contract. The invariant: the first i bytes are zero.
 use mathlib.Core.Path.{_≡_}
 use Prim.Native.Nat.{_≤_, _-_}
 use lib.ListN.{length, take, replicate}

@@ -1,4 +1,4 @@
--- `opening::open_with` meets its contract: one law for each of its returns.
+-- `cache_opening::open_with` meets its contract: one law for each of its returns.
 use Rattle.cache_opening.proofs.OpenSteps.{beginning}
 use Rattle.cache_opening.proofs.open_with.Statement.{statement}
 use Rattle.cache_opening.proofs.open_with.Tie as tie

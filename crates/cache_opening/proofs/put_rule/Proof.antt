@@ -1,4 +1,4 @@
--- `opening::put_rule` meets its contract: the three bytes are those of the definition.
+-- `cache_opening::put_rule` meets its contract: the three bytes are those of the definition.
 use Rattle.cache_opening.proofs.OpenSteps.{putting}
 use Rattle.cache_opening.proofs.put_rule.Statement.{statement}
 use Rattle.cache_opening.proofs.put_rule.Tie as tie

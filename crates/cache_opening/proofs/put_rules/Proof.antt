@@ -1,4 +1,4 @@
--- `opening::put_rules` meets its contract. The invariant: the first i rules are written.
+-- `cache_opening::put_rules` meets its contract. The invariant: the first i rules are written.
 use mathlib.Core.Path.{_≡_}
 use Prim.Native.Nat.{_≤_, _-_}
 use lib.ListN.{length, take}

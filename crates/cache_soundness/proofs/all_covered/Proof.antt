@@ -1,4 +1,4 @@
--- `soundness::all_covered` meets its contract. The invariant: the rows below i are covered.
+-- `cache_soundness::all_covered` meets its contract. The invariant: the rows below i are covered.
 use mathlib.Core.Path.{_≡_}
 use mathlib.Core.Bool.{true}
 use Prim.Native.Nat.{_≤_, _-_}

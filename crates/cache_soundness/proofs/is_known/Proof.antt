@@ -1,4 +1,4 @@
--- `soundness::is_known` meets its contract. The invariant: the first k predicates are known.
+-- `cache_soundness::is_known` meets its contract. The invariant: the first k predicates are known.
 use mathlib.Core.Path.{_≡_}
 use mathlib.Core.Bool.{true}
 use Prim.Native.Nat.{_≤_, _-_}

@@ -1,4 +1,4 @@
--- `soundness::is_sound` meets its contract: one law for each of its returns.
+-- `cache_soundness::is_sound` meets its contract: one law for each of its returns.
 use Rattle.cache_soundness.proofs.SoundSteps.{sounding}
 use Rattle.cache_soundness.proofs.is_sound.Statement.{statement}
 use Rattle.cache_soundness.proofs.is_sound.Tie as tie

@@ -1,4 +1,4 @@
--- `soundness::needs_hold` meets its contract: one law for each of its returns.
+-- `cache_soundness::needs_hold` meets its contract: one law for each of its returns.
 use Rattle.cache_soundness.proofs.SoundSteps.{holding}
 use Rattle.cache_soundness.proofs.needs_hold.Statement.{statement}
 use Rattle.cache_soundness.proofs.needs_hold.Tie as tie

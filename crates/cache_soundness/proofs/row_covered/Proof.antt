@@ -1,4 +1,4 @@
--- `soundness::row_covered` meets its contract: one law for each of its returns.
+-- `cache_soundness::row_covered` meets its contract: one law for each of its returns.
 use Rattle.cache_soundness.proofs.PartSteps.{covering}
 use Rattle.cache_soundness.proofs.row_covered.Statement.{statement}
 use Rattle.cache_soundness.proofs.row_covered.Tie as tie

@@ -1,4 +1,4 @@
--- `storing::drain_sound` meets its contract. The invariant: the state is sound, rows has its needs and done its stored writes, and after so many rounds state and disk are those after so many steps, in their order.
+-- `cache_steps::drain_sound` meets its contract. The invariant: the state is sound, rows has its needs and done its stored writes, and after so many rounds state and disk are those after so many steps, in their order.
 use mathlib.Core.Path.{_≡_}
 use mathlib.Core.Bool.{true}
 use Prim.Native.Nat.{_≤_, _-_}

@@ -1,4 +1,4 @@
--- `storing::fault` meets its contract, by the cases of its definition.
+-- `cache_steps::fault` meets its contract, by the cases of its definition.
 use Rattle.relation.proofs.Cases.{calls}
 use Rattle.cache_soundness.proofs.SoundSteps.{untabled}
 use Rattle.cache_steps.specs.Given.{faultBy, callFault}

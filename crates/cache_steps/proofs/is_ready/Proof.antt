@@ -1,4 +1,4 @@
--- `storing::is_ready` meets its contract: one law for each of its returns.
+-- `cache_steps::is_ready` meets its contract: one law for each of its returns.
 use Rattle.cache_steps.proofs.StepLaws.{readying}
 use Rattle.cache_steps.proofs.is_ready.Statement.{statement}
 use Rattle.cache_steps.proofs.is_ready.Tie as tie

@@ -1,4 +1,4 @@
--- `storing::ready` meets its contract. The invariant: no write below i is the one.
+-- `cache_steps::ready` meets its contract. The invariant: no write below i is the one.
 use Prim.Native.Nat.{_≤_, _-_}
 use Rattle.cache_steps.proofs.StepLaws.{readyBy, Sought}
 use Rattle.cache_steps.proofs.StepLaws.{readying}

@@ -1,4 +1,4 @@
--- `storing::step_sound` meets its contract: one law for each of its returns.
+-- `cache_steps::step_sound` meets its contract: one law for each of its returns.
 use Rattle.cache_steps.proofs.StepLaws.{stepping}
 use Rattle.cache_steps.proofs.step_sound.Statement.{statement}
 use Rattle.cache_steps.proofs.step_sound.Tie as tie

@@ -1,4 +1,4 @@
--- `storing::store_write` meets its contract: its callees' promises together.
+-- `cache_steps::store_write` meets its contract: its callees' promises together.
 use Rattle.cache_steps.proofs.StepLaws.{stepping}
 use Rattle.cache_steps.proofs.store_write.Statement.{statement}
 use Rattle.cache_steps.proofs.store_write.Tie as tie

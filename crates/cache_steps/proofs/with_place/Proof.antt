@@ -1,4 +1,4 @@
--- `storing::with_place` meets its contract: one law for each of its returns.
+-- `cache_steps::with_place` meets its contract: one law for each of its returns.
 use Rattle.cache_steps.proofs.StepLaws.{placing}
 use Rattle.cache_steps.proofs.with_place.Statement.{statement}
 use Rattle.cache_steps.proofs.with_place.Tie as tie

@@ -1,4 +1,4 @@
--- `stores::mark` meets its contract: the two bytes are those of the definition.
+-- `cache_stores::mark` meets its contract: the two bytes are those of the definition.
 use Rattle.cache_stores.proofs.StoreSteps.{storing-steps}
 use Rattle.cache_stores.proofs.mark.Statement.{statement}
 use Rattle.cache_stores.proofs.mark.Tie as tie

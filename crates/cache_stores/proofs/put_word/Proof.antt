@@ -1,4 +1,4 @@
--- `stores::put_word` meets its contract: the four bytes are those of the definition.
+-- `cache_stores::put_word` meets its contract: the four bytes are those of the definition.
 use Rattle.cache_stores.proofs.StoreSteps.{storing-steps}
 use Rattle.cache_stores.proofs.put_word.Statement.{statement}
 use Rattle.cache_stores.proofs.put_word.Tie as tie

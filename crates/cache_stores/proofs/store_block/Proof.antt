@@ -1,4 +1,4 @@
--- `stores::store_block` meets its contract: block a stands at 4a.
+-- `cache_stores::store_block` meets its contract: block a stands at 4a.
 use Rattle.cache_stores.proofs.StoreSteps.{storing-steps}
 use Rattle.cache_stores.proofs.store_block.Statement.{statement}
 use Rattle.cache_stores.proofs.store_block.Tie as tie

@@ -1,36 +1,28 @@
--- `asking::cyclic_rules` meets its contract, by what the scan tells of the file.
-use native.Mathlib.Omega.{arith}
-use Rattle.file_calls.proofs.FileLaws.{answers, rules-fit, refusal-fits}
-use borrow.Author.Needs.{needs}
+-- `file_calls::cyclic_rules` meets its contract: by the test of the rules.
+use Rattle.file_calls.proofs.FileLaws.{answers}
 use Rattle.file_calls.proofs.cyclic_rules.Statement.{statement}
 use Rattle.file_calls.proofs.cyclic_rules.Tie as tie
 
 read-requires : tie.Need-read-requires
-read-requires c κs = search needs
+read-requires c κs = search answers
 
-enum-known-rules : tie.Need-enum-known-rules
-enum-known-rules c = search needs
+enum-known-scan : tie.Need-enum-known-scan
+enum-known-scan c = search answers
 
 file-rules-requires : tie.Need-file-rules-requires
-file-rules-requires c κs = rules-fit _ 0 _ (c .before .before .before .read .ensures .1) _ _ _ (c .before .rules .given .1)
+file-rules-requires c κs = search answers
 
 is-cyclic-requires : tie.Need-is-cyclic-requires
-is-cyclic-requires c κs =
-    let n = c .file-rules .ensures .1 in
-    let l = rules-fit _ 0 _ (c .before .before .before .before .read .ensures .1) _ _ _ (c .before .before .rules .given .1) .0 in
-    omega arith
+is-cyclic-requires c κs = search answers
 
 returns : tie.Need-returns
 returns c = search answers
 
-enum-known-number : tie.Need-enum-known-number
-enum-known-number c = search needs
+enum-known-scan-2 : tie.Need-enum-known-scan-2
+enum-known-scan-2 c = search answers
 
-cast-refuse : tie.Need-cast-refuse
-cast-refuse c = search needs
-
-refuse-requires : tie.Need-refuse-requires
-refuse-requires c κs = refusal-fits _ 0 _ (c .before .before .before .read .ensures .1) _ _ (c .before .number .given .1)
+code-of-requires : tie.Need-code-of-requires
+code-of-requires c κs = search answers
 
 returns-2 : tie.Need-returns-2
 returns-2 c = search answers
@@ -43,12 +35,11 @@ cyclic-rules-spec =
     tie.close
     (tie.spec
     read-requires
-    enum-known-rules
+    enum-known-scan
     file-rules-requires
     is-cyclic-requires
     returns
-    enum-known-number
-    cast-refuse
-    refuse-requires
+    enum-known-scan-2
+    code-of-requires
     returns-2
     returns-3)

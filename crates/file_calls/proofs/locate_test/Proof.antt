@@ -1,38 +1,40 @@
--- `asking::locate_test` meets its contract, by what the scan tells of the file.
-use Rattle.file_calls.proofs.FileLaws.{answers, refusal-fits}
-use borrow.Author.Needs.{needs}
+-- `file_calls::locate_test` meets its contract: the place of a test that is there, 9, or the refusal.
+use Rattle.file_calls.proofs.FileLaws.{answers}
 use Rattle.file_calls.proofs.locate_test.Statement.{statement}
 use Rattle.file_calls.proofs.locate_test.Tie as tie
 
-from-zero-requires : tie.Need-from-zero-requires
-from-zero-requires c κs = search needs
-
 read-requires : tie.Need-read-requires
-read-requires c κs = search needs
+read-requires c κs = search answers
 
-enum-known-tests : tie.Need-enum-known-tests
-enum-known-tests c = search needs
+enum-known-scan : tie.Need-enum-known-scan
+enum-known-scan c = search answers
 
 has-test-requires : tie.Need-has-test-requires
-has-test-requires c κs = search needs
+has-test-requires c κs = search answers
 
 refuse-requires : tie.Need-refuse-requires
-refuse-requires c κs = search needs
+refuse-requires c κs = search answers
 
 returns : tie.Need-returns
 returns c = search answers
 
+from-zero-requires : tie.Need-from-zero-requires
+from-zero-requires c κs = search answers
+
+mul-pack : tie.Need-mul-pack
+mul-pack c = search answers
+
+array-copy-out-pack : tie.Need-array-copy-out-pack
+array-copy-out-pack c = search answers
+
 pack-requires : tie.Need-pack-requires
 pack-requires c κs = search answers
 
-enum-known-number : tie.Need-enum-known-number
-enum-known-number c = search needs
+enum-known-scan-2 : tie.Need-enum-known-scan-2
+enum-known-scan-2 c = search answers
 
-cast-refuse : tie.Need-cast-refuse
-cast-refuse c = search needs
-
-refuse-requires-2 : tie.Need-refuse-requires-2
-refuse-requires-2 c κs = refusal-fits _ _ _ (c .before .before .before .read .ensures .1) _ _ (c .before .number .given .1)
+code-of-requires : tie.Need-code-of-requires
+code-of-requires c κs = search answers
 
 returns-2 : tie.Need-returns-2
 returns-2 c = search answers
@@ -44,15 +46,16 @@ pub locate-test-spec : {M : Type 1} → statement M
 locate-test-spec =
     tie.close
     (tie.spec
-    from-zero-requires
     read-requires
-    enum-known-tests
+    enum-known-scan
     has-test-requires
     refuse-requires
     returns
+    from-zero-requires
+    mul-pack
+    array-copy-out-pack
     pack-requires
-    enum-known-number
-    cast-refuse
-    refuse-requires-2
+    enum-known-scan-2
+    code-of-requires
     returns-2
     returns-3)

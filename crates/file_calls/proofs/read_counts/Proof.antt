@@ -1,36 +1,25 @@
--- `asking::read_counts` meets its contract, by what the scan tells of the file.
-use native.Mathlib.Omega.{arith}
-use Rattle.file_calls.proofs.FileLaws.{answers, sizes-fit, refusal-fits}
-use borrow.Author.Needs.{needs}
+-- `file_calls::read_counts` meets its contract: the counts, or the refusal.
+use Rattle.file_calls.proofs.FileLaws.{answers}
 use Rattle.file_calls.proofs.read_counts.Statement.{statement}
 use Rattle.file_calls.proofs.read_counts.Tie as tie
 
 read-requires : tie.Need-read-requires
-read-requires c κs = search needs
+read-requires c κs = search answers
 
-enum-known-rules : tie.Need-enum-known-rules
-enum-known-rules c = search needs
+enum-known-scan : tie.Need-enum-known-scan
+enum-known-scan c = search answers
 
 mul-result : tie.Need-mul-result
-mul-result c =
-    let l = sizes-fit _ 0 _ (c .before .before .before .read .ensures .1) _ _ _ (c .before .rules .given .1) .1 in
-    omega arith
+mul-result c = search answers
 
 add-result : tie.Need-add-result
-add-result c =
-    let l = sizes-fit _ 0 _ (c .before .before .before .read .ensures .1) _ _ _ (c .before .rules .given .1) in
-    let a = l .0 in
-    let b = l .1 in
-    omega arith
+add-result c = search answers
 
-enum-known-number : tie.Need-enum-known-number
-enum-known-number c = search needs
+enum-known-scan-2 : tie.Need-enum-known-scan-2
+enum-known-scan-2 c = search answers
 
-cast-refuse : tie.Need-cast-refuse
-cast-refuse c = search needs
-
-refuse-requires : tie.Need-refuse-requires
-refuse-requires c κs = refusal-fits _ 0 _ (c .before .before .before .read .ensures .1) _ _ (c .before .number .given .1)
+code-of-requires : tie.Need-code-of-requires
+code-of-requires c κs = search answers
 
 returns : tie.Need-returns
 returns c = search answers
@@ -43,11 +32,10 @@ read-counts-spec =
     tie.close
     (tie.spec
     read-requires
-    enum-known-rules
+    enum-known-scan
     mul-result
     add-result
-    enum-known-number
-    cast-refuse
-    refuse-requires
+    enum-known-scan-2
+    code-of-requires
     returns
     returns-2)

@@ -1,4 +1,4 @@
--- `faults::body_fault` meets its contract, by the cases of its definition.
+-- `file_faults::body_fault` meets its contract, by the cases of its definition.
 use mathlib.Core.Path.{_∙_}
 use Rattle.file_format.specs.File.{bodyFault, bodyLength}
 use Rattle.relation.proofs.Cases.{cases}

@@ -1,4 +1,4 @@
--- `faults::fault` meets its contract, one law for each of its returns.
+-- `file_faults::fault` meets its contract, one law for each of its returns.
 use Rattle.file_faults.proofs.FaultLaws.{faults}
 use borrow.Author.Needs.{needs}
 use Rattle.file_faults.proofs.fault.Statement.{statement}

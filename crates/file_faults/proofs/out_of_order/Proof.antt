@@ -1,4 +1,4 @@
--- `faults::out_of_order` meets its contract, by the cases of its definition.
+-- `file_faults::out_of_order` meets its contract, by the cases of its definition.
 use Rattle.file_format.specs.File.{outOfOrder}
 use Rattle.relation.proofs.Cases.{cases}
 use Rattle.file_faults.proofs.out_of_order.Statement.{statement}

@@ -1,4 +1,4 @@
--- `faults::rule_fault` meets its contract, by the cases of its definition.
+-- `file_faults::rule_fault` meets its contract, by the cases of its definition.
 use Rattle.file_format.specs.File.{ruleFault}
 use Rattle.relation.proofs.Cases.{cases}
 use borrow.Author.Needs.{needs}

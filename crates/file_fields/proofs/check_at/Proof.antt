@@ -1,4 +1,4 @@
--- `fields::check_at` meets its contract: the part of the file that is lent is the field's body.
+-- `file_fields::check_at` meets its contract: the part of the file that is lent is the field's body.
 use Rattle.file_fields.proofs.FieldLaws.{fields}
 use borrow.Author.Needs.{needs}
 use Rattle.file_fields.proofs.check_at.Statement.{statement}

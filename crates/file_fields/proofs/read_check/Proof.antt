@@ -1,4 +1,4 @@
--- `fields::read_check` meets its contract, one law for each tag.
+-- `file_fields::read_check` meets its contract, one law for each tag.
 use Rattle.file_fields.proofs.FieldLaws.{fields}
 use Rattle.file_fields.proofs.read_check.Statement.{statement}
 use Rattle.file_fields.proofs.read_check.Tie as tie

@@ -1,4 +1,4 @@
--- `fields::read_pair` meets its contract: each part is the definition's.
+-- `file_fields::read_pair` meets its contract: each part is the definition's.
 use Rattle.file_format.specs.File.{checkOf}
 use borrow.Author.Needs.{needs}
 use Rattle.file_fields.proofs.read_pair.Statement.{statement}

@@ -1,4 +1,4 @@
--- `fields::read_rule` meets its contract: each part is the definition's.
+-- `file_fields::read_rule` meets its contract: each part is the definition's.
 use mathlib.Core.Path.{refl}
 use Rattle.file_format.specs.File.{ruleOf}
 use borrow.Author.Needs.{needs}

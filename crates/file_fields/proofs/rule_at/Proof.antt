@@ -1,26 +1,30 @@
--- `fields::rule_at` meets its contract: the part of the file that is lent is the field's body.
 use Rattle.file_fields.proofs.FieldLaws.{fields}
-use borrow.Author.Needs.{needs}
 use Rattle.file_fields.proofs.rule_at.Statement.{statement}
 use Rattle.file_fields.proofs.rule_at.Tie as tie
 
 add-b : tie.Need-add-b
-add-b c = search needs
+add-b c = search fields
+
+shared-slice-read-body-length : tie.Need-shared-slice-read-body-length
+shared-slice-read-body-length c = search fields
+
+body-length-requires : tie.Need-body-length-requires
+body-length-requires c κs = search fields
 
 add-e : tie.Need-add-e
-add-e c = search needs
+add-e c = search fields
 
 sub-read-rule : tie.Need-sub-read-rule
-sub-read-rule c = search needs
+sub-read-rule c = search fields
 
 part-read-rule-start : tie.Need-part-read-rule-start
-part-read-rule-start c = search needs
+part-read-rule-start c = search fields
 
 part-read-rule-end : tie.Need-part-read-rule-end
-part-read-rule-end c = search needs
+part-read-rule-end c = search fields
 
 read-rule-requires : tie.Need-read-rule-requires
-read-rule-requires c κs = search needs
+read-rule-requires c κs = search fields
 
 returns : tie.Need-returns
 returns c = search fields
@@ -30,6 +34,8 @@ rule-at-spec =
     tie.close
     (tie.spec
     add-b
+    shared-slice-read-body-length
+    body-length-requires
     add-e
     sub-read-rule
     part-read-rule-start

@@ -1,26 +1,30 @@
--- `fields::write_at` meets its contract: the part of the file that is lent is the field's body.
 use Rattle.file_fields.proofs.FieldLaws.{fields}
-use borrow.Author.Needs.{needs}
 use Rattle.file_fields.proofs.write_at.Statement.{statement}
 use Rattle.file_fields.proofs.write_at.Tie as tie
 
 add-b : tie.Need-add-b
-add-b c = search needs
+add-b c = search fields
+
+shared-slice-read-body-length : tie.Need-shared-slice-read-body-length
+shared-slice-read-body-length c = search fields
+
+body-length-requires : tie.Need-body-length-requires
+body-length-requires c κs = search fields
 
 add-e : tie.Need-add-e
-add-e c = search needs
+add-e c = search fields
 
 sub-read-write : tie.Need-sub-read-write
-sub-read-write c = search needs
+sub-read-write c = search fields
 
 part-read-write-start : tie.Need-part-read-write-start
-part-read-write-start c = search needs
+part-read-write-start c = search fields
 
 part-read-write-end : tie.Need-part-read-write-end
-part-read-write-end c = search needs
+part-read-write-end c = search fields
 
 read-write-requires : tie.Need-read-write-requires
-read-write-requires c κs = search needs
+read-write-requires c κs = search fields
 
 returns : tie.Need-returns
 returns c = search fields
@@ -30,6 +34,8 @@ write-at-spec =
     tie.close
     (tie.spec
     add-b
+    shared-slice-read-body-length
+    body-length-requires
     add-e
     sub-read-write
     part-read-write-start

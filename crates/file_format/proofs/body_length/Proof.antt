@@ -1,4 +1,4 @@
--- `format::body_length` meets its contract, by the cases of its definition.
+-- `file_format::body_length` meets its contract, by the cases of its definition.
 use Rattle.file_format.specs.File.{bodyLength}
 use Rattle.relation.proofs.Cases.{cases}
 use Rattle.file_format.proofs.body_length.Statement.{statement}
@@ -24,5 +24,9 @@ returns-5 : tie.Need-returns-5
 unfolding bodyLength
 returns-5 c = search cases depth 9
 
+returns-6 : tie.Need-returns-6
+unfolding bodyLength
+returns-6 c = search cases depth 9
+
 pub body-length-spec : {M : Type 1} → statement M
-body-length-spec = tie.close (tie.spec returns returns-2 returns-3 returns-4 returns-5)
+body-length-spec = tie.close (tie.spec returns returns-2 returns-3 returns-4 returns-5 returns-6)

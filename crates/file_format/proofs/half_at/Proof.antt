@@ -1,4 +1,4 @@
--- `format::half_at` meets its contract, by the contract of `wide`, and arithmetic.
+-- `file_format::half_at` meets its contract, by the contract of `wide`, and arithmetic.
 use native.Mathlib.Omega.{arith}
 use Rattle.file_format.specs.Bytes.{half}
 use borrow.Author.Needs.{needs}

@@ -1,4 +1,4 @@
--- `format::word_at` meets its contract: two halves make a word.
+-- `file_format::word_at` meets its contract: two halves make a word.
 use Rattle.file_format.proofs.ByteLaws.{bytes}
 use borrow.Author.Needs.{needs}
 use Rattle.file_format.proofs.word_at.Statement.{statement}

@@ -1,23 +1,21 @@
--- `loading::file_rules` meets its contract. The invariant: the first i rules are loaded.
+-- `file_loading::file_rules` meets its contract. The invariant: the first i rules are loaded, and the next field's place is known.
 use Prim.Native.Nat.{_-_, _≤_}
 use mathlib.Core.Path.{_≡_}
 use lib.ListN.{length, take}
-use Rattle.file_format.specs.Scan.{rulesAt}
+use Rattle.model.specs.Limits.{mostRules}
+use Rattle.file_format.specs.Scan.{fieldPlace, rulesAt}
 use Rattle.file_loading.proofs.LoadSteps.{steps}
 use Rattle.file_loading.proofs.file_rules.Statement.{statement}
 use Rattle.file_loading.proofs.file_rules.Tie as tie
 
 abbrev Inv-loop : tie.InvT-loop
-Inv-loop file n items₀ i₀ items i = (i ≤ n) × (length items ≡ 32) × (take i items ≡ rulesAt file i)
+Inv-loop file n items₀ at₀ i₀ items at i = (i ≤ n) × (length items ≡ mostRules) × (at ≡ fieldPlace file 0 i) × (take i items ≡ rulesAt file i)
 
 abbrev μ-loop : tie.MeasureT-loop
-μ-loop file n items₀ i₀ items i = n - i
+μ-loop file n items₀ at₀ i₀ items at i = n - i
 
 loop-holds : tie.Need-loop-holds Inv-loop μ-loop
 loop-holds c = search steps
-
-mul-rule-at : tie.Need-mul-rule-at Inv-loop μ-loop
-mul-rule-at c = search steps
 
 rule-at-requires : tie.Need-rule-at-requires Inv-loop μ-loop
 rule-at-requires c κs = search steps
@@ -27,6 +25,9 @@ mul-items c = search steps
 
 array-set-from-items : tie.Need-array-set-from-items Inv-loop μ-loop
 array-set-from-items c = search steps
+
+end-of-requires : tie.Need-end-of-requires Inv-loop μ-loop
+end-of-requires c κs = search steps
 
 add-i : tie.Need-add-i Inv-loop μ-loop
 add-i c = search steps
@@ -47,10 +48,10 @@ file-rules-spec =
     Inv-loop
     μ-loop
     loop-holds
-    mul-rule-at
     rule-at-requires
     mul-items
     array-set-from-items
+    end-of-requires
     add-i
     loop-less
     loop-again

@@ -1,4 +1,4 @@
--- `reader::begin_at` meets its contract, by the cases of its definition.
+-- `file_reader::begin_at` meets its contract, by the cases of its definition.
 use Rattle.file_format.specs.Scan.{testFrom}
 use Rattle.relation.proofs.Cases.{cases}
 use Rattle.file_reader.proofs.begin_at.Statement.{statement}

@@ -1,4 +1,4 @@
--- `reader::count_field` meets its contract, by the cases of its definition.
+-- `file_reader::count_field` meets its contract, by the cases of its definition.
 use Rattle.file_format.specs.Scan.{counted}
 use Rattle.relation.proofs.Cases.{cases}
 use borrow.Author.Needs.{needs}

@@ -1,4 +1,4 @@
--- `reader::has_test` meets its contract: 0 is none, and above it the second test decides.
+-- `file_reader::has_test` meets its contract: 0 is none, and above it the second test decides.
 use mathlib.Core.Path.{_≡_}
 use mathlib.Core.Bool.{false, _&&_}
 use Prim.Native.Nat.{ℕ, _≤_, _<_}

@@ -1,4 +1,4 @@
--- `writing::put_word` meets its contract: its four bytes, written one behind the other, are the number's.
+-- `file_writing::put_word` meets its contract: its four bytes, written one behind the other, are the number's.
 use Rattle.file_writing.proofs.WroteLaws.{wrotes}
 use Rattle.file_writing.proofs.put_word.Statement.{statement}
 use Rattle.file_writing.proofs.put_word.Tie as tie

@@ -1,4 +1,4 @@
--- `finding::choice` meets its contract. The sets that are not marked in the end are those that make all tests hold.
+-- `find_call::choice` meets its contract. The sets that are not marked in the end are those that make all tests hold.
 use Rattle.find_table.proofs.MarkLaws.{blank-made}
 use Rattle.find_choice.proofs.ChoiceSteps.{choosing}
 use Rattle.find_call.proofs.choice.Statement.{statement}

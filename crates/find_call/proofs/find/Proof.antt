@@ -1,4 +1,4 @@
--- `finding::find` meets its contract. A return for each refusal in its order, and the rest is `find_among`.
+-- `find_call::find` meets its contract. A return for each refusal in its order, and the rest is `find_among`.
 use Rattle.find_call.proofs.FindSteps.{finding}
 use Rattle.find_call.proofs.find.Statement.{statement}
 use Rattle.find_call.proofs.find.Tie as tie
@@ -6,8 +6,8 @@ use Rattle.find_call.proofs.find.Tie as tie
 read-requires : tie.Need-read-requires
 read-requires c κs = search finding
 
-enum-known-rules : tie.Need-enum-known-rules
-enum-known-rules c = search finding
+enum-known-scan : tie.Need-enum-known-scan
+enum-known-scan c = search finding
 
 refuse-requires : tie.Need-refuse-requires
 refuse-requires c κs = search finding
@@ -24,14 +24,11 @@ returns-2 c = search finding
 find-among-requires : tie.Need-find-among-requires
 find-among-requires c κs = search finding
 
-enum-known-number : tie.Need-enum-known-number
-enum-known-number c = search finding
+enum-known-scan-2 : tie.Need-enum-known-scan-2
+enum-known-scan-2 c = search finding
 
-cast-refuse : tie.Need-cast-refuse
-cast-refuse c = search finding
-
-refuse-requires-3 : tie.Need-refuse-requires-3
-refuse-requires-3 c κs = search finding
+code-of-requires : tie.Need-code-of-requires
+code-of-requires c κs = search finding
 
 same-length : tie.Need-same-length
 same-length c = search finding
@@ -47,15 +44,14 @@ find-spec =
     tie.close
     (tie.spec
     read-requires
-    enum-known-rules
+    enum-known-scan
     refuse-requires
     returns
     refuse-requires-2
     returns-2
     find-among-requires
-    enum-known-number
-    cast-refuse
-    refuse-requires-3
+    enum-known-scan-2
+    code-of-requires
     same-length
     returns-3
     returns-4)

@@ -1,4 +1,4 @@
--- `finding::find_among` meets its contract. A return for 11, for 13 and for the set that is chosen.
+-- `find_call::find_among` meets its contract. A return for 11, for 13 and for the set that is chosen.
 use Rattle.find_call.proofs.FindSteps.{finding}
 use Rattle.find_call.proofs.find_among.Statement.{statement}
 use Rattle.find_call.proofs.find_among.Tie as tie

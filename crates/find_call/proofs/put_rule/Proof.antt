@@ -1,4 +1,4 @@
--- `finding::put_rule` meets its contract. Six stores one behind the other are one block.
+-- `find_call::put_rule` meets its contract. Six stores one behind the other are one block.
 use Rattle.find_call.proofs.FindSteps.{putting}
 use Rattle.find_call.proofs.put_rule.Statement.{statement}
 use Rattle.find_call.proofs.put_rule.Tie as tie

@@ -1,4 +1,4 @@
--- `finding::put_rules` meets its contract. The invariant: the fields of the first i rules stand at the front, the rest of the buffer is as it was.
+-- `find_call::put_rules` meets its contract. The invariant: the fields of the first i rules stand at the front, the rest of the buffer is as it was.
 use mathlib.Core.Path.{_≡_}
 use Prim.Native.Nat.{_-_, _≤_}
 use lib.ListN.{length, take}

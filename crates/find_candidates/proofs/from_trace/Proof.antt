@@ -1,17 +1,16 @@
--- `candidates::from_trace` meets its contract. The invariant: the rules from the writes below i are inserted.
-use Prim.Native.Nat.{_-_, _≤_}
-use Rattle.model.specs.Find.{fromTrace}
-use Rattle.file_format.specs.Scan.{writesAt}
-use Rattle.find_sets.specs.Kept.{Follows}
+-- `find_candidates::from_trace` meets its contract. The invariant: the rules from the writes below i are inserted.
+use Prim.Native.Nat.{_+_, _-_, _≤_}
+use Rattle.model.specs.Limits.{mostCandidates}
+use Rattle.find_candidates.specs.Tests.{Traces}
 use Rattle.find_candidates.proofs.CandidateSteps.{steps}
 use Rattle.find_candidates.proofs.from_trace.Statement.{statement}
 use Rattle.find_candidates.proofs.from_trace.Tie as tie
 
 abbrev Inv-loop : tie.InvT-loop
-Inv-loop file at n out₀ i₀ out i = (i ≤ n) × (out .count ≤ 17) × Follows (fromTrace (writesAt file at n) i) out₀ out
+Inv-loop labels n out₀ i₀ out i = (i ≤ n) × (out .count ≤ mostCandidates + 1) × Traces labels n i out₀ out
 
 abbrev μ-loop : tie.MeasureT-loop
-μ-loop file at n out₀ i₀ out i = n - i
+μ-loop labels n out₀ i₀ out i = n - i
 
 loop-holds : tie.Need-loop-holds Inv-loop μ-loop
 loop-holds c = search steps

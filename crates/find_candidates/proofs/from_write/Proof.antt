@@ -1,38 +1,31 @@
--- `candidates::from_write` meets its contract. The invariant: the rules to the writes below j are inserted.
-use Prim.Native.Nat.{_-_, _≤_}
-use Rattle.model.specs.Find.{fromWrite}
-use Rattle.file_format.specs.Scan.{writesAt}
-use Rattle.find_sets.specs.Kept.{Follows}
+-- `find_candidates::from_write` meets its contract. The invariant: the rules to the writes below j are inserted.
+use Prim.Native.Nat.{_+_, _-_, _≤_}
+use Rattle.model.specs.Limits.{mostCandidates}
+use Rattle.find_candidates.specs.Tests.{Pairs}
 use Rattle.find_candidates.proofs.CandidateSteps.{steps}
 use Rattle.find_candidates.proofs.from_write.Statement.{statement}
 use Rattle.find_candidates.proofs.from_write.Tie as tie
 
 abbrev Inv-loop : tie.InvT-loop
-Inv-loop file at n i w out₀ j₀ out j = (j ≤ n) × (out .count ≤ 17) × Follows (fromWrite (writesAt file at n) i j) out₀ out
+Inv-loop labels n i one out₀ j₀ out j = (j ≤ n) × (out .count ≤ mostCandidates + 1) × Pairs labels n i j out₀ out
 
 abbrev μ-loop : tie.MeasureT-loop
-μ-loop file at n i w out₀ j₀ out j = n - j
+μ-loop labels n i one out₀ j₀ out j = n - j
 
-mul-write-at : tie.Need-mul-write-at Inv-loop μ-loop
-mul-write-at c = search steps
+mul-one : tie.Need-mul-one Inv-loop μ-loop
+mul-one c = search steps
 
-add-write-at : tie.Need-add-write-at Inv-loop μ-loop
-add-write-at c = search steps
-
-write-at-requires : tie.Need-write-at-requires Inv-loop μ-loop
-write-at-requires c κs = search steps
+element-copy-out-one : tie.Need-element-copy-out-one Inv-loop μ-loop
+element-copy-out-one c = search steps
 
 loop-holds : tie.Need-loop-holds Inv-loop μ-loop
 loop-holds c = search steps
 
-mul-write-at-2 : tie.Need-mul-write-at-2 Inv-loop μ-loop
-mul-write-at-2 c = search steps
+mul-with-pair : tie.Need-mul-with-pair Inv-loop μ-loop
+mul-with-pair c = search steps
 
-add-write-at-2 : tie.Need-add-write-at-2 Inv-loop μ-loop
-add-write-at-2 c = search steps
-
-write-at-requires-2 : tie.Need-write-at-requires-2 Inv-loop μ-loop
-write-at-requires-2 c κs = search steps
+element-copy-out-with-pair : tie.Need-element-copy-out-with-pair Inv-loop μ-loop
+element-copy-out-with-pair c = search steps
 
 with-pair-requires : tie.Need-with-pair-requires Inv-loop μ-loop
 with-pair-requires c κs = search steps
@@ -55,13 +48,11 @@ from-write-spec =
     (tie.spec
     Inv-loop
     μ-loop
-    mul-write-at
-    add-write-at
-    write-at-requires
+    mul-one
+    element-copy-out-one
     loop-holds
-    mul-write-at-2
-    add-write-at-2
-    write-at-requires-2
+    mul-with-pair
+    element-copy-out-with-pair
     with-pair-requires
     add-j
     loop-less

@@ -1,4 +1,4 @@
--- `candidates::pairing` meets its contract. By the relation of the epochs.
+-- `find_candidates::pairing` meets its contract. By the relation of the epochs.
 use Rattle.find_candidates.proofs.CandidateSteps.{steps}
 use Rattle.find_candidates.proofs.pairing.Statement.{statement}
 use Rattle.find_candidates.proofs.pairing.Tie as tie

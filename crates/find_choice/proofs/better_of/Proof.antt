@@ -1,4 +1,4 @@
--- `choosing::better_of` meets its contract. A return for each reason to keep the best so far.
+-- `find_choice::better_of` meets its contract. A return for each reason to keep the best so far.
 use Rattle.find_choice.proofs.ChoiceSteps.{choosing}
 use Rattle.find_choice.proofs.better_of.Statement.{statement}
 use Rattle.find_choice.proofs.better_of.Tie as tie
@@ -6,8 +6,8 @@ use Rattle.find_choice.proofs.better_of.Tie as tie
 returns : tie.Need-returns
 returns c = search choosing
 
-element-copy-out-if2 : tie.Need-element-copy-out-if2
-element-copy-out-if2 c = search choosing
+is-marked-requires : tie.Need-is-marked-requires
+is-marked-requires c κs = search choosing
 
 returns-2 : tie.Need-returns-2
 returns-2 c = search choosing
@@ -35,7 +35,7 @@ better-of-spec =
     tie.close
     (tie.spec
     returns
-    element-copy-out-if2
+    is-marked-requires
     returns-2
     has-spare-requires
     returns-3

@@ -1,4 +1,4 @@
--- `choosing::has_spare` meets its contract. The invariant: no candidate below i is spare.
+-- `find_choice::has_spare` meets its contract. The invariant: no candidate below i is spare.
 use mathlib.Core.Path.{_≡_}
 use mathlib.Core.Bool.{false}
 use Prim.Native.Nat.{_-_, _≤_}

@@ -1,4 +1,4 @@
--- `rulesets::comes_before` meets its contract. By the cases of `before`.
+-- `find_sets::comes_before` meets its contract. By the cases of `before`.
 use Rattle.relation.proofs.Cases.{cases}
 use Rattle.model.specs.Find.{before}
 use Rattle.find_sets.proofs.comes_before.Statement.{statement}

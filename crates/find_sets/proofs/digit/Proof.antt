@@ -1,4 +1,4 @@
--- `rulesets::digit` meets its contract. By the bit.
+-- `find_sets::digit` meets its contract. By the bit.
 use Rattle.relation.proofs.Cases.{calls}
 use Rattle.find_sets.proofs.digit.Statement.{statement}
 use Rattle.find_sets.proofs.digit.Tie as tie

@@ -1,4 +1,4 @@
--- `rulesets::insert` meets its contract. By the rule's place: past 16 nothing is kept, a rule that stands there is not repeated, any other is put there.
+-- `find_sets::insert` meets its contract. By the rule's place: past 16 nothing is kept, a rule that stands there is not repeated, any other is put there.
 use Rattle.find_sets.proofs.RuleSteps.{ordering}
 use Rattle.find_sets.proofs.insert.Statement.{statement}
 use Rattle.find_sets.proofs.insert.Tie as tie

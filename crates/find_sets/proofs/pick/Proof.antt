@@ -1,14 +1,15 @@
--- `rulesets::pick` meets its contract. The invariant: the first n rules written are the set of the first i candidates.
+-- `find_sets::pick` meets its contract. The invariant: the first n rules written are the set of the first i candidates.
 use mathlib.Core.Path.{_≡_}
 use Prim.Native.Nat.{_-_, _≤_}
 use lib.ListN.{length, take}
+use Rattle.model.specs.Limits.{mostRules}
 use Rattle.model.specs.Find.{picked}
 use Rattle.find_sets.proofs.RuleSteps.{ordering}
 use Rattle.find_sets.proofs.pick.Statement.{statement}
 use Rattle.find_sets.proofs.pick.Tie as tie
 
 abbrev Inv-loop : tie.InvT-loop
-Inv-loop m c items₀ n₀ i₀ items n i = (i ≤ c .count) × (n ≤ i) × (length items ≡ 32) × (take n items ≡ picked (take i (c .items)) m)
+Inv-loop m c items₀ n₀ i₀ items n i = (i ≤ c .count) × (n ≤ i) × (length items ≡ mostRules) × (take n items ≡ picked (take i (c .items)) m)
 
 abbrev μ-loop : tie.MeasureT-loop
 μ-loop m c items₀ n₀ i₀ items n i = c .count - i

@@ -1,4 +1,4 @@
--- `rulesets::place` meets its contract. The invariant: the rules passed, and those of the rest that come before, are together those that come before.
+-- `find_sets::place` meets its contract. The invariant: the rules passed, and those of the rest that come before, are together those that come before.
 use mathlib.Core.Path.{_≡_}
 use Prim.Native.Nat.{_+_, _-_, _≤_}
 use lib.ListN.{drop}

@@ -1,4 +1,4 @@
--- `rulesets::push` meets its contract. The count is one more, and the front of the array has the rule at its end.
+-- `find_sets::push` meets its contract. The count is one more, and the front of the array has the rule at its end.
 use Rattle.find_sets.proofs.RuleSteps.{ordering}
 use Rattle.find_sets.proofs.push.Statement.{statement}
 use Rattle.find_sets.proofs.push.Tie as tie

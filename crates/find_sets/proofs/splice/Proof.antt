@@ -1,4 +1,4 @@
--- `rulesets::splice` meets its contract. The invariant: what is held and the rules still to come are what was begun with and the rules behind place k.
+-- `find_sets::splice` meets its contract. The invariant: what is held and the rules still to come are what was begun with and the rules behind place k.
 use mathlib.Core.Path.{_≡_}
 use mathlib.Core.List.{_++_}
 use Prim.Native.Nat.{_+_, _-_, _≤_}

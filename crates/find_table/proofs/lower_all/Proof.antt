@@ -1,17 +1,23 @@
--- `marking::lower_all` meets its contract. The invariant: the marks are handed down by the candidates below b.
+-- `find_table::lower_all` meets its contract. The invariant: the marks are handed down by the candidates below b.
 use mathlib.Core.Path.{_≡_}
 use Prim.Native.Nat.{_-_, _≤_}
 use lib.ListN.{length}
-use Rattle.find_table.specs.Table.{Spreads}
+use Rattle.find_table.specs.Table.{setWords, wordsOf, Spreads}
 use Rattle.find_table.proofs.TableSteps.{lowering}
 use Rattle.find_table.proofs.lower_all.Statement.{statement}
 use Rattle.find_table.proofs.lower_all.Tie as tie
 
 abbrev Inv-loop : tie.InvT-loop
-Inv-loop table₀ n b₀ table b = (b ≤ n) × (length table ≡ 65536) × Spreads n b table₀ table
+Inv-loop table₀ n words b₀ table b = (b ≤ n) × (words ≡ wordsOf n) × (words ≤ setWords) × (length table ≡ setWords) × Spreads n b table₀ table
 
 abbrev μ-loop : tie.MeasureT-loop
-μ-loop table₀ n b₀ table b = n - b
+μ-loop table₀ n words b₀ table b = n - b
+
+shl-words : tie.Need-shl-words Inv-loop μ-loop
+shl-words c = search lowering
+
+add-words : tie.Need-add-words Inv-loop μ-loop
+add-words c = search lowering
 
 loop-holds : tie.Need-loop-holds Inv-loop μ-loop
 loop-holds c = search lowering
@@ -40,6 +46,8 @@ lower-all-spec =
     (tie.spec
     Inv-loop
     μ-loop
+    shl-words
+    add-words
     loop-holds
     lower-requires
     add-b

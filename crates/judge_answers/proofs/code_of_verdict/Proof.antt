@@ -1,4 +1,4 @@
--- `answers::code_of_verdict` meets its contract, one law for each form of a verdict.
+-- `judge_answers::code_of_verdict` meets its contract, one law for each form of a verdict.
 use native.Mathlib.Omega.{arith}
 use Rattle.judge_answers.proofs.JudgedLaws.{judged, fails-fits}
 use borrow.Author.Needs.{needs}

@@ -1,32 +1,19 @@
--- `judging::judge` meets its contract: the refusal, or the counts of the test found.
-use native.Mathlib.Omega.{arith}
-use Rattle.judge_cases.proofs.JudgeLaws.{judges, found-rules, found-long, found-inside}
-use borrow.Author.Needs.{needs}
+-- `judge_cases::judge` meets its contract: the refusal, or the counts of the test found.
+use Rattle.judge_cases.proofs.JudgeLaws.{judges}
 use Rattle.judge_cases.proofs.judge.Statement.{statement}
 use Rattle.judge_cases.proofs.judge.Tie as tie
 
 select-requires : tie.Need-select-requires
-select-requires c κs = search needs
+select-requires c κs = search judges
 
-enum-known-rules : tie.Need-enum-known-rules
-enum-known-rules c = search needs
-
-file-rules-requires : tie.Need-file-rules-requires
-file-rules-requires c κs =
-    let g = c .before .before .before .select .ensures in
-    let e = c .before .rules .given .1 in
-    (found-rules _ _ _ g _ _ e, found-long _ _ _ g _ _ e)
+enum-known-choice : tie.Need-enum-known-choice
+enum-known-choice c = search judges
 
 judge-test-requires : tie.Need-judge-test-requires
-judge-test-requires c κs =
-    let g = c .before .before .before .before .select .ensures in
-    let e = c .before .before .rules .given .1 in
-    let l = found-rules _ _ _ g _ _ e in
-    let n = c .file-rules .ensures .1 in
-    (omega arith, found-inside _ _ _ g _ _ e)
+judge-test-requires c κs = search judges
 
-enum-known-number : tie.Need-enum-known-number
-enum-known-number c = search needs
+enum-known-choice-2 : tie.Need-enum-known-choice-2
+enum-known-choice-2 c = search judges
 
 returns : tie.Need-returns
 returns c = search judges
@@ -39,9 +26,8 @@ judge-spec =
     tie.close
     (tie.spec
     select-requires
-    enum-known-rules
-    file-rules-requires
+    enum-known-choice
     judge-test-requires
-    enum-known-number
+    enum-known-choice-2
     returns
     returns-2)

@@ -1,63 +1,49 @@
--- `judging::select` meets its contract, one law for each refusal and for the test found.
-use native.Mathlib.Omega.{arith}
-use Rattle.judge_cases.proofs.JudgeLaws.{judges, rules-most, rules-inside}
-use borrow.Author.Needs.{needs}
+-- `judge_cases::select` meets its contract: one law for each refusal and for the test found.
+use Rattle.judge_cases.proofs.JudgeLaws.{selects}
 use Rattle.judge_cases.proofs.select.Statement.{statement}
 use Rattle.judge_cases.proofs.select.Tie as tie
 
-from-zero-requires : tie.Need-from-zero-requires
-from-zero-requires c κs = search needs
+open-file-requires : tie.Need-open-file-requires
+open-file-requires c κs = search selects
 
-read-requires : tie.Need-read-requires
-read-requires c κs = search needs
-
-enum-known-rules : tie.Need-enum-known-rules
-enum-known-rules c = search needs
-
-file-rules-requires : tie.Need-file-rules-requires
-file-rules-requires c κs =
-    let x = c .before .before .before .read in
-    let z = c .before .before .before .before .from-zero .ensures in
-    let e = c .before .rules .given .1 in
-    (rules-most _ _ _ _ z (x .ensures .1) _ _ _ e, rules-inside _ _ _ _ z (x .ensures .1) _ _ _ e)
-
-is-cyclic-requires : tie.Need-is-cyclic-requires
-is-cyclic-requires c κs =
-    let x = c .before .before .before .before .read in
-    let l = rules-most _ _ _ _ (c .before .before .before .before .before .from-zero .ensures) (x .ensures .1) _ _ _ (c .before .before .rules .given .1) in
-    let n = c .file-rules .ensures .1 in
-    omega arith
-
-returns : tie.Need-returns
-returns c = search judges
+enum-known-found : tie.Need-enum-known-found
+enum-known-found c = search selects
 
 has-test-requires : tie.Need-has-test-requires
-has-test-requires c κs = search needs
+has-test-requires c κs = search selects
+
+returns : tie.Need-returns
+returns c = search selects
+
+from-zero-requires : tie.Need-from-zero-requires
+from-zero-requires c κs = search selects
+
+mul-t17 : tie.Need-mul-t17
+mul-t17 c = search selects
+
+array-copy-out-t20 : tie.Need-array-copy-out-t20
+array-copy-out-t20 c = search selects
+
+enum-known-found-2 : tie.Need-enum-known-found-2
+enum-known-found-2 c = search selects
 
 returns-2 : tie.Need-returns-2
-returns-2 c = search judges
+returns-2 c = search selects
 
 returns-3 : tie.Need-returns-3
-returns-3 c = search judges
-
-enum-known-number : tie.Need-enum-known-number
-enum-known-number c = search needs
-
-returns-4 : tie.Need-returns-4
-returns-4 c = search judges
+returns-3 c = search selects
 
 pub select-spec : {M : Type 1} → statement M
 select-spec =
     tie.close
     (tie.spec
-    from-zero-requires
-    read-requires
-    enum-known-rules
-    file-rules-requires
-    is-cyclic-requires
-    returns
+    open-file-requires
+    enum-known-found
     has-test-requires
+    returns
+    from-zero-requires
+    mul-t17
+    array-copy-out-t20
+    enum-known-found-2
     returns-2
-    enum-known-number
-    returns-3
-    returns-4)
+    returns-3)

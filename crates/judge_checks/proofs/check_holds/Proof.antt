@@ -1,4 +1,4 @@
--- `checks::check_holds` meets its contract, one law for each form of a check.
+-- `judge_checks::check_holds` meets its contract, one law for each form of a check.
 use Rattle.judge_checks.proofs.CheckSteps.{checking}
 use Rattle.judge_checks.proofs.check_holds.Statement.{statement}
 use Rattle.judge_checks.proofs.check_holds.Tie as tie

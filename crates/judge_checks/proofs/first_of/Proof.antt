@@ -1,4 +1,4 @@
--- `checks::first_of` meets its contract, by arithmetic.
+-- `judge_checks::first_of` meets its contract, by arithmetic.
 use native.Mathlib.Omega.{arith}
 use Rattle.model.specs.Disk.{firstOf}
 use mathlib.Core.Path.{refl}

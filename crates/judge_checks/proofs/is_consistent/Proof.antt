@@ -1,4 +1,4 @@
--- `checks::is_consistent` meets its contract. The invariant: the first i checks hold.
+-- `judge_checks::is_consistent` meets its contract. The invariant: the first i checks hold.
 use Prim.Native.Nat.{_-_, _≤_}
 use mathlib.Core.Path.{_≡_}
 use mathlib.Core.Bool.{true}

@@ -1,4 +1,4 @@
--- `checks::is_damaged` meets its contract, one law for each of its returns.
+-- `judge_checks::is_damaged` meets its contract, one law for each of its returns.
 use Rattle.judge_checks.proofs.CheckSteps.{checking}
 use Rattle.judge_checks.proofs.is_damaged.Statement.{statement}
 use Rattle.judge_checks.proofs.is_damaged.Tie as tie

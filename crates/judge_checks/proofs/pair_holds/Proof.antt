@@ -1,4 +1,4 @@
--- `checks::pair_holds` meets its contract, by the cases of its definition.
+-- `judge_checks::pair_holds` meets its contract, by the cases of its definition.
 use Rattle.model.specs.Check.{holds}
 use Rattle.relation.proofs.Cases.{cases}
 use Rattle.judge_checks.proofs.pair_holds.Statement.{statement}

@@ -1,4 +1,4 @@
--- `checks::pointer_holds` meets its contract, one law for each of its returns.
+-- `judge_checks::pointer_holds` meets its contract, one law for each of its returns.
 use Rattle.judge_checks.proofs.CheckSteps.{checking}
 use Rattle.judge_checks.proofs.pointer_holds.Statement.{statement}
 use Rattle.judge_checks.proofs.pointer_holds.Tie as tie

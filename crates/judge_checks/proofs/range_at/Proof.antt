@@ -1,4 +1,4 @@
--- `checks::range_at` meets its contract, by the contract of `range_holds`.
+-- `judge_checks::range_at` meets its contract, by the contract of `range_holds`.
 use Rattle.judge_checks.proofs.CheckSteps.{checking}
 use Rattle.judge_checks.proofs.range_at.Statement.{statement}
 use Rattle.judge_checks.proofs.range_at.Tie as tie

@@ -1,11 +1,12 @@
--- `checks::range_holds` meets its contract. The invariant: the blocks from head up to k are not empty.
+-- `judge_checks::range_holds` meets its contract. The invariant: the blocks from head up to k are not empty.
 use Prim.Native.Nat.{_-_, _≤_, _<_}
+use Rattle.model.specs.Limits.{diskBlocks}
 use Rattle.judge_checks.proofs.CheckSteps.{Full, checking}
 use Rattle.judge_checks.proofs.range_holds.Statement.{statement}
 use Rattle.judge_checks.proofs.range_holds.Tie as tie
 
 abbrev Inv-loop : tie.InvT-loop
-Inv-loop disk head tail k₀ k = (head < tail) × (tail ≤ 256) × (head ≤ k) × (k ≤ tail) × Full disk head k
+Inv-loop disk head tail k₀ k = (head < tail) × (tail ≤ diskBlocks) × (head ≤ k) × (k ≤ tail) × Full disk head k
 
 abbrev μ-loop : tie.MeasureT-loop
 μ-loop disk head tail k₀ k = tail - k

@@ -1,4 +1,4 @@
--- `checks::second_of` meets its contract, by arithmetic.
+-- `judge_checks::second_of` meets its contract, by arithmetic.
 use native.Mathlib.Omega.{arith}
 use Rattle.model.specs.Disk.{secondOf}
 use mathlib.Core.Path.{refl}

@@ -1,4 +1,4 @@
--- `counting::tally` meets its contract, one law for each of its returns.
+-- `judge_counting::tally` meets its contract, one law for each of its returns.
 use Rattle.judge_counting.proofs.CountLaws.{counts}
 use Rattle.judge_counting.proofs.tally.Statement.{statement}
 use Rattle.judge_counting.proofs.tally.Tie as tie

@@ -1,4 +1,4 @@
--- `disks::apply` meets its contract, by induction on the writes left.
+-- `judge_disks::apply` meets its contract, by induction on the writes left.
 use Rattle.judge_disks.proofs.DiskSteps.{steps}
 use Prim.Native.Nat.{ℕ, _<_}
 use borrow.Fn.Kinds.{In}

@@ -1,4 +1,4 @@
--- `disks::restore` meets its contract. The invariant: the addresses of the first i writes are put back, the others are as they were.
+-- `judge_disks::restore` meets its contract. The invariant: the addresses of the first i writes are put back, the others are as they were.
 use Prim.Native.Nat.{_-_, _≤_}
 use Rattle.judge_disks.proofs.RestoreLaws.{restoring, Restoring}
 use Rattle.judge_disks.proofs.restore.Statement.{statement}

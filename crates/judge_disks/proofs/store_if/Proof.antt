@@ -1,4 +1,4 @@
--- `disks::store_if` meets its contract, one law for each case of the flag.
+-- `judge_disks::store_if` meets its contract, one law for each case of the flag.
 use Rattle.judge_disks.proofs.DiskSteps.{steps}
 use Rattle.judge_disks.proofs.store_if.Statement.{statement}
 use Rattle.judge_disks.proofs.store_if.Tie as tie

@@ -1,36 +1,38 @@
--- `schedules::prepare` meets its contract: the unions of the rows decide validity.
-use Rattle.judge_schedules.proofs.RowSteps.{steps}
+-- `judge_schedules::prepare` meets its contract: the unions of the rows decide validity.
+use native.Mathlib.Omega.{arith}
+use Rattle.judge_schedules.proofs.RowLaws.{halves}
+use Rattle.judge_schedules.proofs.TotalLaws.{sets-fit}
 use Rattle.judge_schedules.proofs.prepare.Statement.{statement}
 use Rattle.judge_schedules.proofs.prepare.Tie as tie
 
-slice-aggregate-fill : tie.Need-slice-aggregate-fill
-slice-aggregate-fill c = search steps
-
-fill-requires : tie.Need-fill-requires
-fill-requires c κs = search steps
+first-half-requires : tie.Need-first-half-requires
+first-half-requires c κs = search halves
 
 unite-requires : tie.Need-unite-requires
-unite-requires c κs = search steps
+unite-requires c κs = (sets-fit _ _ (omega arith) (omega arith), (search halves, search halves))
+
+sub-unite : tie.Need-sub-unite
+sub-unite c = search halves
 
 unite-requires-2 : tie.Need-unite-requires-2
-unite-requires-2 c κs = search steps
+unite-requires-2 c κs = (sets-fit _ _ (omega arith) (omega arith), (search halves, search halves))
 
 same-length : tie.Need-same-length
-same-length c = search steps
+same-length c = search halves
 
 same-length-2 : tie.Need-same-length-2
-same-length-2 c = search steps
+same-length-2 c = search halves
 
 returns : tie.Need-returns
-returns c = search steps
+returns c = search halves
 
 pub prepare-spec : {M : Type 1} → statement M
 prepare-spec =
     tie.close
     (tie.spec
-    slice-aggregate-fill
-    fill-requires
+    first-half-requires
     unite-requires
+    sub-unite
     unite-requires-2
     same-length
     same-length-2

@@ -1,4 +1,4 @@
--- `printing::put_decimal` meets its contract, by recursion on the number.
+-- `judge_text::put_decimal` meets its contract, by recursion on the number.
 use Rattle.judge_text.proofs.WriteLaws.{writes}
 use Prim.Native.Nat.{ℕ, _<_}
 use borrow.Fn.Kinds.{In}

@@ -1,4 +1,4 @@
--- `printing::put_line` meets its contract: its parts, written one behind the other, are the line.
+-- `judge_text::put_line` meets its contract: its parts, written one behind the other, are the line.
 use native.Mathlib.Omega.{arith}
 use Rattle.judge_text.proofs.LineLaws.{line-steps, line-wrote}
 use Rattle.judge_text.proofs.put_line.Statement.{statement}

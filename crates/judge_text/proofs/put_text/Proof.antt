@@ -1,4 +1,4 @@
--- `printing::put_text` meets its contract. The invariant: the first i bytes are written.
+-- `judge_text::put_text` meets its contract. The invariant: the first i bytes are written.
 use Prim.Native.Nat.{_+_, _-_, _≤_}
 use mathlib.Core.Path.{_≡_}
 use lib.ListN.{length, take}

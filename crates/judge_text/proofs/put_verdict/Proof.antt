@@ -1,4 +1,4 @@
--- `printing::put_verdict` meets its contract, one law for each text.
+-- `judge_text::put_verdict` meets its contract, one law for each text.
 use Rattle.judge_text.proofs.LineLaws.{line-steps}
 use Rattle.judge_text.proofs.put_verdict.Statement.{statement}
 use Rattle.judge_text.proofs.put_verdict.Tie as tie

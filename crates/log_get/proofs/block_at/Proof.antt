@@ -1,4 +1,4 @@
--- `log::block_at` meets its contract, by the contract of `word_at`.
+-- `log_get::block_at` meets its contract, by the contract of `word_at`.
 use Rattle.log_get.proofs.GetSteps.{gets}
 use borrow.Author.Needs.{needs}
 use Rattle.log_get.proofs.block_at.Statement.{statement}

@@ -1,4 +1,4 @@
--- `log::find_key` meets its contract. The invariant: what is sought up to tail is what is sought up to a.
+-- `log_get::find_key` meets its contract. The invariant: what is sought up to tail is what is sought up to a.
 use Prim.Native.Nat.{_-_, _≤_}
 use mathlib.Core.Path.{_≡_}
 use mathlib.Core.Bool.{false}

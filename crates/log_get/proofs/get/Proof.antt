@@ -1,4 +1,4 @@
--- `log::get` meets its contract, one law for each of its returns.
+-- `log_get::get` meets its contract, one law for each of its returns.
 use Rattle.log_get.proofs.GetSteps.{gets}
 use borrow.Author.Needs.{needs}
 use Rattle.log_get.proofs.get.Statement.{statement}

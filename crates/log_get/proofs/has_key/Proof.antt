@@ -1,4 +1,4 @@
--- `log::has_key` meets its contract, one law for each of its returns.
+-- `log_get::has_key` meets its contract, one law for each of its returns.
 use Rattle.log_get.proofs.GetSteps.{gets}
 use borrow.Author.Needs.{needs}
 use Rattle.log_get.proofs.has_key.Statement.{statement}

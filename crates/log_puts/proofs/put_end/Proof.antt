@@ -1,4 +1,4 @@
--- `puts::put_end` meets its contract: its bytes, written one behind the other, are the fields.
+-- `log_puts::put_end` meets its contract: its bytes, written one behind the other, are the fields.
 use native.Mathlib.Omega.{arith}
 use Rattle.log_puts.proofs.PutSteps.{end-wrote}
 use borrow.Author.Needs.{needs}

@@ -1,7 +1,8 @@
--- `puts::put_program` meets its contract. The invariant: the fields of the first i puts are written, in 26 bytes each.
+-- `log_puts::put_program` meets its contract. The invariant: the fields of the first i puts are written, each in as many bytes.
 use Prim.Native.Nat.{_+_, _-_, _*_, _≤_}
 use mathlib.Core.Path.{_≡_}
 use lib.ListN.{length}
+use Rattle.file_format.specs.File.{putLength}
 use Rattle.file_writing.specs.Writing.{Wrote}
 use Rattle.log_puts.specs.Fields.{programFields}
 use Rattle.log_puts.proofs.PutSteps.{putting}
@@ -9,7 +10,7 @@ use Rattle.log_puts.proofs.put_program.Statement.{statement}
 use Rattle.log_puts.proofs.put_program.Tie as tie
 
 abbrev Inv-loop : tie.InvT-loop
-Inv-loop out₀ from tag program n tail epoch at₀ i₀ out at i = (i ≤ n) × (length out ≡ length out₀) × (at ≡ from + 26 * i) × Wrote out₀ from (programFields tag tail epoch program i) out at
+Inv-loop out₀ from tag program n tail epoch at₀ i₀ out at i = (i ≤ n) × (length out ≡ length out₀) × (at ≡ from + putLength * i) × Wrote out₀ from (programFields tag tail epoch program i) out at
 
 abbrev μ-loop : tie.MeasureT-loop
 μ-loop out₀ from tag program n tail epoch at₀ i₀ out at i = n - i

@@ -1,4 +1,4 @@
--- `puts::put_put` meets its contract: its two fields, written one behind the other, are the put's.
+-- `log_puts::put_put` meets its contract: its two fields, written one behind the other, are the put's.
 use native.Mathlib.Omega.{arith}
 use Rattle.log_puts.proofs.PutSteps.{put-wrote}
 use borrow.Author.Needs.{needs}

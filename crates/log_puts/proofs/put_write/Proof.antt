@@ -1,4 +1,4 @@
--- `puts::put_write` meets its contract: its bytes, written one behind the other, are the field.
+-- `log_puts::put_write` meets its contract: its bytes, written one behind the other, are the field.
 use native.Mathlib.Omega.{arith}
 use Rattle.log_puts.proofs.PutSteps.{write-wrote}
 use borrow.Author.Needs.{needs}

@@ -1,4 +1,4 @@
--- `tracing::has_empty` meets its contract. The invariant: none of the first i puts is (0,0).
+-- `log_trace::has_empty` meets its contract. The invariant: none of the first i puts is (0,0).
 use Prim.Native.Nat.{_-_, _≤_}
 use mathlib.Core.Path.{_≡_}
 use mathlib.Core.Bool.{false}

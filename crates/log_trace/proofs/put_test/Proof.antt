@@ -1,4 +1,4 @@
--- `tracing::put_test` meets its contract: the two programs and the end, written one behind the other, are the test.
+-- `log_trace::put_test` meets its contract: the two programs and the end, written one behind the other, are the test.
 use Rattle.log_trace.proofs.ProgramLaws.{faults}
 use Rattle.log_trace.proofs.put_test.Statement.{statement}
 use Rattle.log_trace.proofs.put_test.Tie as tie

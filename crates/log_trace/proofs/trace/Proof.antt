@@ -1,4 +1,4 @@
--- `tracing::trace` meets its contract: a refusal, or the test written.
+-- `log_trace::trace` meets its contract: a refusal, or the test written.
 use Rattle.log_trace.proofs.ProgramLaws.{faults}
 use Rattle.log_trace.proofs.trace.Statement.{statement}
 use Rattle.log_trace.proofs.trace.Tie as tie

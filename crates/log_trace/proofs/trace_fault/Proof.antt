@@ -1,4 +1,4 @@
--- `tracing::trace_fault` meets its contract, one law for each of its returns.
+-- `log_trace::trace_fault` meets its contract, one law for each of its returns.
 use Rattle.log_trace.proofs.ProgramLaws.{faults}
 use Rattle.relation.proofs.Cases.{calls}
 use Rattle.log_trace.specs.Traced.{traceFault}

@@ -1,6 +1,5 @@
 -- `receiver::pelzhondy_open` meets its contract: one law for each of its returns.
-use native.Mathlib.Omega.{arith}
-use Rattle.cache_opening.proofs.OpenSteps.{opening, open-fits, refusal-fits}
+use Rattle.cache_opening.proofs.OpenSteps.{opening}
 use Rattle.receiver.proofs.pelzhondy_open.Statement.{statement}
 use Rattle.receiver.proofs.pelzhondy_open.Tie as tie
 
@@ -13,8 +12,8 @@ returns c = search opening
 read-requires : tie.Need-read-requires
 read-requires c κs = search opening
 
-enum-known-rules : tie.Need-enum-known-rules
-enum-known-rules c = search opening
+enum-known-scan : tie.Need-enum-known-scan
+enum-known-scan c = search opening
 
 refuse-requires-2 : tie.Need-refuse-requires-2
 refuse-requires-2 c κs = search opening
@@ -23,22 +22,16 @@ returns-2 : tie.Need-returns-2
 returns-2 c = search opening
 
 file-rules-requires : tie.Need-file-rules-requires
-file-rules-requires c κs = open-fits _ _ (c .before .before .before .before .before .read .ensures .1) _ _ _ (c .before .before .before .rules .given .1)
+file-rules-requires c κs = search opening
 
 open-with-requires : tie.Need-open-with-requires
-open-with-requires c κs =
-    let n = c .file-rules .ensures .1 in
-    let l = open-fits _ _ (c .before .before .before .before .before .before .read .ensures .1) _ _ _ (c .before .before .before .before .rules .given .1) .0 in
-    (omega arith, omega arith)
+open-with-requires c κs = search opening
 
-enum-known-number : tie.Need-enum-known-number
-enum-known-number c = search opening
+enum-known-scan-2 : tie.Need-enum-known-scan-2
+enum-known-scan-2 c = search opening
 
-cast-refuse : tie.Need-cast-refuse
-cast-refuse c = search opening
-
-refuse-requires-3 : tie.Need-refuse-requires-3
-refuse-requires-3 c κs = refusal-fits _ _ (c .before .before .before .read .ensures .1) _ _ (c .before .number .given .1)
+code-of-requires : tie.Need-code-of-requires
+code-of-requires c κs = search opening
 
 same-length : tie.Need-same-length
 same-length c = search opening
@@ -56,14 +49,13 @@ pelzhondy-open-spec =
     refuse-requires
     returns
     read-requires
-    enum-known-rules
+    enum-known-scan
     refuse-requires-2
     returns-2
     file-rules-requires
     open-with-requires
-    enum-known-number
-    cast-refuse
-    refuse-requires-3
+    enum-known-scan-2
+    code-of-requires
     same-length
     returns-3
     returns-4)

@@ -1,14 +1,15 @@
 -- `relation::double` meets its contract. The invariant: the first x of the new entries are written, and those below are as they were.
 use mathlib.Core.Path.{_≡_}
-use Prim.Native.Nat.{_-_, _^_, _≤_}
+use Prim.Native.Nat.{_+_, _-_, _^_, _≤_}
 use lib.ListN.{length}
+use borrow.Author.Needs.{needs}
 use Rattle.relation.specs.Union.{Doubled}
 use Rattle.relation.proofs.UnionLaws.{uniting}
 use Rattle.relation.proofs.double.Statement.{statement}
 use Rattle.relation.proofs.double.Tie as tie
 
 abbrev Inv-loop : tie.InvT-loop
-Inv-loop table₀ i row size x₀ table x = (x ≤ size) × (size ≡ 2 ^ i) × (size ≤ 32) × (length table ≡ 64) × Doubled i row table₀ table x
+Inv-loop table₀ i row size x₀ table x = (x ≤ size) × (size ≡ 2 ^ i) × (size ≤ 2147483648) × (size + size ≤ length table) × (length table ≡ length table₀) × Doubled i row table₀ table x
 
 abbrev μ-loop : tie.MeasureT-loop
 μ-loop table₀ i row size x₀ table x = size - x
@@ -41,7 +42,7 @@ loop-less : tie.Need-loop-less Inv-loop μ-loop
 loop-less c = search uniting
 
 loop-again : tie.Need-loop-again Inv-loop μ-loop
-loop-again c = search uniting
+loop-again c = (search needs, search needs, search needs, search needs, search needs, search uniting)
 
 same-length : tie.Need-same-length Inv-loop μ-loop
 same-length c = search uniting

@@ -1,4 +1,4 @@
--- `cycles::equal_ring` meets its contract: the closed table has a loop where = rules have a ring.
+-- `rule_cycles::equal_ring` meets its contract: the closed table has a loop where = rules have a ring.
 use Rattle.rule_cycles.proofs.CycleSteps.{steps}
 use Rattle.rule_cycles.proofs.equal_ring.Statement.{statement}
 use Rattle.rule_cycles.proofs.equal_ring.Tie as tie

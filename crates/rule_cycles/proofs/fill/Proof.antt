@@ -1,4 +1,4 @@
--- `cycles::fill` meets its contract. The invariant: the first i rows are filled.
+-- `rule_cycles::fill` meets its contract. The invariant: the first i rows are filled.
 use mathlib.Core.Path.{_≡_}
 use Prim.Native.Nat.{_≤_, _-_}
 use lib.ListN.{length, take}

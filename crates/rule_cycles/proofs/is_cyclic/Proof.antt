@@ -1,4 +1,4 @@
--- `cycles::is_cyclic` meets its contract: one law for each of its returns.
+-- `rule_cycles::is_cyclic` meets its contract: one law for each of its returns.
 use Rattle.rule_cycles.proofs.CycleSteps.{steps}
 use Rattle.rule_cycles.proofs.is_cyclic.Statement.{statement}
 use Rattle.rule_cycles.proofs.is_cyclic.Tie as tie

@@ -1,4 +1,4 @@
--- `cycles::leads_to` meets its contract: one law for each of its returns.
+-- `rule_cycles::leads_to` meets its contract: one law for each of its returns.
 use Rattle.rule_cycles.proofs.CycleSteps.{steps}
 use Rattle.rule_cycles.proofs.leads_to.Statement.{statement}
 use Rattle.rule_cycles.proofs.leads_to.Tie as tie

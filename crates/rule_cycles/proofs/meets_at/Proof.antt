@@ -1,4 +1,4 @@
--- `cycles::meets_at` meets its contract: one law for each of its returns.
+-- `rule_cycles::meets_at` meets its contract: one law for each of its returns.
 use Rattle.rule_cycles.proofs.CycleSteps.{steps}
 use Rattle.rule_cycles.proofs.meets_at.Statement.{statement}
 use Rattle.rule_cycles.proofs.meets_at.Tie as tie

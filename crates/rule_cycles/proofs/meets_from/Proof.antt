@@ -1,4 +1,4 @@
--- `cycles::meets_from` meets its contract. The invariant: rule i and no < rule below j reach each other.
+-- `rule_cycles::meets_from` meets its contract. The invariant: rule i and no < rule below j reach each other.
 use mathlib.Core.Path.{_≡_}
 use mathlib.Core.Bool.{false}
 use Prim.Native.Nat.{_≤_, _-_}

@@ -1,4 +1,4 @@
--- `cycles::mixed_ring` meets its contract: the closed table agrees with that of the definition below the count.
+-- `rule_cycles::mixed_ring` meets its contract: the closed table agrees with that of the definition below the count.
 use Rattle.rule_cycles.proofs.CycleSteps.{steps}
 use Rattle.rule_cycles.proofs.mixed_ring.Statement.{statement}
 use Rattle.rule_cycles.proofs.mixed_ring.Tie as tie

@@ -1,4 +1,4 @@
--- `cycles::row` meets its contract. The invariant: the mask has the bits below j.
+-- `rule_cycles::row` meets its contract. The invariant: the mask has the bits below j.
 use mathlib.Core.Path.{_≡_}
 use Prim.Native.Nat.{_≤_, _-_}
 use Rattle.relation.specs.Bits.{maskOf}

@@ -1,4 +1,4 @@
--- `cycles::rules_meet` meets its contract. The invariant: no > rule below i meets a < rule.
+-- `rule_cycles::rules_meet` meets its contract. The invariant: no > rule below i meets a < rule.
 use mathlib.Core.Path.{_≡_}
 use mathlib.Core.Bool.{false}
 use Prim.Native.Nat.{_≤_, _-_}

@@ -1,4 +1,4 @@
--- `cycles::with_link` meets its contract: one law for each of its returns.
+-- `rule_cycles::with_link` meets its contract: one law for each of its returns.
 use Rattle.rule_cycles.proofs.CycleSteps.{steps}
 use Rattle.rule_cycles.proofs.with_link.Statement.{statement}
 use Rattle.rule_cycles.proofs.with_link.Tie as tie

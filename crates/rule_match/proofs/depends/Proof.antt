@@ -1,4 +1,4 @@
--- `rules::depends` meets its contract. The invariant: none of the first k rules pairs the labels.
+-- `rule_match::depends` meets its contract. The invariant: none of the first k rules pairs the labels.
 use mathlib.Core.Path.{_≡_}
 use mathlib.Core.Bool.{false}
 use Prim.Native.Nat.{_≤_, _-_}

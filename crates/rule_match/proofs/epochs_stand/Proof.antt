@@ -1,4 +1,4 @@
--- `rules::epochs_stand` meets its contract: one law for each predicate.
+-- `rule_match::epochs_stand` meets its contract: one law for each predicate.
 use Rattle.rule_match.proofs.MatchSteps.{matching}
 use Rattle.rule_match.proofs.epochs_stand.Statement.{statement}
 use Rattle.rule_match.proofs.epochs_stand.Tie as tie

@@ -1,4 +1,4 @@
--- `rules::matches` meets its contract: one law for each of its returns.
+-- `rule_match::matches` meets its contract: one law for each of its returns.
 use Rattle.rule_match.proofs.MatchSteps.{matching}
 use Rattle.rule_match.proofs.matches.Statement.{statement}
 use Rattle.rule_match.proofs.matches.Tie as tie

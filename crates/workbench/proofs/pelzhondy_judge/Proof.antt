@@ -1,26 +1,22 @@
 -- `workbench::pelzhondy_judge` meets its contract: the judge's refusal, or its numbers as one.
-use Rattle.judge_answers.proofs.JudgedLaws.{judged, counts-few, refused-fits}
-use borrow.Author.Needs.{needs}
+use Rattle.judge_answers.proofs.JudgedLaws.{judged}
 use Rattle.workbench.proofs.pelzhondy_judge.Statement.{statement}
 use Rattle.workbench.proofs.pelzhondy_judge.Tie as tie
 
 judge-requires : tie.Need-judge-requires
-judge-requires c κs = search needs
+judge-requires c κs = search judged
 
 enum-known-j : tie.Need-enum-known-j
-enum-known-j c = search needs
+enum-known-j c = search judged
 
 code-of-requires : tie.Need-code-of-requires
-code-of-requires c κs = counts-few _ (c .before .before .before .judge .ensures .1) _ (c .before .j .given .1)
+code-of-requires c κs = search judged
 
-enum-known-number : tie.Need-enum-known-number
-enum-known-number c = search needs
+enum-known-why : tie.Need-enum-known-why
+enum-known-why c = search judged
 
-cast-refuse : tie.Need-cast-refuse
-cast-refuse c = search needs
-
-refuse-requires : tie.Need-refuse-requires
-refuse-requires c κs = refused-fits _ (c .before .before .before .judge .ensures .1) _ _ (c .before .number .given .1)
+code-of-requires-2 : tie.Need-code-of-requires-2
+code-of-requires-2 c κs = search judged
 
 returns : tie.Need-returns
 returns c = search judged
@@ -35,8 +31,7 @@ pelzhondy-judge-spec =
     judge-requires
     enum-known-j
     code-of-requires
-    enum-known-number
-    cast-refuse
-    refuse-requires
+    enum-known-why
+    code-of-requires-2
     returns
     returns-2)

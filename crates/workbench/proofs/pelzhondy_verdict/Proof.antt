@@ -1,26 +1,22 @@
--- `workbench::pelzhondy_verdict` meets its contract: the verdict's refusal, or the verdict as one number.
-use Rattle.judge_answers.proofs.JudgedLaws.{judged, decided-fits}
-use borrow.Author.Needs.{needs}
+-- `workbench::pelzhondy_verdict` meets its contract: the refusal, or the verdict as one number.
+use Rattle.judge_answers.proofs.JudgedLaws.{judged}
 use Rattle.workbench.proofs.pelzhondy_verdict.Statement.{statement}
 use Rattle.workbench.proofs.pelzhondy_verdict.Tie as tie
 
 decide-requires : tie.Need-decide-requires
-decide-requires c κs = search needs
+decide-requires c κs = search judged
 
 enum-known-v : tie.Need-enum-known-v
-enum-known-v c = search needs
+enum-known-v c = search judged
 
 code-of-verdict-requires : tie.Need-code-of-verdict-requires
 code-of-verdict-requires c κs = search judged
 
-enum-known-number : tie.Need-enum-known-number
-enum-known-number c = search needs
+enum-known-why : tie.Need-enum-known-why
+enum-known-why c = search judged
 
-cast-refuse : tie.Need-cast-refuse
-cast-refuse c = search needs
-
-refuse-requires : tie.Need-refuse-requires
-refuse-requires c κs = decided-fits _ (c .before .before .before .decide .ensures .1) _ _ (c .before .number .given .1)
+code-of-requires : tie.Need-code-of-requires
+code-of-requires c κs = search judged
 
 returns : tie.Need-returns
 returns c = search judged
@@ -35,8 +31,7 @@ pelzhondy-verdict-spec =
     decide-requires
     enum-known-v
     code-of-verdict-requires
-    enum-known-number
-    cast-refuse
-    refuse-requires
+    enum-known-why
+    code-of-requires
     returns
     returns-2)
