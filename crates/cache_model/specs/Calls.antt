@@ -15,6 +15,7 @@ use Rattle.model.specs.Rules.{labelOf, DependsOn, dependsOn}
 use Rattle.model.specs.Cyclic.{cyclic}
 use Rattle.model.specs.Schedule.{writeAt, labelAt}
 use Rattle.model.specs.Test.{File}
+use Rattle.file_format.specs.Bytes.{diskLength}
 use Rattle.file_format.specs.File.{readOf}
 use Rattle.cache_model.specs.Needs.{needsRing, ready}
 use Rattle.cache_model.specs.State.{stateSize, acceptedCount, storedCount, rulesIn, writesIn, storedIn, opened, handed, marked, storedOn}
@@ -73,7 +74,7 @@ storing (suc i) state disk = left (answer (suc i)) (marked state i) (storedOn di
 unfoldable pub checked : (List ℕ → List ℕ → Left) → List ℕ → List ℕ → Left
 checked call state disk =
     cond (not (eqb (length state) stateSize)) (left (refused 14 0) state disk)
-    (cond (not (eqb (length disk) 1024)) (left (refused 14 0) state disk)
+    (cond (not (eqb (length disk) diskLength)) (left (refused 14 0) state disk)
     (cond (not (sound state)) (left (refused 15 0) state disk)
     (call state disk)))
 

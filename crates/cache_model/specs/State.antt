@@ -9,7 +9,7 @@ use lib.Seq.{sets}
 use Rattle.relation.specs.Lists.{tabulate}
 use Rattle.model.specs.declared.Write.{Write}
 use Rattle.model.specs.declared.Rule.{Rule}
-use Rattle.file_format.specs.Bytes.{byte, bytes4, writeBytes, ruleBytes}
+use Rattle.file_format.specs.Bytes.{byte, bytes4, blockLength, writeBytes, ruleBytes}
 use Rattle.file_format.specs.File.{ruleOf, writeOf}
 
 abbrev pub stateSize : ℕ
@@ -74,4 +74,4 @@ marked s i = set (set s (writeBase i + 10) 1) 2 (storedCount s + 1)
 
 -- a write's block on a disk of bytes: block a at 4a, big-endian
 unfoldable pub storedOn : List ℕ → Write → List ℕ
-storedOn disk w = sets disk (4 * w .address) (bytes4 (w .block))
+storedOn disk w = sets disk (blockLength * w .address) (bytes4 (w .block))

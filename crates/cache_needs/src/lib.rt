@@ -45,7 +45,7 @@ fn with_rule(mask: u64, rule: Rule, second: u64, name: u8, epochs: Epochs) -> u6
 // The writes that rules pair with a write of this name and epoch. seconds has for each rule the
 // writes with its second name.
 fn dependencies(rules: Rules, seconds: &[u64], name: u8, epochs: Epochs) -> u64
-    requires { ⌜ (rules .count ≤ mostRules) × (length (now seconds) ≡ 32) ⌝ }
+    requires { ⌜ (rules .count ≤ mostRules) × (length (now seconds) ≡ mostRules) ⌝ }
     ensures { λ r. ⌜ r ≡ pairedBy rules (now (seconds .entry)) name epochs (rules .count) ⌝ }
 {
     let mut mask: u64 = 0;
@@ -59,8 +59,8 @@ fn dependencies(rules: Rules, seconds: &[u64], name: u8, epochs: Epochs) -> u64
 
 // For each rule the accepted writes with its second name.
 fn fill_seconds(seconds: &mut [u64], state: &[u8], rules: Rules)
-    requires { ⌜ (length (now seconds) ≡ 32) × ((length (now state) ≡ 1024) × ((rules .count ≤ mostRules) × (acceptedCount (now state) ≤ mostHeld))) ⌝ }
-    ensures { λ _. ⌜ (length (now (seconds .exit)) ≡ 32) × (take (rules .count) (now (seconds .exit)) ≡ tabulate (secondMask (rulesOf rules) (now (state .entry))) (rules .count)) ⌝ }
+    requires { ⌜ (length (now seconds) ≡ mostRules) × ((length (now state) ≡ 1024) × ((rules .count ≤ mostRules) × (acceptedCount (now state) ≤ mostHeld))) ⌝ }
+    ensures { λ _. ⌜ (length (now (seconds .exit)) ≡ mostRules) × (take (rules .count) (now (seconds .exit)) ≡ tabulate (secondMask (rulesOf rules) (now (state .entry))) (rules .count)) ⌝ }
 {
     let mut k: usize = 0;
     while k < rules.count {
@@ -71,7 +71,7 @@ fn fill_seconds(seconds: &mut [u64], state: &[u8], rules: Rules)
 
 // What write i, which is u, needs.
 fn row(state: &[u8], rules: Rules, seconds: &[u64], i: usize, u: Write, epochs: Epochs) -> u64
-    requires { ⌜ (length (now state) ≡ 1024) × ((rules .count ≤ mostRules) × ((acceptedCount (now state) ≤ mostHeld) × ((i < acceptedCount (now state)) × ((u ≡ writeIn (now state) i) × (Compared (now state) (u .epoch) epochs × ((length (now seconds) ≡ 32) × (take (rules .count) (now seconds) ≡ tabulate (secondMask (rulesOf rules) (now state)) (rules .count)))))))) ⌝ }
+    requires { ⌜ (length (now state) ≡ 1024) × ((rules .count ≤ mostRules) × ((acceptedCount (now state) ≤ mostHeld) × ((i < acceptedCount (now state)) × ((u ≡ writeIn (now state) i) × (Compared (now state) (u .epoch) epochs × ((length (now seconds) ≡ mostRules) × (take (rules .count) (now seconds) ≡ tabulate (secondMask (rulesOf rules) (now state)) (rules .count)))))))) ⌝ }
     ensures { λ r. ⌜ r ≡ maskOf (needs (rulesOf rules) (writesIn (now (state .entry))) i) (acceptedCount (now (state .entry))) ⌝ }
 {
     dependencies(rules, seconds, u.name, epochs) | cache_masks::at_address(state, u.address, i)
@@ -83,7 +83,7 @@ pub fn fill_needs(rows: &mut [u64], state: &[u8], rules: Rules)
     ensures { λ _. ⌜ take (acceptedCount (now (state .entry))) (now (rows .exit)) ≡ rowsOf (needs (rulesOf rules) (writesIn (now (state .entry)))) (acceptedCount (now (state .entry))) ⌝ }
 {
     let n = cache_contents::wide(state[1]);
-    let mut seconds = [0u64; 32];
+    let mut seconds = [0u64; model::MOST_RULES];
     fill_seconds(&mut seconds, state, rules);
     let mut t: u32 = 0;
     let mut epochs = cache_masks::compare_epochs(state, t);

@@ -13,7 +13,7 @@ use borrow.Author.Tests.{eq-eqb, ne-eqb}
 use Rattle.relation.proofs.ListLaws.{tabulate-ext}
 use Rattle.model.specs.Limits.{mostRules, mostHeld}
 use Rattle.model.specs.declared.Write.{Write}
-use Rattle.file_format.specs.Bytes.{byte, bytes4}
+use Rattle.file_format.specs.Bytes.{byte, bytes4, blockLength, diskLength}
 use Rattle.file_format.specs.File.{ruleOf, writeOf}
 use Rattle.cache_model.specs.Needs.{Needs, Earliest, met, ready}
 use Rattle.cache_model.specs.State.{stateSize, ruleCount, acceptedCount, storedCount, ruleBase, writeBase, ruleIn, writeIn, flagIn, rulesIn, writesIn, storedIn, marked, storedOn}
@@ -155,7 +155,7 @@ sound-marked s i e a w m = true-sound (marked s i) (mark-keeps s i (sound-true s
 
 pub length-stored : (d : List ℕ) (w : Write) → length (storedOn d w) ≡ length d
 unfolding storedOn
-length-stored d w = length-sets d (4 * w .address) (bytes4 (w .block))
+length-stored d w = length-sets d (blockLength * w .address) (bytes4 (w .block))
 
 -- the earliest is accepted
 pub earliest-accepted : (s : List ℕ) (i : ℕ) → Earliest (rulesIn s) (writesIn s) (storedIn s) i → i < acceptedCount s
@@ -180,16 +180,16 @@ length-stepped s d = go (ready (rulesIn s) (writesIn s) (storedIn s))
     go (suc i) = length-stored d _
 
 -- a call on a sound state and a disk of 1,024 bytes is carried out
-pub checked-sound : (f : List ℕ → List ℕ → Left) (s d : List ℕ) → sound s ≡ true → length d ≡ 1024 → checked f s d ≡ f s d
+pub checked-sound : (f : List ℕ → List ℕ → Left) (s d : List ℕ) → sound s ≡ true → length d ≡ diskLength → checked f s d ≡ f s d
 unfolding checked
-checked-sound f s d e l = rw (eq-eqb (length s) stateSize (sound-size s e), eq-eqb (length d) 1024 l, e)
+checked-sound f s d e l = rw (eq-eqb (length s) stateSize (sound-size s e), eq-eqb (length d) diskLength l, e)
 
-pub step-sound : (s d : List ℕ) → sound s ≡ true → length d ≡ 1024 → stepOf s d ≡ stepped s d
+pub step-sound : (s d : List ℕ) → sound s ≡ true → length d ≡ diskLength → stepOf s d ≡ stepped s d
 unfolding stepOf
 step-sound s d e l = checked-sound stepped s d e l
 
 -- what n + 1 steps leave is what n steps leave of what the first leaves
-pub steps-sound : (n : ℕ) (s d : List ℕ) → sound s ≡ true → length d ≡ 1024
+pub steps-sound : (n : ℕ) (s d : List ℕ) → sound s ≡ true → length d ≡ diskLength
     → stepsOf (suc n) (record { state = s; disk = d }) ≡ stepsOf n (record { state = stepped s d .state; disk = stepped s d .disk })
 unfolding stepsOf
 steps-sound n s d e l = rw (step-sound s d e l)

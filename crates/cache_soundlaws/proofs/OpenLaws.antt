@@ -12,6 +12,7 @@ use Rattle.relation.specs.Lists.{tabulate}
 use Rattle.relation.specs.Transitive.{Plus}
 use Rattle.relation.proofs.ListLaws.{untrue, tabulate-ext}
 use Rattle.model.specs.declared.Rule.{Rule}
+use Rattle.model.specs.Limits.{mostRules}
 use Rattle.model.specs.Rules.{Known}
 use Rattle.model.specs.Cyclic.{Cyclic, cyclic, noRule}
 use Rattle.model.specs.Test.{countBelow}
@@ -49,7 +50,7 @@ rule-byte (r ∷ rules) (suc i) j h l =
 abbrev header : List Rule → List ℕ
 header rules = length rules ∷ 0 ∷ 0 ∷ 0 ∷ rulesBytes rules
 
-module _ (rules : List Rule) (few : length rules ≤ 32) where
+module _ (rules : List Rule) (few : length rules ≤ mostRules) where
   length-opened : length (opened rules) ≡ 1024
   unfolding opened
   length-opened = length-sets (replicate stateSize 0) 0 (header rules) ∙ length-replicate {A = ℕ} stateSize 0

@@ -11,6 +11,7 @@ use borrow.Author.Tests.{eq-eqb, ne-eqb}
 use Rattle.relation.proofs.ListLaws.{untrue}
 use Rattle.model.specs.Answer.{Outcome, answer, refused}
 use Rattle.model.specs.Test.{File}
+use Rattle.file_format.specs.Bytes.{diskLength}
 use Rattle.cache_model.specs.State.{stateSize}
 use Rattle.cache_model.specs.Sound.{Sound, sound}
 use Rattle.cache_model.specs.Calls.{Left, left, openWith, openOf, handInOf, storing, checked, stepped, stepOf, drained, drainOf}
@@ -59,11 +60,11 @@ unsound : (s : List ℕ) → (Sound s → ⊥) → sound s ≡ false
 unsound s n = untrue (sound s) (λ e. n (sound-true s e))
 
 module _ (call : List ℕ → List ℕ → Left) (s d : List ℕ) where
-  pub checked-length : (length s ≢ stateSize) ⊎ (length d ≢ 1024) → checked call s d ≡ left (refused 14 0) s d
+  pub checked-length : (length s ≢ stateSize) ⊎ (length d ≢ diskLength) → checked call s d ≡ left (refused 14 0) s d
   unfolding checked
-  checked-length h = go (eqb (length s) stateSize) (eqb (length d) 1024) wrong
+  checked-length h = go (eqb (length s) stateSize) (eqb (length d) diskLength) wrong
     where
-      wrong : (eqb (length s) stateSize ≡ false) ⊎ (eqb (length d) 1024 ≡ false)
+      wrong : (eqb (length s) stateSize ≡ false) ⊎ (eqb (length d) diskLength ≡ false)
       wrong = ⊎-elim (λ n. inl (ne-eqb _ _ n)) (λ n. inr (ne-eqb _ _ n)) h
 
       go : (a b : Bool) → (a ≡ false) ⊎ (b ≡ false)
@@ -72,9 +73,9 @@ module _ (call : List ℕ → List ℕ → Left) (s d : List ℕ) where
       go true false w = refl
       go true true w = absurd (⊎-elim (λ e. false≢true (sym e)) (λ e. false≢true (sym e)) w)
 
-  checked-unsound : length s ≡ stateSize → length d ≡ 1024 → (Sound s → ⊥) → checked call s d ≡ left (refused 15 0) s d
+  checked-unsound : length s ≡ stateSize → length d ≡ diskLength → (Sound s → ⊥) → checked call s d ≡ left (refused 15 0) s d
   unfolding checked
-  checked-unsound a b n = rw (eq-eqb (length s) stateSize a, eq-eqb (length d) 1024 b, unsound s n)
+  checked-unsound a b n = rw (eq-eqb (length s) stateSize a, eq-eqb (length d) diskLength b, unsound s n)
 
 pub turnsDown : TurnsDown
 turnsDown s d =

@@ -15,7 +15,7 @@ use Rattle.model.specs.Rules.{stands, matches, dependsOn, known}
 use Rattle.model.specs.Cyclic.{noRule, leads, has, equalLeads, meets, cyclic}
 use Rattle.model.specs.Schedule.{noWrite}
 use Rattle.model.specs.Test.{countBelow}
-use Rattle.file_format.specs.Bytes.{half, word, writeBytes, ruleBytes}
+use Rattle.file_format.specs.Bytes.{half, word, diskLength, writeBytes, ruleBytes}
 use Rattle.file_format.specs.Encode.{WriteFits}
 use Rattle.file_format.specs.File.{ruleOf, writeOf}
 use Rattle.cache_model.specs.Needs.{needs, needsRing, met}
@@ -48,13 +48,13 @@ unfolding state storedIn
 waits = (0, omega arith, refl)
 
 abbrev disk : List ℕ
-disk = replicate 1024 0
+disk = replicate diskLength 0
 
 pub step-made : Step state disk
-step-made = steps state disk sound-state (length-replicate {A = ℕ} 1024 0)
+step-made = steps state disk sound-state (length-replicate {A = ℕ} diskLength 0)
 
 pub drain-made : Drain state disk
-drain-made = drains state disk sound-state (length-replicate {A = ℕ} 1024 0)
+drain-made = drains state disk sound-state (length-replicate {A = ℕ} diskLength 0)
 
 -- it answers 1
 pub drained-one : drainOf state disk .outcome ≡ answer 1

@@ -14,6 +14,7 @@ use Rattle.model.specs.Limits.{mostHeld}
 use Rattle.model.specs.declared.Write.{Write}
 use Rattle.model.specs.Answer.{answer, refused}
 use Rattle.model.proofs.TestLaws.{count-none}
+use Rattle.file_format.specs.Bytes.{diskLength}
 use Rattle.file_format.specs.Encode.{WriteFits}
 use Rattle.cache_model.specs.Needs.{NeedsRing, Earliest, needsRing, ready}
 use Rattle.cache_model.specs.State.{stateSize, acceptedCount, storedCount, rulesIn, writesIn, writeIn, storedIn, handed, marked, storedOn}
@@ -57,7 +58,7 @@ module _ (s : List ℕ) (f : Sound s) where
   all-stored : ready (rulesIn s) (writesIn s) (storedIn s) ≡ 0 → AllStored s
   all-stored e i h = none-ready (rulesIn s) (writesIn s) (storedIn s) (f .ringless) e i (rw (writes-length s) h)
 
-  module _ (d : List ℕ) (size : length d ≡ 1024) where
+  module _ (d : List ℕ) (size : length d ≡ diskLength) where
     step-ready : (k : ℕ) → ready (rulesIn s) (writesIn s) (storedIn s) ≡ k → stepOf s d ≡ storing k s d
     step-ready k e = step-sound s d (true-sound s f) size ∙ (unfold stepped in rw e)
 
@@ -94,7 +95,7 @@ steps s d f size = record { one = step-one s f d size; none = step-none s f d si
 -- what n steps keep of a state and a disk, and what they change
 record Kept (s : List ℕ) (n : ℕ) (h : Held) : Type 0 where
   sound : Sound (h .state)
-  size : length (h .disk) ≡ 1024
+  size : length (h .disk) ≡ diskLength
   rules : rulesIn (h .state) ≡ rulesIn s
   writes : writesIn (h .state) ≡ writesIn s
   accepted : acceptedCount (h .state) ≡ acceptedCount s
@@ -106,7 +107,7 @@ some-waits s f h =
     let w = count-some (λ i. not (storedIn s i)) (acceptedCount s) (omega arith) in
     (w .0, w .1, not-true (storedIn s (w .0)) (w .2))
 
-kept-once : (s d : List ℕ) → Sound s → length d ≡ 1024 → 0 < waiting s → Kept s 1 (holding (stepped s d .state) (stepped s d .disk))
+kept-once : (s d : List ℕ) → Sound s → length d ≡ diskLength → 0 < waiting s → Kept s 1 (holding (stepped s d .state) (stepped s d .disk))
 kept-once s d f size h =
     let w = step-one s f d size (some-waits s f h) in
     let i = w .0 in
@@ -124,7 +125,7 @@ kept-once s d f size h =
       stored = rw q (storedCount-marked s i (f .size) b);
     }
 
-kept-all : (n : ℕ) (s d : List ℕ) → Sound s → length d ≡ 1024 → n ≤ waiting s → Kept s n (stepsOf n (holding s d))
+kept-all : (n : ℕ) (s d : List ℕ) → Sound s → length d ≡ diskLength → n ≤ waiting s → Kept s n (stepsOf n (holding s d))
 kept-all zero s d f size h =
     unfold stepsOf in record { sound = f; size = size; rules = refl; writes = refl; accepted = refl; stored = omega arith }
 kept-all (suc n) s d f size h =
@@ -204,8 +205,8 @@ handsIn s d w f fits =
 
 -- ---- soundness stays
 
-checked-keeps : (call : List ℕ → List ℕ → Left) (s d : List ℕ) → Sound s → (length d ≡ 1024 → Sound (call s d .state)) → Sound (checked call s d .state)
-checked-keeps call s d f h = elim (ℕ-discrete (length d) 1024) [
+checked-keeps : (call : List ℕ → List ℕ → Left) (s d : List ℕ) → Sound s → (length d ≡ diskLength → Sound (call s d .state)) → Sound (checked call s d .state)
+checked-keeps call s d f h = elim (ℕ-discrete (length d) diskLength) [
   | yes e ↦ rw (checked-sound call s d (true-sound s f) e) (h e)
   | no n ↦ rw (checked-length call s d (inr n)) f
 ]

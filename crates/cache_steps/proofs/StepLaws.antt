@@ -16,6 +16,7 @@ use Rattle.relation.proofs.MaskLaws.{mask-with}
 use Rattle.model.specs.Limits.{mostRules, mostHeld}
 use Rattle.model.specs.declared.Write.{Write}
 use Rattle.model.specs.Answer.{refused, refusal, coded}
+use Rattle.file_format.specs.Bytes.{diskLength}
 use Rattle.rule_match.specs.declared.Rules.{Rules}
 use Rattle.cache_model.specs.Needs.{readyFrom, ready}
 use Rattle.cache_model.specs.State.{ruleCount, acceptedCount, storedCount, rulesIn, writesIn, writeIn, storedIn, marked, storedOn}
@@ -157,12 +158,12 @@ module _ (s rows : List ℕ) where
 
 module _ (s d : List ℕ) where
   -- a call that meets no refusal
-  clean : (n : ℕ) → n ≡ callFault s d → n ≡ 0 → (length s ≡ 1024) × ((length d ≡ 1024) × (sound s ≡ true))
+  clean : (n : ℕ) → n ≡ callFault s d → n ≡ 0 → (length s ≡ 1024) × ((length d ≡ diskLength) × (sound s ≡ true))
   unfolding callFault faultBy
-  clean n e z = go (eqb (length s) 1024) (eqb (length d) 1024) (sound s) refl refl refl (sym e ∙ z)
+  clean n e z = go (eqb (length s) 1024) (eqb (length d) diskLength) (sound s) refl refl refl (sym e ∙ z)
     where
-      go : (a b c : Bool) → eqb (length s) 1024 ≡ a → eqb (length d) 1024 ≡ b → sound s ≡ c → faultBy a b c ≡ 0
-          → (length s ≡ 1024) × ((length d ≡ 1024) × (sound s ≡ true))
+      go : (a b c : Bool) → eqb (length s) 1024 ≡ a → eqb (length d) diskLength ≡ b → sound s ≡ c → faultBy a b c ≡ 0
+          → (length s ≡ 1024) × ((length d ≡ diskLength) × (sound s ≡ true))
       go true true true p q r z = (eqb-true _ _ p, (eqb-true _ _ q, r))
       go true true false p q r z = absurd (omega arith)
       go true false c p q r z = absurd (omega arith)
@@ -174,14 +175,14 @@ module _ (s d : List ℕ) where
 
     -- with the table that it leaves
     pub cleared : (rows : List ℕ) (mask : ℕ) → TabledIf (eqb n 0) s rows → mask ≡ maskOf (storedIn s) (acceptedCount s)
-        → (length s ≡ 1024) × ((length d ≡ 1024) × ((sound s ≡ true) × (Tabled s rows × (mask ≡ maskOf (storedIn s) (acceptedCount s)))))
+        → (length s ≡ 1024) × ((length d ≡ diskLength) × ((sound s ≡ true) × (Tabled s rows × (mask ≡ maskOf (storedIn s) (acceptedCount s)))))
     unfolding TabledIf
     cleared rows mask h m = let c = clean n e z in (c .0, (c .1 .0, (c .1 .1, (h (eq-eqb n 0 z), m))))
 
   module _ (call : List ℕ → List ℕ → Left) (n : ℕ) (e : n ≡ callFault s d) where
     pub call-refused : (r : ℕ) → (n ≡ 0 → ⊥) → r ≡ refusal n 0 → callLeaves r s d ≡ codedLeft (checked call s d)
     unfolding callFault faultBy checked codedLeft coded
-    call-refused r z q = go (eqb (length s) 1024) (eqb (length d) 1024) (sound s) e
+    call-refused r z q = go (eqb (length s) 1024) (eqb (length d) diskLength) (sound s) e
       where
         go : (a b c : Bool) → n ≡ faultBy a b c
             → callLeaves r s d ≡ codedLeft (cond (not a) (left (refused 14 0) s d) (cond (not b) (left (refused 14 0) s d) (cond (not c) (left (refused 15 0) s d) (call s d))))
@@ -280,7 +281,7 @@ module _ (s d : List ℕ) (m k : ℕ) where
     unfolding codedLeft
     step-disk = ap (λ g. g .disk) e
 
-    pub drain-more : (n : ℕ) → k ≤ n → sound s′ ≡ true → length d′ ≡ 1024 → Drains s′ d′ n → Drains s″ d″ (n + 1)
+    pub drain-more : (n : ℕ) → k ≤ n → sound s′ ≡ true → length d′ ≡ diskLength → Drains s′ d′ n → Drains s″ d″ (n + 1)
     drain-more n h t l q =
         let z : n + 1 - k ≡ suc (n - k) = omega arith in
         rw (z, steps-last (n - k) (holding s d), ← q, step-state, step-disk, step-once s′ d′ t l)
@@ -302,7 +303,7 @@ module _ (s d : List ℕ) (m k : ℕ) where
     pub drain-size : sound s′ ≡ true → length s″ ≡ 1024
     drain-size t = sound-size s″ (drain-sound t)
 
-    pub drain-disk : length d′ ≡ 1024 → length d″ ≡ 1024
+    pub drain-disk : length d′ ≡ diskLength → length d″ ≡ diskLength
     drain-disk l = rw step-disk (length-stepped s′ d′ ∙ l)
 
     pub drain-tabled : (rows : List ℕ) → sound s′ ≡ true → Tabled s′ rows → Tabled s″ rows

@@ -11,6 +11,7 @@ use Rattle.model.specs.declared.Write.{Write}
 use Rattle.model.specs.Answer.{refusal, coded}
 use Rattle.model.specs.Rules.{labelOf, dependsOn}
 use Rattle.model.specs.Cyclic.{cyclic}
+use Rattle.file_format.specs.Bytes.{diskLength}
 use Rattle.cache_model.specs.Needs.{needsRing}
 use Rattle.cache_model.specs.State.{acceptedCount, writeIn, rulesIn, writesIn, storedIn, opened}
 use Rattle.cache_model.specs.Sound.{sound}
@@ -48,7 +49,7 @@ unfoldable pub faultBy : Bool → Bool → Bool → ℕ
 faultBy long wide good = cond (not long) 14 (cond (not wide) 14 (cond (not good) 15 0))
 
 unfoldable pub callFault : List ℕ → List ℕ → ℕ
-callFault s d = faultBy (eqb (length s) 1024) (eqb (length d) 1024) (sound s)
+callFault s d = faultBy (eqb (length s) 1024) (eqb (length d) diskLength) (sound s)
 
 -- write i is stored and depends on w
 unfoldable pub lateAt : List Rule → List ℕ → Write → ℕ → Bool

@@ -6,6 +6,7 @@ ghost use lib.Dec.{eqb};
 ghost use lib.ListN.{length};
 ghost use Rattle.relation.specs.Bits.{bit, withBit, maskOf};
 ghost use Rattle.model.specs.Limits.{mostHeld};
+ghost use Rattle.file_format.specs.Bytes.{diskLength};
 ghost use Rattle.cache_model.specs.Needs.{ready};
 ghost use Rattle.cache_model.specs.State.{acceptedCount, storedCount, writeIn, rulesIn, writesIn, storedIn, marked, storedOn};
 ghost use Rattle.cache_model.specs.Sound.{sound};
@@ -44,7 +45,7 @@ fn ready(state: &[u8], rows: &[u64; 64], mask: u64) -> usize
 
 // Write i is stored on the disk, and marked.
 fn store_write(state: &mut [u8], disk: &mut [u8], i: usize)
-    requires { ⌜ (length (now state) ≡ 1024) × ((length (now disk) ≡ 1024) × ((i < mostHeld) × (storedCount (now state) ≤ mostHeld))) ⌝ }
+    requires { ⌜ (length (now state) ≡ 1024) × ((length (now disk) ≡ diskLength) × ((i < mostHeld) × (storedCount (now state) ≤ mostHeld))) ⌝ }
     ensures { λ _. ⌜ (now (state .exit) ≡ marked (now (state .entry)) i) × (now (disk .exit) ≡ storedOn (now (disk .entry)) (writeIn (now (state .entry)) i)) ⌝ }
 {
     cache_stores::store_block(disk, cache_contents::write_in(state, i));
@@ -53,7 +54,7 @@ fn store_write(state: &mut [u8], disk: &mut [u8], i: usize)
 
 // A step on a sound state. rows has its needs, mask its stored writes.
 pub fn step_sound(state: &mut [u8], disk: &mut [u8], rows: &[u64; 64], mask: u64) -> u64
-    requires { ⌜ (length (now state) ≡ 1024) × ((length (now disk) ≡ 1024) × ((sound (now state) ≡ true) × (Tabled (now state) (now rows) × (mask ≡ maskOf (storedIn (now state)) (acceptedCount (now state)))))) ⌝ }
+    requires { ⌜ (length (now state) ≡ 1024) × ((length (now disk) ≡ diskLength) × ((sound (now state) ≡ true) × (Tabled (now state) (now rows) × (mask ≡ maskOf (storedIn (now state)) (acceptedCount (now state)))))) ⌝ }
     ensures { λ r. ⌜ callLeaves r (now (state .exit)) (now (disk .exit)) ≡ codedLeft (stepped (now (state .entry)) (now (disk .entry))) ⌝ }
 {
     let place = ready(state, rows, mask);
@@ -72,7 +73,7 @@ pub fn fault(rows: &mut [u64; 64], state: &[u8], disk: &[u8]) -> u64
     if state.len() != 1024 {
         return 14;
     }
-    if disk.len() != 1024 {
+    if disk.len() != file_format::DISK_LENGTH {
         return 14;
     }
     if !cache_soundness::is_sound(rows, state) {
@@ -94,7 +95,7 @@ fn with_place(mask: u64, place: u64) -> u64
 
 // As many steps of a sound state as there are waiting writes. A step changes no needs.
 pub fn drain_sound(state: &mut [u8], disk: &mut [u8], rows: &[u64; 64], mask: u64) -> u64
-    requires { ⌜ (length (now state) ≡ 1024) × ((length (now disk) ≡ 1024) × ((sound (now state) ≡ true) × (Tabled (now state) (now rows) × (mask ≡ maskOf (storedIn (now state)) (acceptedCount (now state)))))) ⌝ }
+    requires { ⌜ (length (now state) ≡ 1024) × ((length (now disk) ≡ diskLength) × ((sound (now state) ≡ true) × (Tabled (now state) (now rows) × (mask ≡ maskOf (storedIn (now state)) (acceptedCount (now state)))))) ⌝ }
     ensures { λ r. ⌜ callLeaves r (now (state .exit)) (now (disk .exit)) ≡ codedLeft (drained (now (state .entry)) (now (disk .entry))) ⌝ }
 {
     let accepted = cache_contents::wide(state[1]);

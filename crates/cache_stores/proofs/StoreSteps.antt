@@ -7,7 +7,8 @@ use lib.ListN.{length, set}
 use lib.Seq.{sets}
 use borrow.Author.Needs.{needs}
 use Rattle.model.specs.declared.Write.{Write}
-use Rattle.file_format.specs.Bytes.{bytes4}
+use Rattle.model.specs.Limits.{diskBlocks}
+use Rattle.file_format.specs.Bytes.{bytes4, blockLength, diskLength}
 use Rattle.cache_model.specs.State.{storedCount, marked, storedOn}
 
 -- ---- put_word, store_block, mark
@@ -24,11 +25,11 @@ word-put l at n =
 pub inside : (l : List ℕ) (at n k : ℕ) → at + n ≤ length l → k < n → at + k < length l
 inside l at n k h j = omega arith
 
-pub block-stored : (d d′ : List ℕ) (w : Write) (a : ℕ) → a ≡ w .address → d′ ≡ sets d (4 * a) (bytes4 (w .block)) → d′ ≡ storedOn d w
+pub block-stored : (d d′ : List ℕ) (w : Write) (a : ℕ) → a ≡ w .address → d′ ≡ sets d (blockLength * a) (bytes4 (w .block)) → d′ ≡ storedOn d w
 unfolding storedOn
 block-stored d d′ w a e q = rw e at q
 
-pub block-fits : (d : List ℕ) (a : ℕ) → length d ≡ 1024 → a < 256 → 4 * a + 4 ≤ length d
+pub block-fits : (d : List ℕ) (a : ℕ) → length d ≡ diskLength → a < diskBlocks → blockLength * a + blockLength ≤ length d
 block-fits d a h l = omega arith
 
 pub flag-marked : (s : List ℕ) (i : ℕ) → set (set s (110 + 12 * i) 1) 2 (storedCount s + 1) ≡ marked s i

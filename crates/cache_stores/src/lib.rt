@@ -7,7 +7,7 @@ ghost use Prim.Native.Nat.{_+_, _<_, _≤_};
 ghost use lib.ListN.{length};
 ghost use lib.Seq.{sets};
 ghost use Rattle.model.specs.Limits.{mostHeld};
-ghost use Rattle.file_format.specs.Bytes.{bytes4};
+ghost use Rattle.file_format.specs.Bytes.{bytes4, diskLength};
 ghost use Rattle.cache_model.specs.State.{acceptedCount, storedCount, marked, storedOn, entryBytes, handed};
 ghost use Rattle.cache_model.specs.Calls.{given};
 
@@ -24,10 +24,11 @@ pub fn put_word(bytes: &mut [u8], at: usize, n: u32)
 
 // The store of one block, which is atomic.
 pub fn store_block(disk: &mut [u8], w: Write)
-    requires { ⌜ length (now disk) ≡ 1024 ⌝ }
+    requires { ⌜ length (now disk) ≡ diskLength ⌝ }
     ensures { λ _. ⌜ now (disk .exit) ≡ storedOn (now (disk .entry)) w ⌝ }
 {
-    put_word(disk, 4 * cache_contents::wide(w.address), w.block);
+    let at = file_format::BLOCK_LENGTH * cache_contents::wide(w.address);
+    put_word(disk, at, w.block);
 }
 
 // Write i is stored.

@@ -22,7 +22,7 @@ use Rattle.model.specs.Find.{candidatesOf, chosen, picked}
 use Rattle.model.specs.Schedule.{valid}
 use Rattle.model.specs.Test.{Test, File, schedules, Bad, bad, validCount, badCount}
 use Rattle.model.proofs.TestLaws.{count-most}
-use Rattle.file_format.specs.Bytes.{blockIn}
+use Rattle.file_format.specs.Bytes.{blockLength, diskLength, blockIn}
 use Rattle.file_format.specs.File.{putLength, endLength, readOf}
 use Rattle.file_format.specs.declared.Extent.{Extent}
 use Rattle.file_format.specs.Held.{noTest, testOf, extentOf}
@@ -95,7 +95,7 @@ checked-apart : (call : List ℕ → List ℕ → Left) (state disk : List ℕ) 
 unfolding checked
 checked-apart call state disk h =
     left-either (not (eqb (length state) stateSize)) _ _ (λ e. turned-down 14 0)
-    (λ e. left-either (not (eqb (length disk) 1024)) _ _ (λ e. turned-down 14 0)
+    (λ e. left-either (not (eqb (length disk) diskLength)) _ _ (λ e. turned-down 14 0)
     (λ e. left-either (not (sound state)) _ _ (λ e. turned-down 15 0) (λ t. h (yes-of (sound state) t))))
   where
     yes-of : (b : Bool) → not b ≡ false → b ≡ true
@@ -139,7 +139,7 @@ unfolding getOf
 get-below disk key v e =
     let head : ℕ = headOf disk in
     let tail : ℕ = tailOf disk in
-    get-of (getFrom disk key head (tail - head)) v (value-below disk key head (tail - head)) (not (eqb (length disk) 1024)) (damaged head tail) e
+    get-of (getFrom disk key head (tail - head)) v (value-below disk key head (tail - head)) (not (eqb (length disk) diskLength)) (damaged head tail) e
 
 -- ---- read, locate, cyclic
 
@@ -338,7 +338,7 @@ trace-apart initial main buffer =
     let done : Traced = traced (answer size) (testBytes (logTest i m) ++ drop size buffer) in
     let short : Traced = cond (ltb (length buffer) size) (traced (refused 12 0) buffer) done in
     let empty : Traced = cond (any emptyPut i || any emptyPut m) (traced (refused 20 0) buffer) short in
-    traced-either (not (eqb (length initial % 4) 0) || not (eqb (length main % 4) 0)) _ (cond (ltb mostInitialPuts (length i) || ltb mostMainPuts (length m)) (traced (refused 6 0) buffer) empty)
+    traced-either (not (eqb (length initial % blockLength) 0) || not (eqb (length main % blockLength) 0)) _ (cond (ltb mostInitialPuts (length i) || ltb mostMainPuts (length m)) (traced (refused 6 0) buffer) empty)
     (λ e. turned-down 19 0)
     (λ e. traced-either (ltb mostInitialPuts (length i) || ltb mostMainPuts (length m)) _ empty (λ e. turned-down 6 0)
     (λ few. traced-either (any emptyPut i || any emptyPut m) _ short (λ e. turned-down 20 0)

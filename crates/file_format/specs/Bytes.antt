@@ -25,9 +25,16 @@ word s i = half s i * 65536 + half s (i + 2)
 abbrev pub bytes4 : ℕ → List ℕ
 bytes4 n = n / 16777216 % 256 ∷ n / 65536 % 256 ∷ n / 256 % 256 ∷ n % 256 ∷ []
 
+-- the bytes of a block, on a disk and in a program of puts, and those of a disk
+abbrev pub blockLength : ℕ
+blockLength = 4
+
+abbrev pub diskLength : ℕ
+diskLength = diskBlocks * blockLength
+
 -- a disk of 1,024 bytes: block a at 4a
 unfoldable pub blockIn : List ℕ → ℕ → ℕ
-blockIn disk a = word disk (4 * a)
+blockIn disk a = word disk (blockLength * a)
 
 -- its 256 blocks
 unfoldable pub blocksOf : List ℕ → List ℕ

@@ -29,6 +29,11 @@ pub const PUT_LENGTH: usize = 2 * (HEAD_LENGTH + WRITE_LENGTH);
 
 pub const END_LENGTH: usize = HEAD_LENGTH + ADDRESS_LENGTH + HEAD_LENGTH;
 
+// Those of a block, on a disk and in a program of puts, and those of a disk.
+pub const BLOCK_LENGTH: usize = 4;
+
+pub const DISK_LENGTH: usize = model::DISK_BLOCKS * BLOCK_LENGTH;
+
 // How much of a file has been read: its rules, its finished tests, whether a test has begun,
 // and that test's fields.
 pub struct Counts {

@@ -3,13 +3,14 @@ use mathlib.Core.Path.{_≡_, refl, sym, ap, _∙_}
 use mathlib.Core.Bool.{cond}
 use mathlib.Core.List.{List, [], _∷_, _++_}
 use mathlib.Core.Option.{Option, none, some}
-use Prim.Native.Nat.{ℕ, suc, _+_, _-_, _*_, _^_, _≤_, _<_}
+use Prim.Native.Nat.{ℕ, _+_, _*_, _^_, _≤_, _<_}
+use native.Mathlib.Nat.{zero-add}
 use native.Mathlib.Numerals.{add-one}
 use native.Mathlib.Omega.{arith}
 use lib.Dec.{ltb}
-use lib.ListN.{length, take, drop, set, length-append, length-drop}
+use lib.ListN.{length, take}
 use lib.Pow.{pow-mono}
-use lib.Seq.{sets, sets-eq, take-suc, length-take-le, take-append-seam, drop-append-add, drop-drop}
+use lib.Seq.{sets-eq, take-suc, length-take-le}
 use borrow.Author.Tests.{lt-ltb, le-ltb}
 use Rattle.relation.proofs.ListLaws.{length-tabulate}
 use Rattle.model.specs.Limits.{words, mostRules, mostCandidates, candidateSets}
@@ -21,10 +22,13 @@ use Rattle.model.specs.Find.{candidatesOf, picked, Chosen, chosen}
 use Rattle.file_format.specs.declared.Extent.{Extent}
 use Rattle.file_format.specs.declared.Scan.{Scan}
 use Rattle.file_format.specs.declared.Scan.the-variants.{Accepted, Refused}
+use Rattle.file_format.specs.File.{ruleLength}
 use Rattle.file_format.specs.Bytes.{ruleBytes}
 use Rattle.file_format.specs.Encode.{fieldBytes, ruleFields}
 use Rattle.file_format.specs.Scan.{ruleField, fieldPlace, fieldsAt, scanOf}
 use Rattle.file_format.specs.Held.{ScansTo, Placed}
+use Rattle.file_writing.specs.Writing.{Wrote}
+use Rattle.file_writing.proofs.WroteLaws.{wrote-then, wrote-none}
 use Rattle.file_reader.proofs.CallerLaws.{refused-read, refused-most, accepted-file, accepted-read, accepted-at, accepted-placed}
 use Rattle.rule_match.specs.declared.Rules.{Rules}
 use Rattle.rule_match.specs.Held.{rulesOf}
@@ -34,65 +38,47 @@ use Rattle.find_candidates.specs.Tests.{testsOf, testsIn}
 use Rattle.find_sets.proofs.KeepLaws.{keeps-short, keeps-same, keeps-long}
 use Rattle.find_laws.proofs.ChosenLaws.{some-chosen}
 use Rattle.find_choice.specs.Choice.{choiceCode}
-use Rattle.find_call.specs.Finder.{fieldLength, foundLength, ruleFieldBytes, found, over, wrote, findAmong, findIn, findOf, findLeaves, foundCoded}
+use Rattle.find_call.specs.Finder.{fieldLength, foundLength, found, over, wrote, findAmong, findIn, findOf, findLeaves, foundCoded}
 
 -- ---- put_rule
 
-pub block-inside : (l : List ℕ) (at k : ℕ) → at + fieldLength ≤ length l → k < fieldLength → at + k < length l
-block-inside l at k h j = omega arith
+pub rule-wrote : (l : List ℕ) (at : ℕ) (l₁ l₂ l₃ l₄ l₅ l₆ : List ℕ) (r₁ r₂ r₃ r₄ r₅ r₆ : ℕ) (r : Rule)
+    → Wrote l at (3 ∷ []) l₁ r₁ → Wrote l₁ r₁ (0 ∷ []) l₂ r₂ → Wrote l₂ r₂ (ruleLength ∷ []) l₃ r₃ → Wrote l₃ r₃ (r .first ∷ []) l₄ r₄ → Wrote l₄ r₄ (r .predicate ∷ []) l₅ r₅
+    → Wrote l₅ r₅ (r .second ∷ []) l₆ r₆ → Wrote l at (fieldBytes 3 (ruleBytes r)) l₆ r₆
+unfolding fieldBytes ruleBytes
+rule-wrote l at l₁ l₂ l₃ l₄ l₅ l₆ r₁ r₂ r₃ r₄ r₅ r₆ r a b c d e f =
+    wrote-then _ _ _ _ _ _ _ _ a (wrote-then _ _ _ _ _ _ _ _ b (wrote-then _ _ _ _ _ _ _ _ c (wrote-then _ _ _ _ _ _ _ _ d (wrote-then _ _ _ _ _ _ _ _ e f))))
 
-pub block-put : (l : List ℕ) (at : ℕ) (r : Rule)
-    → set (set (set (set (set (set l at 3) (at + 1) 0) (at + 2) 3) (at + 3) (r .first)) (at + 4) (r .predicate)) (at + 5) (r .second) ≡ sets l at (ruleFieldBytes r)
-unfolding ruleFieldBytes
-block-put l at r =
-    let one : at + 1 ≡ suc at = omega arith in
-    let two : at + 2 ≡ suc (suc at) = omega arith in
-    let three : at + 3 ≡ suc (suc (suc at)) = omega arith in
-    let four : at + 4 ≡ suc (suc (suc (suc at))) = omega arith in
-    let five : at + 5 ≡ suc (suc (suc (suc (suc at)))) = omega arith in
-    rw (one, two, three, four, five)
+pub rule-most : (l : List ℕ) (at : ℕ) (r : Rule) (l₁ : List ℕ) (n : ℕ) → Wrote l at (fieldBytes 3 (ruleBytes r)) l₁ n → n ≤ at + fieldLength
+unfolding fieldBytes ruleBytes
+rule-most l at r l₁ n w = let p = w .place in omega arith
 
 -- ---- put_rules
 
-fields-snoc : (l : List Rule) (r : Rule) → ruleFields (l ++ (r ∷ [])) ≡ ruleFields l ++ ruleFieldBytes r
-unfolding ruleFields fieldBytes ruleBytes ruleFieldBytes
+fields-snoc : (l : List Rule) (r : Rule) → ruleFields (l ++ (r ∷ [])) ≡ ruleFields l ++ fieldBytes 3 (ruleBytes r)
+unfolding ruleFields fieldBytes ruleBytes
 fields-snoc [] r = refl
 fields-snoc (q ∷ qs) r = rw (fields-snoc qs r)
 
-fields-length : (l : List Rule) → length (ruleFields l) ≡ fieldLength * length l
-unfolding ruleFields fieldBytes ruleBytes
-fields-length [] = refl
-fields-length (r ∷ rs) = let e = fields-length rs in omega arith
-
--- bytes behind the front
-over-more : (front block buffer : List ℕ) → length front + length block ≤ length buffer
-    → sets (over front buffer) (length front) block ≡ over (front ++ block) buffer
-unfolding over
-over-more front block buffer h =
-    let rest = drop (length front) buffer in
-    let whole : length (front ++ rest) ≡ length front + length rest = length-append front rest in
-    let left : length rest ≡ length buffer - length front = length-drop (length front) buffer in
-    sets-eq block (front ++ rest) (length front) (omega arith)
-    ∙ rw (take-append-seam front rest, drop-append-add front rest (length block), drop-drop (length block) (length front) buffer, length-append front block)
-
 module _ (set : Rules) (old : List ℕ) where
-  pub fields-none : old ≡ over (ruleFields (take 0 (set .items))) old
-  unfolding over ruleFields
-  fields-none = refl
+  pub fields-none : Wrote old 0 (ruleFields (take 0 (set .items))) old 0
+  unfolding ruleFields
+  fields-none = wrote-none old 0
 
-  pub fields-more : (i : ℕ) (new next : List ℕ) → new ≡ over (ruleFields (take i (set .items))) old → length (set .items) ≡ mostRules → set .count ≤ mostCandidates → i < set .count
-      → foundLength ≤ length old → next ≡ sets new (fieldLength * i) (ruleFieldBytes (itemAt set i)) → next ≡ over (ruleFields (take (i + 1) (set .items))) old
-  fields-more i new next e whole few h room q =
-      let z : length (take i (set .items)) ≡ i = length-take-le i (set .items) (omega arith) in
-      let n = fields-length (take i (set .items)) in
-      let at : fieldLength * i ≡ length (ruleFields (take i (set .items))) = omega arith in
-      let size : length (ruleFieldBytes (itemAt set i)) ≡ fieldLength = unfold ruleFieldBytes in refl in
-      q ∙ rw (e, at, add-one i, take-suc (set .items) i (record { first = 0; predicate = 0; second = 0 }) (omega arith), fields-snoc (take i (set .items)) (itemAt set i))
-      (over-more (ruleFields (take i (set .items))) (ruleFieldBytes (itemAt set i)) old (omega arith))
+  pub fields-more : (i at r : ℕ) (new next : List ℕ) → Wrote old 0 (ruleFields (take i (set .items))) new at → length (set .items) ≡ mostRules → set .count ≤ mostCandidates → i < set .count
+      → Wrote new at (fieldBytes 3 (ruleBytes (itemAt set i))) next r → Wrote old 0 (ruleFields (take (i + 1) (set .items))) next r
+  fields-more i at r new next w whole few h v =
+      rw (add-one i, take-suc (set .items) i (record { first = 0; predicate = 0; second = 0 }) (omega arith), fields-snoc (take i (set .items)) (itemAt set i)) (wrote-then _ _ _ _ _ _ _ _ w v)
 
-  pub fields-done : (i : ℕ) (new : List ℕ) → new ≡ over (ruleFields (take i (set .items))) old → i ≤ set .count → set .count ≤ i
+  pub fields-done : (i at : ℕ) (new : List ℕ) → Wrote old 0 (ruleFields (take i (set .items))) new at → i ≤ set .count → set .count ≤ i → at ≤ fieldLength * i → set .count ≤ mostCandidates → foundLength ≤ length old
       → new ≡ over (ruleFields (rulesOf set)) old
-  fields-done i new e h l = let z : i ≡ set .count = omega arith in rw z at e
+  unfolding over
+  fields-done i at new w h l m few room =
+      let z : i ≡ set .count = omega arith in
+      let p = w .place in
+      let b = ruleFields (take i (set .items)) in
+      let size : 0 + length b ≤ length old = omega arith in
+      w .buffer ∙ sets-eq b old 0 size ∙ rw (z, zero-add (length (ruleFields (take (set .count) (set .items)))))
 
 -- ---- find_among
 

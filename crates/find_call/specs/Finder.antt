@@ -13,7 +13,7 @@ use Rattle.model.specs.Find.{candidatesOf, picked, chosen}
 use Rattle.file_format.specs.Encode.{ruleFields}
 use Rattle.file_format.specs.File.{headLength, ruleLength, readOf}
 
--- the bytes of a rule's field, and those that a buffer has to have: room for all candidates
+-- the most bytes of a rule's field, and those that a buffer has to have: room for all candidates
 abbrev pub fieldLength : ℕ
 fieldLength = headLength + ruleLength
 
@@ -67,7 +67,3 @@ findLeaves n b = record { number = n; buffer = b }
 
 unfoldable pub foundCoded : Found → Coded
 foundCoded f = findLeaves (coded (f .outcome)) (f .buffer)
-
--- a rule's field
-unfoldable pub ruleFieldBytes : Rule → List ℕ
-ruleFieldBytes r = 3 ∷ 0 ∷ ruleLength ∷ r .first ∷ r .predicate ∷ r .second ∷ []

@@ -6,17 +6,18 @@ use rule_match::Rules;
 ghost use mathlib.Core.Path.{_≡_};
 ghost use Prim.Native.Nat.{_+_, _≤_};
 ghost use lib.ListN.{length};
-ghost use lib.Seq.{sets};
 ghost use Rattle.model.specs.Limits.{mostCandidates};
 ghost use Rattle.model.specs.Find.{chosen};
-ghost use Rattle.file_format.specs.Encode.{ruleFields};
+ghost use Rattle.file_format.specs.Bytes.{ruleBytes};
+ghost use Rattle.file_format.specs.Encode.{fieldBytes, ruleFields};
 ghost use Rattle.file_format.specs.Held.{Placed};
+ghost use Rattle.file_writing.specs.Writing.{Wrote};
 ghost use Rattle.rule_match.specs.Held.{rulesOf};
 ghost use Rattle.find_candidates.specs.Tests.{testsIn};
 ghost use Rattle.find_choice.specs.Choice.{choiceCode};
-ghost use Rattle.find_call.specs.Finder.{fieldLength, foundLength, ruleFieldBytes, over, findLeaves, foundCoded, findAmong, findOf};
+ghost use Rattle.find_call.specs.Finder.{fieldLength, foundLength, over, findLeaves, foundCoded, findAmong, findOf};
 
-// The bytes of a rule's field, and those that a buffer has to have.
+// The most bytes of a rule's field, and those that a buffer has to have.
 const FIELD_LENGTH: usize = file_format::HEAD_LENGTH + file_format::RULE_LENGTH;
 
 const FOUND_LENGTH: usize = model::MOST_CANDIDATES * FIELD_LENGTH;
@@ -32,27 +33,28 @@ fn choice(cands: Rules, file: &[u8], tests: [Extent; model::MOST_TESTS], n: usiz
     find_choice::choose(&table, cands)
 }
 
-// A rule's field at a place.
-fn put_rule(buffer: &mut [u8], at: usize, rule: Rule)
+// A rule's field at a place; answers the next place.
+fn put_rule(buffer: &mut [u8], at: usize, rule: Rule) -> usize
     requires { ⌜ at + fieldLength ≤ length (now buffer) ⌝ }
-    ensures { λ _. ⌜ now (buffer .exit) ≡ sets (now (buffer .entry)) at (ruleFieldBytes rule) ⌝ }
+    ensures { λ r. ⌜ Wrote (now (buffer .entry)) at (fieldBytes 3 (ruleBytes rule)) (now (buffer .exit)) r × (r ≤ at + fieldLength) ⌝ }
 {
-    buffer[at] = 3;
-    buffer[at + 1] = 0;
-    buffer[at + 2] = file_format::RULE_LENGTH_BYTE;
-    buffer[at + 3] = rule.first;
-    buffer[at + 4] = rule.predicate;
-    buffer[at + 5] = rule.second;
+    let a = file_writing::put(buffer, at, 3);
+    let b = file_writing::put(buffer, a, 0);
+    let c = file_writing::put(buffer, b, file_format::RULE_LENGTH_BYTE);
+    let d = file_writing::put(buffer, c, rule.first);
+    let e = file_writing::put(buffer, d, rule.predicate);
+    file_writing::put(buffer, e, rule.second)
 }
 
-// The rules' fields at the front of a buffer.
+// The rules' fields at the front of a buffer, one behind the other.
 fn put_rules(buffer: &mut [u8], set: Rules)
     requires { ⌜ (set .count ≤ mostCandidates) × (foundLength ≤ length (now buffer)) ⌝ }
     ensures { λ _. ⌜ now (buffer .exit) ≡ over (ruleFields (rulesOf set)) (now (buffer .entry)) ⌝ }
 {
+    let mut at: usize = 0;
     let mut i: usize = 0;
     while i < set.count {
-        put_rule(buffer, FIELD_LENGTH * i, set.items[i]);
+        at = put_rule(buffer, at, set.items[i]);
         i += 1;
     }
 }

@@ -34,16 +34,16 @@ use Rattle.judge_disks.proofs.DiskSteps.{stores-run}
 use Rattle.judge_loading.specs.declared.Loaded.{Loaded}
 use Rattle.judge_loading.specs.Loaded.{LoadsTest, LoadsChecks}
 use Rattle.file_loading.proofs.LoadSteps.{fields-length}
-use Rattle.judge_schedules.specs.Rows.{validRows, badRows}
+use Rattle.judge_schedules.specs.Halves.{validRows, badRows}
 use Rattle.judge_rows.specs.Rows.{rowsFrom}
 use Rattle.judge_rows.proofs.RowLaws.{valid-rows}
 use Rattle.judge_counting.specs.declared.Judgement.{Judgement}
 use Rattle.judge_counting.specs.declared.Verdict.{Verdict}
 use Rattle.judge_counting.specs.declared.Verdict.the-variants.{Holds, Fails}
 use Rattle.judge_counting.specs.Tally.{Finds, Tallies}
-use Rattle.judge_cases.specs.declared.Found.{Found}
-use Rattle.judge_cases.specs.declared.Found.the-variants.{Tests}
-use Rattle.judge_cases.specs.declared.Found.the-variants as Found
+use Rattle.judge_cases.specs.declared.Cases.{Cases}
+use Rattle.judge_cases.specs.declared.Cases.the-variants.{Tests}
+use Rattle.judge_cases.specs.declared.Cases.the-variants as Cases
 use Rattle.judge_cases.specs.declared.Choice.{Choice}
 use Rattle.judge_cases.specs.declared.Choice.the-variants as Choice
 use Rattle.judge_cases.specs.declared.Judged.the-variants.{Counts}
@@ -131,7 +131,7 @@ pub ruleset loops = (needs, judges-all, decides-all, loaded-few)
 -- ---- a file opened
 
 module _ (s : List ℕ) (ts : List Extent) where
-  pub opened-unread : (x : Scan) (why : Refusal) (rules : Rules) → ScansTo (scanOf s) x ts → x ≡ Refused why → OpensTo s rules ts (Found.Refused why)
+  pub opened-unread : (x : Scan) (why : Refusal) (rules : Rules) → ScansTo (scanOf s) x ts → x ≡ Refused why → OpensTo s rules ts (Cases.Refused why)
   unfolding OpensTo judgedFile
   opened-unread x why rules g e =
       let l = refused-most s x ts g why e in
@@ -163,7 +163,7 @@ module _ (s : List ℕ) (ts : List Extent) where
       unfolding judgedFile here
       judged = rw (accepted-read s _ ts g rules n refl, p, same-rules)
 
-      pub opened-cyclic : b ≡ true → OpensTo s r ts (Found.Refused (record { number = 8; place = 0 }))
+      pub opened-cyclic : b ≡ true → OpensTo s r ts (Cases.Refused (record { number = 8; place = 0 }))
       unfolding OpensTo
       opened-cyclic h = (judged ∙ ap (λ (c : Bool). cond c (refused 8 0) (answer here)) h, (omega arith, omega arith))
 
@@ -198,8 +198,8 @@ case-among (answer g) k f e = go (cyclic (g .rules)) e
     go true q = let z : _≡_ {A = ℕ} 0 1 = cc in absurd (omega arith)
     go false q = let z : g ≡ f = cc in rw z
 
-module _ (s : List ℕ) (k : ℕ) (rules : Rules) (ts : List Extent) (x : Found) (o : OpensTo s rules ts x) where
-  pub selects-refused : (why : Refusal) → x ≡ Found.Refused why → SelectsTo s k rules (Choice.Refused why)
+module _ (s : List ℕ) (k : ℕ) (rules : Rules) (ts : List Extent) (x : Cases) (o : OpensTo s rules ts x) where
+  pub selects-refused : (why : Refusal) → x ≡ Cases.Refused why → SelectsTo s k rules (Choice.Refused why)
   unfolding OpensTo SelectsTo caseIn
   selects-refused why e =
       let h : (judgedFile (readOf s) ≡ refused (why .number) (why .place)) × SmallRefusal why = rw e at o in

@@ -21,9 +21,9 @@ use Rattle.rule_match.specs.Held.{rulesOf}
 use Rattle.judge_counting.specs.declared.Judgement.{Judgement}
 use Rattle.judge_counting.specs.declared.Verdict.{Verdict}
 use Rattle.judge_counting.specs.declared.Verdict.the-variants.{Holds, Fails}
-use Rattle.judge_cases.specs.declared.Found.{Found}
-use Rattle.judge_cases.specs.declared.Found.the-variants.{Tests}
-use Rattle.judge_cases.specs.declared.Found.the-variants as Found
+use Rattle.judge_cases.specs.declared.Cases.{Cases}
+use Rattle.judge_cases.specs.declared.Cases.the-variants.{Tests}
+use Rattle.judge_cases.specs.declared.Cases.the-variants as Cases
 use Rattle.judge_cases.specs.declared.Opened.{Opened}
 use Rattle.judge_cases.specs.declared.Choice.{Choice}
 use Rattle.judge_cases.specs.declared.Choice.the-variants as Choice
@@ -79,13 +79,13 @@ judgedFile (refused number place) = refused number place
 judgedFile (answer f) = cond (cyclic (f .rules)) (refused 8 0) (answer f)
 
 -- a file opened: the refusal, or its rules and where its tests stand
-unfoldable pub OpensTo : List ℕ → Rules → List Extent → Found → Type 0
-OpensTo s rules tests (Found.Refused why) = (judgedFile (readOf s) ≡ refused (why .number) (why .place)) × SmallRefusal why
+unfoldable pub OpensTo : List ℕ → Rules → List Extent → Cases → Type 0
+OpensTo s rules tests (Cases.Refused why) = (judgedFile (readOf s) ≡ refused (why .number) (why .place)) × SmallRefusal why
 OpensTo s rules tests (Tests n) =
     (f : File) × (judgedFile (readOf s) ≡ answer f) × (rulesOf rules ≡ f .rules) × (rules .count ≤ mostRules) × Placed s (f .tests) tests n
 
 abbrev pub OpensFile : List ℕ → Opened → Type 0
-OpensFile s r = OpensTo s (r .rules) (r .tests) (r .found)
+OpensFile s r = OpensTo s (r .rules) (r .tests) (r .cases)
 
 -- the test that a call asks for, by its place in the file and with the file's rules, or the refusal
 unfoldable pub SelectsTo : List ℕ → ℕ → Rules → Choice → Type 0

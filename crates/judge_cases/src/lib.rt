@@ -14,7 +14,7 @@ ghost use Rattle.file_format.specs.Held.{Inside, ScansTo};
 ghost use Rattle.judge_cases.specs.Judge.{caseAt, caseIn, Judges, Decides, FewNumbers, OpensFile, Selects, Judging, Deciding, Few, FewDecided};
 
 // What a file holds for the judge: how many tests, or a refusal.
-pub enum Found {
+pub enum Cases {
     Tests(usize),
     Refused(Refusal),
 }
@@ -23,7 +23,7 @@ pub enum Found {
 pub struct Opened {
     pub rules: Rules,
     pub tests: [Extent; model::MOST_TESTS],
-    pub found: Found,
+    pub cases: Cases,
 }
 
 // The test of a file that a call asks for, or the refusal of the call.
@@ -87,21 +87,21 @@ fn with_rules(file: &[u8], tests: [Extent; model::MOST_TESTS], rules: usize, n: 
 {
     let rules = file_loading::file_rules(file, rules);
     if rule_cycles::is_cyclic(rules) {
-        let found = Found::Refused(Refusal {
+        let cases = Cases::Refused(Refusal {
             number: 8,
             place: 0,
         });
         return Opened {
             rules,
             tests,
-            found,
+            cases,
         };
     }
-    let found = Found::Tests(n);
+    let cases = Cases::Tests(n);
     Opened {
         rules,
         tests,
-        found,
+        cases,
     }
 }
 
@@ -115,12 +115,12 @@ pub fn open_file(file: &[u8]) -> Opened
     match scan {
         Scan::Accepted { rules, tests: n } => with_rules(file, tests, rules, n),
         Scan::Refused(why) => {
-            let found = Found::Refused(why);
+            let cases = Cases::Refused(why);
             let rules = rule_match::none();
             Opened {
                 rules,
                 tests,
-                found,
+                cases,
             }
         }
     }
@@ -133,9 +133,9 @@ fn select(file: &[u8], test: u64) -> Selected
     let opened = open_file(file);
     let rules = opened.rules;
     let tests = opened.tests;
-    let found = opened.found;
-    match found {
-        Found::Tests(n) => {
+    let cases = opened.cases;
+    match cases {
+        Cases::Tests(n) => {
             if !file_reader::has_test(n, test) {
                 let choice = Choice::Refused(Refusal {
                     number: 9,
@@ -146,7 +146,7 @@ fn select(file: &[u8], test: u64) -> Selected
             let choice = Choice::Test(tests[file_reader::from_zero(test)]);
             Selected { rules, choice }
         }
-        Found::Refused(why) => {
+        Cases::Refused(why) => {
             let choice = Choice::Refused(why);
             Selected { rules, choice }
         }

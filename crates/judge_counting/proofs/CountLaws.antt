@@ -19,7 +19,7 @@ use Rattle.model.specs.Schedule.{run}
 use Rattle.model.specs.Check.{consistent}
 use Rattle.model.specs.Test.{countBelow}
 use Rattle.model.proofs.TestLaws.{count-most}
-use Rattle.judge_schedules.specs.Rows.{mostHalf, halfSets, Lists}
+use Rattle.judge_schedules.specs.Halves.{mostHalf, halfSets, Lists}
 use Rattle.judge_schedules.proofs.TotalLaws.{sets-fit}
 use Rattle.judge_schedules.proofs.EndLaws.{listed-below}
 use Rattle.judge_counting.specs.declared.Judgement.{Judgement}

@@ -17,11 +17,11 @@ use Rattle.model.specs.Test.{countBelow}
 use Rattle.model.proofs.TestLaws.{count-none, none-count}
 use Rattle.judge_disks.proofs.RestoreLaws.{mid-length}
 use Rattle.judge_disks.specs.Packed.{heldFrom}
-use Rattle.judge_schedules.specs.Rows.{badRows, firstHalf, mostHalf, validBy, Validates, mayBegin, mayEnd, Lists}
+use Rattle.judge_schedules.specs.Halves.{badRows, firstHalf, mostHalf, validBy, Validates, mayBegin, mayEnd, Lists}
 use Rattle.judge_schedules.proofs.TotalLaws.{sets-are, sets-most}
 use Rattle.judge_counting.specs.declared.Verdict.{Verdict}
 use Rattle.judge_counting.specs.declared.Verdict.the-variants.{Holds, Fails}
-use Rattle.judge_counting.specs.Tally.{Finds, badBy, after, listed, Stops}
+use Rattle.judge_counting.specs.Tally.{Finds, badBy, after, listed}
 use Rattle.judge_counting.proofs.CountLaws.{joined-is, many-most, end-below, badAt}
 use Rattle.judge_counting.proofs.GridLaws.{countRows, rows-whole, bad, unbegun-bad, listed-bad, found, bad-rows}
 
@@ -36,6 +36,12 @@ clear-none p = record { none = λ i h. absurd (omega arith) }
 
 clear-suc : (p : ℕ → Bool) (k : ℕ) → Clear p k → p k ≡ false → Clear p (k + 1)
 clear-suc p k c e = record { none = rw (add-one k) (below-extend (λ i. p i ≡ false) k (c .none) e) }
+
+-- where a search through the numbers below n stops: at the first that passes, or at n
+pub record Stops (p : ℕ → Bool) (n r : ℕ) : Type 0 where
+  pub most : r ≤ n
+  pub before : (k : ℕ) → k < r → p k ≡ false
+  pub here : r < n → p r ≡ true
 
 pub stops-none : (p : ℕ → Bool) (many k : ℕ) → Clear p k → k ≤ many → many ≤ k → Stops p many k
 stops-none p many k c h l = record { most = h; before = c .none; here = λ b. absurd (omega arith) }
@@ -95,9 +101,9 @@ module _ (low high base t : List ℕ) (cs : List Check) (near far : ℕ) where
       unfolding Finds
       finds-bad r m z = found low high base t cs near far x inside mid ends many q f l k r m (s .here m) z
 
-  pub finds-none : (x rows : ℕ) → Cleared x → rows ≡ 2 ^ near → x ≡ rows → Finds (bad low high base t cs near far) (2 ^ (near + far)) Holds
+  pub finds-none : (x rows : ℕ) (r : Verdict) → Cleared x → rows ≡ 2 ^ near → x ≡ rows → r ≡ Holds → Finds (bad low high base t cs near far) (2 ^ (near + far)) r
   unfolding Finds
-  finds-none x rows c e h = count-none _ (2 ^ (near + far)) (sym (rows-whole (bad low high base t cs near far) near far rows x e h) ∙ c .count)
+  finds-none x rows r c e h q = rw q (count-none _ (2 ^ (near + far)) (sym (rows-whole (bad low high base t cs near far) near far rows x e h) ∙ c .count))
 
 pub ruleset searching = (needs, sets-are, sets-most, many-most, end-below, mid-length, joined-is, cleared-none, cleared-skip, cleared-more, finds-bad, finds-none)
 

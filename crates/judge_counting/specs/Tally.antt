@@ -10,7 +10,7 @@ use Rattle.model.specs.declared.Check.{Check}
 use Rattle.model.specs.Schedule.{run}
 use Rattle.model.specs.Check.{consistent}
 use Rattle.model.specs.Test.{countBelow}
-use Rattle.judge_schedules.specs.Rows.{validBy}
+use Rattle.judge_schedules.specs.Halves.{validBy}
 use Rattle.judge_counting.specs.declared.Judgement.{Judgement}
 use Rattle.judge_counting.specs.declared.Verdict.{Verdict}
 use Rattle.judge_counting.specs.declared.Verdict.the-variants.{Holds, Fails}
@@ -62,9 +62,3 @@ pub record Gains (v b : ℕ → Bool) (x rows : ℕ) (ends : List ℕ) (n : ℕ)
   pub shown : (new .bad ≡ 0 → ⊥)
       → ((old .bad ≡ 0 → ⊥) × (new .shown ≡ old .shown)) ⊎ ((k : ℕ) × (k < n) × (listed ends b k ≡ true) × (new .shown ≡ x + rows * getD ends k 0))
   pub none : (old .bad ≡ 0 → old .shown ≡ 0) → new .bad ≡ 0 → new .shown ≡ 0
-
--- where a search through the numbers below n stops: at the first that passes, or at n
-pub record Stops (p : ℕ → Bool) (n r : ℕ) : Type 0 where
-  pub most : r ≤ n
-  pub before : (k : ℕ) → k < r → p k ≡ false
-  pub here : r < n → p r ≡ true

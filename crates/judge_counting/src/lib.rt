@@ -10,8 +10,8 @@ ghost use Prim.Native.Nat.{_+_, _*_, _^_, _<_, _≤_};
 ghost use lib.ListN.{length, take};
 ghost use Rattle.model.specs.Limits.{diskBlocks, mostMain, mostChecks, mostSchedules};
 ghost use Rattle.judge_disks.specs.Packed.{heldFrom};
-ghost use Rattle.judge_schedules.specs.Rows.{validRows, badRows, mostHalf, halfSets, validBy, mayEnd, Lists};
-ghost use Rattle.judge_counting.specs.Tally.{Finds, tallied, Tallies, badBy, validEnd, badEnd, listed, Gains, Stops};
+ghost use Rattle.judge_schedules.specs.Halves.{validRows, badRows, mostHalf, halfSets, validBy, mayEnd, Lists};
+ghost use Rattle.judge_counting.specs.Tally.{Finds, tallied, Tallies, badBy, validEnd, badEnd, listed, Gains};
 
 // The judge's three numbers: valid schedules, bad ones, and one of these, or 0 where there is none.
 pub struct Judgement {
@@ -183,48 +183,8 @@ pub fn count_all(
     )
 }
 
-// The first end in the list with which a schedule that begins with x is bad, or `many`: the search over
-// schedules and checks, left at the first bad schedule.
-fn bad_end(
-    x: u64,
-    low: &[u64; HALF_SETS],
-    high: &[u64; HALF_SETS],
-    ends: &[u64; HALF_SETS],
-    many: usize,
-    mid: &[u32; DISK_BLOCKS],
-    stores: &[u64; model::MOST_INITIAL],
-    near: usize,
-    far: usize,
-    checks: [Check; MOST_CHECKS],
-    m: usize,
-) -> usize
-    requires { ⌜ ((x < 2 ^ near) × (near ≤ mostHalf)) × (((far ≤ mostHalf) × (m ≤ mostChecks)) × ((length (now mid) ≡ diskBlocks) × Lists (mayEnd (now high) near) (2 ^ far) (now ends) many)) ⌝ }
-    ensures { λ r. ⌜ Stops (listed (now (ends .entry)) (badEnd (now (low .entry)) (now (high .entry)) near x (now (mid .entry)) (heldFrom (now (stores .entry)) near far) (take m checks))) many r ⌝ }
-{
-    let mut disk = *mid;
-    let mut k: usize = 0;
-    'search: while k < many {
-        let y = ends[k];
-        if !judge_schedules::is_valid(low, high, near, joined(x, near, y)) {
-            k += 1;
-            continue 'search;
-        }
-        judge_disks::apply(&mut disk, stores, near, far, y);
-        let mut i: usize = 0;
-        while i < m {
-            let c = checks[i];
-            if !judge_checks::check_holds(&disk, c) {
-                break 'search;
-            }
-            i += 1;
-        }
-        judge_disks::restore(&mut disk, mid, stores, near, far);
-        k += 1;
-    }
-    k
-}
-
-// The search through all schedules of near + far writes.
+// The search through all schedules of near + far writes, by beginnings and ends, and through the checks:
+// all its loops are left at the first bad schedule.
 fn search_by(
     low: &[u64; HALF_SETS],
     high: &[u64; HALF_SETS],
@@ -242,22 +202,41 @@ fn search_by(
 {
     let rows = 1u64 << near;
     let mut mid = *base;
+    let mut verdict = Verdict::Holds;
     let mut x: u64 = 0;
     // Not x < rows: see judge_schedules::list_ends.
-    'beginnings: while x != rows {
+    'search: while x != rows {
         if !judge_schedules::may_begin(low, near, x) {
             x += 1;
-            continue 'beginnings;
+            continue 'search;
         }
         judge_disks::apply(&mut mid, stores, 0, near, x);
-        let k = bad_end(x, low, high, ends, many, &mid, stores, near, far, checks, m);
-        if k < many {
-            return Verdict::Fails(joined(x, near, ends[k]));
+        let mut disk = mid;
+        let mut k: usize = 0;
+        'ends: while k < many {
+            let y = ends[k];
+            let s = joined(x, near, y);
+            if !judge_schedules::is_valid(low, high, near, s) {
+                k += 1;
+                continue 'ends;
+            }
+            judge_disks::apply(&mut disk, stores, near, far, y);
+            let mut i: usize = 0;
+            while i < m {
+                let c = checks[i];
+                if !judge_checks::check_holds(&disk, c) {
+                    verdict = Verdict::Fails(s);
+                    break 'search;
+                }
+                i += 1;
+            }
+            judge_disks::restore(&mut disk, &mid, stores, near, far);
+            k += 1;
         }
         judge_disks::restore(&mut mid, base, stores, 0, near);
         x += 1;
     }
-    Verdict::Holds
+    verdict
 }
 
 // A bad schedule of the first n writes of a table of stores, by a table of rows, if there is one.

@@ -7,7 +7,7 @@ use lib.Dec.{lit<}
 use lib.Pow.{pow-pos, pow-mono, shl-exact}
 use Rattle.model.specs.Limits.{mostMain, mostSchedules}
 use Rattle.model.specs.Schedule.{run}
-use Rattle.judge_schedules.specs.Rows.{mostHalf, halfSets}
+use Rattle.judge_schedules.specs.Halves.{mostHalf, halfSets}
 
 -- how many schedules n writes have
 pub total-is : (n : ℕ) → n ≤ mostMain → 1 * 2 ^ n % 18446744073709551616 ≡ 2 ^ n

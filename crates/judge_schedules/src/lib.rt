@@ -4,7 +4,7 @@ ghost use mathlib.Core.Path.{_≡_};
 ghost use Prim.Native.Nat.{_+_, _%_, _^_, _<_, _≤_};
 ghost use lib.ListN.{length};
 ghost use Rattle.model.specs.Limits.{mostMain};
-ghost use Rattle.judge_schedules.specs.Rows.{firstHalf, mostHalf, halfSets, validBy, Validates, mayBegin, mayEnd, Lists};
+ghost use Rattle.judge_schedules.specs.Halves.{firstHalf, mostHalf, halfSets, validBy, Validates, mayBegin, mayEnd, Lists};
 
 // The most writes of a half, and the sets of these: the entries of a table of unions.
 pub const HALF: usize = (model::MOST_MAIN + 1) / 2;

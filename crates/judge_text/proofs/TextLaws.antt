@@ -20,9 +20,9 @@ use Rattle.file_format.specs.Held.{testOf, extentOf, AllInside, Placed}
 use Rattle.rule_match.specs.declared.Rules.{Rules}
 use Rattle.rule_match.specs.Held.{rulesOf}
 use Rattle.judge_counting.specs.declared.Judgement.{Judgement}
-use Rattle.judge_cases.specs.declared.Found.{Found}
-use Rattle.judge_cases.specs.declared.Found.the-variants.{Tests}
-use Rattle.judge_cases.specs.declared.Found.the-variants as Found
+use Rattle.judge_cases.specs.declared.Cases.{Cases}
+use Rattle.judge_cases.specs.declared.Cases.the-variants.{Tests}
+use Rattle.judge_cases.specs.declared.Cases.the-variants as Cases
 use Rattle.judge_cases.specs.Judge.{caseAt, Judges, SmallRefusal, judgedFile, OpensTo, FewNumbers}
 use Rattle.file_writing.specs.Writing.{Wrote}
 use Rattle.judge_text.specs.Lines.{refusedLine, testLine, lines, textOf, programText, caseLines, numbers}
@@ -90,8 +90,8 @@ text-judged (answer g) f e = go (cyclic (g .rules)) e
     go true q = let z : _≡_ {A = ℕ} 0 1 = cc in absurd (omega arith)
     go false q = let z : g ≡ f = cc in rw z
 
-module _ (s : List ℕ) (rules : Rules) (ts : List Extent) (x : Found) (o : OpensTo s rules ts x) where
-  module _ (why : Refusal) (e : x ≡ Found.Refused why) where
+module _ (s : List ℕ) (rules : Rules) (ts : List Extent) (x : Cases) (o : OpensTo s rules ts x) where
+  module _ (why : Refusal) (e : x ≡ Cases.Refused why) where
     turned-down : (judgedFile (readOf s) ≡ refused (why .number) (why .place)) × SmallRefusal why
     unfolding OpensTo
     turned-down = rw e at o

@@ -1,6 +1,6 @@
 // The judging program's lines.
 use file_format::Extent;
-use judge_cases::Found;
+use judge_cases::Cases;
 use rule_match::Rules;
 ghost use mathlib.Core.Path.{_≡_};
 ghost use mathlib.Core.Bool.{cond};
@@ -131,9 +131,9 @@ pub fn judge_lines(file: &[u8], out: &mut [u8]) -> usize
     let opened = judge_cases::open_file(file);
     let rules = opened.rules;
     let tests = opened.tests;
-    let found = opened.found;
-    match found {
-        Found::Tests(n) => put_cases(out, file, rules, tests, n),
-        Found::Refused(why) => put_refused(out, 0, why.number as u64, why.place as u64),
+    let cases = opened.cases;
+    match cases {
+        Cases::Tests(n) => put_cases(out, file, rules, tests, n),
+        Cases::Refused(why) => put_refused(out, 0, why.number as u64, why.place as u64),
     }
 }

@@ -18,7 +18,7 @@ use Rattle.model.specs.declared.Check.the-variants.{Range}
 use Rattle.model.specs.Disk.{empty, firstOf, secondOf, blockAt}
 use Rattle.model.specs.Check.{RangeHolds, Holds, damaged}
 use Rattle.model.proofs.CheckLaws.{damaged-true, undamaged, damaged-fails, not-damaged}
-use Rattle.file_format.specs.Bytes.{byte, Small, bytes4, half, word, blockIn, blocksOf}
+use Rattle.file_format.specs.Bytes.{byte, Small, half, word, bytes4, blockLength, diskLength, blockIn, blocksOf}
 use Rattle.file_format.proofs.ByteLaws.{number}
 use Rattle.log_get.specs.Get.{keyed, Gets, headOf, tailOf, LogDamaged, getFrom, getOf}
 use Rattle.log_get.specs.Theorem.{filled, Meets, DamageExactly, ShownMeets, EmptyExactly}
@@ -49,12 +49,12 @@ meets-undamaged disk other m d = damaged-fails (blocksOf other) (headOf disk) (t
 -- ---- a superblock that is not damaged, and a disk that is filled besides
 
 module _ (superblock : ℕ) where
-  filled-rest : (i : ℕ) → 4 ≤ i → i < 1024 → byte (filled superblock) i ≡ 1
+  filled-rest : (i : ℕ) → blockLength ≤ i → i < diskLength → byte (filled superblock) i ≡ 1
   filled-rest i h l =
-      let z : i ≡ 4 + (i - 4) = omega arith in
-      rw z (getD-append-add (bytes4 superblock) (replicate 1020 1) (i - 4) 0 ∙ getD-replicate {A = ℕ} 1020 (i - 4) 1 0 (omega arith))
+      let z : i ≡ blockLength + (i - blockLength) = omega arith in
+      rw z (getD-append-add (bytes4 superblock) (replicate 1020 1) (i - blockLength) 0 ∙ getD-replicate {A = ℕ} 1020 (i - blockLength) 1 0 (omega arith))
 
-  filled-size : length (filled superblock) ≡ 1024
+  filled-size : length (filled superblock) ≡ diskLength
   filled-size = let n = length-replicate {A = ℕ} 1020 1 in omega arith
 
   filled-small : Small (filled superblock)
@@ -68,10 +68,10 @@ module _ (superblock : ℕ) where
   unfolding blockIn word half empty
   filled-block a h l =
       rw (
-        filled-rest (4 * a) (omega arith) (omega arith),
-        filled-rest (4 * a + 1) (omega arith) (omega arith),
-        filled-rest (4 * a + 2) (omega arith) (omega arith),
-        filled-rest (4 * a + 2 + 1) (omega arith) (omega arith),
+        filled-rest (blockLength * a) (omega arith) (omega arith),
+        filled-rest (blockLength * a + 1) (omega arith) (omega arith),
+        filled-rest (blockLength * a + 2) (omega arith) (omega arith),
+        filled-rest (blockLength * a + 2 + 1) (omega arith) (omega arith),
       )
 
   module _ (u : damaged (firstOf superblock) (secondOf superblock) ≡ false) where
@@ -121,13 +121,13 @@ pub shown-meets : ShownMeets
 shown-meets disk key v e = (filled (blockIn disk 0), filled-meets (blockIn disk 0) (answered-undamaged disk key v e))
 
 -- the key of a block has 16 bits
-key-small : (disk : List ℕ) (a : ℕ) → length disk ≡ 1024 → Small disk → a < diskBlocks → firstOf (blockIn disk a) < 65536
+key-small : (disk : List ℕ) (a : ℕ) → length disk ≡ diskLength → Small disk → a < diskBlocks → firstOf (blockIn disk a) < 65536
 unfolding firstOf blockIn word half
 key-small disk a n s h =
-    let p = s (4 * a) (omega arith) in
-    let q = s (4 * a + 1) (omega arith) in
-    let u = s (4 * a + 2) (omega arith) in
-    let v = s (4 * a + 2 + 1) (omega arith) in
+    let p = s (blockLength * a) (omega arith) in
+    let q = s (blockLength * a + 1) (omega arith) in
+    let u = s (blockLength * a + 2) (omega arith) in
+    let v = s (blockLength * a + 2 + 1) (omega arith) in
     omega arith
 
 pub empty-exactly : EmptyExactly
@@ -139,7 +139,7 @@ empty-exactly disk m = (
   ]),
   λ e key l.
       let z : tailOf disk - headOf disk ≡ 0 = omega arith in
-      rw (eq-eqb (length disk) 1024 (m .size), not-damaged (headOf disk) (tailOf disk) (range .0) (range .1), z),
+      rw (eq-eqb (length disk) diskLength (m .size), not-damaged (headOf disk) (tailOf disk) (range .0) (range .1), z),
 )
   where
     range : RangeOf disk (blockIn disk 0)

@@ -15,10 +15,10 @@ use Rattle.model.specs.Answer.{refusal}
 use Rattle.model.specs.Disk.{empty, firstOf, secondOf}
 use Rattle.model.specs.Check.{damaged}
 use Rattle.model.proofs.CheckLaws.{undamaged-ordered, undamaged-inside}
-use Rattle.file_format.specs.Bytes.{word, blockIn}
+use Rattle.file_format.specs.Bytes.{word, blockLength, diskLength, blockIn}
 use Rattle.log_get.specs.Get.{keyed, getFrom, getOf, valueCode, getCode, getAnswer}
 
-pub block-word : (d : List ℕ) (a r : ℕ) → r ≡ word d (4 * a) → r ≡ blockIn d a
+pub block-word : (d : List ℕ) (a r : ℕ) → r ≡ word d (blockLength * a) → r ≡ blockIn d a
 unfolding blockIn
 block-word d a r e = e
 
@@ -68,18 +68,18 @@ module _ (d : List ℕ) (key head tail a : ℕ) where
       rw (← y)
 
 module _ (d : List ℕ) (key r : ℕ) where
-  pub get-length : (length d ≡ 1024 → ⊥) → r ≡ refusal 14 0 → r ≡ getAnswer d key
+  pub get-length : (length d ≡ diskLength → ⊥) → r ≡ refusal 14 0 → r ≡ getAnswer d key
   unfolding getAnswer getCode getOf
-  get-length n e = rw (ne-eqb (length d) 1024 n) e
+  get-length n e = rw (ne-eqb (length d) diskLength n) e
 
-  module _ (b head tail : ℕ) (size : length d ≡ 1024) (eb : b ≡ blockIn d 0) (eh : head ≡ firstOf b) (et : tail ≡ secondOf b) where
+  module _ (b head tail : ℕ) (size : length d ≡ diskLength) (eb : b ≡ blockIn d 0) (eh : head ≡ firstOf b) (et : tail ≡ secondOf b) where
     module _ (t : Bool) (ed : t ≡ damaged head tail) where
       pub get-damaged : t ≡ true → r ≡ refusal 21 0 → r ≡ getAnswer d key
       unfolding getAnswer getCode getOf
-      get-damaged h e = rw (eq-eqb (length d) 1024 size, ← eb, ← eh, ← et, ← ed, h) e
+      get-damaged h e = rw (eq-eqb (length d) diskLength size, ← eb, ← eh, ← et, ← ed, h) e
 
       pub get-found : t ≡ false → r ≡ valueCode (getFrom d key head (tail - head)) → r ≡ getAnswer d key
       unfolding getAnswer getCode getOf
-      get-found h e = rw (eq-eqb (length d) 1024 size, ← eb, ← eh, ← et, ← ed, h) e
+      get-found h e = rw (eq-eqb (length d) diskLength size, ← eb, ← eh, ← et, ← ed, h) e
 
 pub ruleset gets = (needs, block-word, key-empty, key-first, seen-start, undamaged-ordered, seen-inside, seen-found, seen-next, seen-all, get-length, get-damaged, get-found, told)

@@ -12,6 +12,7 @@ use borrow.Author.Tests.{eq-eqb}
 use Rattle.model.specs.Answer.{Outcome, answer, refused}
 use Rattle.model.specs.Check.{damaged}
 use Rattle.model.proofs.CheckLaws.{damaged-true, true-damaged}
+use Rattle.file_format.specs.Bytes.{diskLength}
 use Rattle.log_get.specs.Get.{Gets, headOf, tailOf, getFrom, getOf}
 use Rattle.log_get.specs.Theorem.{Highest, GetAnswers, RefusedGets}
 use Rattle.log_get.proofs.GetLaws.{getFrom-gets, gets-one}
@@ -47,7 +48,7 @@ behind false false n m u v e = (refl, ap valueIn e)
 answered : (disk : List ℕ) (key : ℕ) (v : Option ℕ) → getOf disk key ≡ answer v
     → (damaged (headOf disk) (tailOf disk) ≡ false) × (getFrom disk key (headOf disk) (tailOf disk - headOf disk) ≡ v)
 unfolding getOf
-answered disk key v e = behind (not (eqb (length disk) 1024)) (damaged (headOf disk) (tailOf disk)) 14 21 (getFrom disk key (headOf disk) (tailOf disk - headOf disk)) v e
+answered disk key v e = behind (not (eqb (length disk) diskLength)) (damaged (headOf disk) (tailOf disk)) 14 21 (getFrom disk key (headOf disk) (tailOf disk - headOf disk)) v e
 
 pub answered-undamaged : (disk : List ℕ) (key : ℕ) (v : Option ℕ) → getOf disk key ≡ answer v → damaged (headOf disk) (tailOf disk) ≡ false
 answered-undamaged disk key v e = answered disk key v e .0
@@ -60,7 +61,7 @@ unfolding getOf
 refused-gets d key e =
     let head = headOf d in
     let tail = tailOf d in
-    rw (eq-eqb (length d) 1024 e) (
+    rw (eq-eqb (length d) diskLength e) (
       (λ q. damaged-true head tail (stands (damaged head tail) (getFrom d key head (tail - head)) q)),
       λ p. rw (true-damaged head tail p),
     )

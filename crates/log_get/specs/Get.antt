@@ -9,7 +9,7 @@ use lib.ListN.{length}
 use Rattle.model.specs.Answer.{Outcome, answer, refused, refusal}
 use Rattle.model.specs.Disk.{empty, firstOf, secondOf}
 use Rattle.model.specs.Check.{Damaged, damaged}
-use Rattle.file_format.specs.Bytes.{blockIn}
+use Rattle.file_format.specs.Bytes.{diskLength, blockIn}
 
 -- block a is non-empty and has this key
 unfoldable pub keyed : List ℕ → ℕ → ℕ → Bool
@@ -47,7 +47,7 @@ unfoldable pub getOf : List ℕ → ℕ → Outcome (Option ℕ)
 getOf disk key =
     let head = headOf disk in
     let tail = tailOf disk in
-    cond (not (eqb (length disk) 1024)) (refused 14 0)
+    cond (not (eqb (length disk) diskLength)) (refused 14 0)
     (cond (damaged head tail) (refused 21 0)
     (answer (getFrom disk key head (tail - head))))
 

@@ -11,7 +11,7 @@ use Rattle.model.specs.Limits.{mostInitialPuts, mostMainPuts}
 use Rattle.model.specs.Answer.{Outcome, answer, refused}
 use Rattle.model.specs.Disk.{block}
 use Rattle.model.specs.Test.{Test, test}
-use Rattle.file_format.specs.Bytes.{half}
+use Rattle.file_format.specs.Bytes.{half, blockLength}
 use Rattle.file_format.specs.File.{putLength, endLength}
 use Rattle.file_format.specs.Encode.{testBytes}
 
@@ -60,7 +60,7 @@ logTest initial main = test (writesOf start initial) (writesOf (afterAll start i
 
 -- a program of puts: key 2, value 2 each, big-endian
 unfoldable pub putsOf : List ℕ → List Put
-putsOf s = tabulate (λ i. record { key = half s (4 * i); value = half s (4 * i + 2) }) (length s / 4)
+putsOf s = tabulate (λ i. record { key = half s (blockLength * i); value = half s (blockLength * i + 2) }) (length s / blockLength)
 
 -- what a call leaves: its outcome and its buffer
 pub record Traced : Type 0 where
@@ -79,7 +79,7 @@ traceOf initial main buffer =
     let i = putsOf initial in
     let m = putsOf main in
     let size = putLength * (length i + length m) + endLength in
-    cond (not (eqb (length initial % 4) 0) || not (eqb (length main % 4) 0)) (traced (refused 19 0) buffer)
+    cond (not (eqb (length initial % blockLength) 0) || not (eqb (length main % blockLength) 0)) (traced (refused 19 0) buffer)
     (cond (ltb mostInitialPuts (length i) || ltb mostMainPuts (length m)) (traced (refused 6 0) buffer)
     (cond (any emptyPut i || any emptyPut m) (traced (refused 20 0) buffer)
     (cond (ltb (length buffer) size) (traced (refused 12 0) buffer)

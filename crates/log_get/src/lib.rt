@@ -5,20 +5,20 @@ ghost use lib.ListN.{length};
 ghost use mathlib.Core.Bool.{false};
 ghost use Rattle.model.specs.Limits.{diskBlocks};
 ghost use Rattle.model.specs.Check.{damaged};
-ghost use Rattle.file_format.specs.Bytes.{blockIn};
+ghost use Rattle.file_format.specs.Bytes.{diskLength, blockIn};
 ghost use Rattle.log_get.specs.Get.{keyed, getFrom, valueCode, getAnswer};
 
 // The number of block a of a disk.
 fn block_at(disk: &[u8], a: usize) -> u32
-    requires { ⌜ (length (now disk) ≡ 1024) × (a < diskBlocks) ⌝ }
+    requires { ⌜ (length (now disk) ≡ diskLength) × (a < diskBlocks) ⌝ }
     ensures { λ r. ⌜ r ≡ blockIn (now (disk .entry)) a ⌝ }
 {
-    file_format::word_at(disk, 4 * a)
+    file_format::word_at(disk, file_format::BLOCK_LENGTH * a)
 }
 
 // Whether block a is non-empty and has this key.
 fn has_key(disk: &[u8], key: u16, a: usize) -> bool
-    requires { ⌜ (length (now disk) ≡ 1024) × (a < diskBlocks) ⌝ }
+    requires { ⌜ (length (now disk) ≡ diskLength) × (a < diskBlocks) ⌝ }
     ensures { λ r. ⌜ r ≡ keyed (now (disk .entry)) key a ⌝ }
 {
     let b = block_at(disk, a);
@@ -30,7 +30,7 @@ fn has_key(disk: &[u8], key: u16, a: usize) -> bool
 
 // The value of a key among the blocks from head to tail - 1, from the highest down; 65,536 for none.
 fn find_key(disk: &[u8], key: u16, head: usize, tail: usize) -> u64
-    requires { ⌜ (length (now disk) ≡ 1024) × (damaged head tail ≡ false) ⌝ }
+    requires { ⌜ (length (now disk) ≡ diskLength) × (damaged head tail ≡ false) ⌝ }
     ensures { λ r. ⌜ r ≡ valueCode (getFrom (now (disk .entry)) key head (tail - head)) ⌝ }
 {
     let mut a = tail;
@@ -48,7 +48,7 @@ fn find_key(disk: &[u8], key: u16, head: usize, tail: usize) -> u64
 pub fn get(disk: &[u8], key: u16) -> u64
     ensures { λ r. ⌜ r ≡ getAnswer (now (disk .entry)) key ⌝ }
 {
-    if disk.len() != 1024 {
+    if disk.len() != file_format::DISK_LENGTH {
         return model::refuse(14, 0);
     }
     let b = block_at(disk, 0);

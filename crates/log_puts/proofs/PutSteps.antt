@@ -7,7 +7,7 @@ use native.Mathlib.Omega.{arith}
 use borrow.Author.Needs.{needs}
 use Rattle.model.specs.declared.Write.{Write}
 use Rattle.file_format.specs.File.{writeLength}
-use Rattle.file_format.specs.Bytes.{word, bytes4, writeBytes}
+use Rattle.file_format.specs.Bytes.{word, bytes4, blockLength, writeBytes}
 use Rattle.file_format.specs.Encode.{fieldBytes}
 use Rattle.file_writing.specs.Writing.{Wrote}
 use Rattle.file_writing.proofs.WroteLaws.{wrote-then, wrote-none}
@@ -32,7 +32,7 @@ module _ (tag tail epoch : ℕ) (s l : List ℕ) (from : ℕ) where
   unfolding programFields
   program-none = wrote-none l from
 
-  pub program-more : (i at r b : ℕ) (l₁ l₂ : List ℕ) → Wrote l from (programFields tag tail epoch s i) l₁ at → b ≡ word s (4 * i) → Wrote l₁ at (putFields tag (tail + i) (epoch + i) b) l₂ r
+  pub program-more : (i at r b : ℕ) (l₁ l₂ : List ℕ) → Wrote l from (programFields tag tail epoch s i) l₁ at → b ≡ word s (blockLength * i) → Wrote l₁ at (putFields tag (tail + i) (epoch + i) b) l₂ r
       → Wrote l from (programFields tag tail epoch s (i + 1)) l₂ r
   unfolding programFields
   program-more i at r b l₁ l₂ w e v = rw (add-one i) (wrote-then _ _ _ _ _ _ _ _ w (rw e at v))

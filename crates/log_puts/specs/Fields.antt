@@ -1,7 +1,7 @@
 -- The fields of puts, and the end of a trace.
 use Prim.Native.Nat.{ℕ, zero, suc, _+_, _*_}
 use mathlib.Core.List.{List, [], _∷_, _++_}
-use Rattle.file_format.specs.Bytes.{word, writeBytes}
+use Rattle.file_format.specs.Bytes.{word, blockLength, writeBytes}
 use Rattle.file_format.specs.Encode.{fieldBytes}
 
 -- the fields of one put of a block: log block at tail, superblock (1, tail + 1)
@@ -13,7 +13,7 @@ putFields tag tail epoch block =
 -- the fields of a program's first n puts
 unfoldable pub programFields : ℕ → ℕ → ℕ → List ℕ → ℕ → List ℕ
 programFields tag tail epoch s zero = []
-programFields tag tail epoch s (suc n) = programFields tag tail epoch s n ++ putFields tag (tail + n) (epoch + n) (word s (4 * n))
+programFields tag tail epoch s (suc n) = programFields tag tail epoch s n ++ putFields tag (tail + n) (epoch + n) (word s (blockLength * n))
 
 -- a range check at 0, and the end
 abbrev pub endFields : List ℕ

@@ -5,7 +5,7 @@ ghost use Prim.Native.Nat.{_+_, _*_, _<_, _≤_};
 ghost use lib.ListN.{length};
 ghost use Rattle.model.specs.Limits.{lastBlock, mostInitialPuts};
 ghost use Rattle.file_format.specs.File.{putLength, endLength, headLength, writeLength};
-ghost use Rattle.file_format.specs.Bytes.{writeBytes};
+ghost use Rattle.file_format.specs.Bytes.{blockLength, writeBytes};
 ghost use Rattle.file_format.specs.Encode.{fieldBytes};
 ghost use Rattle.file_writing.specs.Writing.{Wrote};
 ghost use Rattle.log_puts.specs.Fields.{putFields, programFields, endFields};
@@ -55,13 +55,13 @@ pub fn put_program(
     tail: u8,
     epoch: u32,
 ) -> usize
-    requires { ⌜ (4 * n ≤ length (now program)) × ((from + putLength * n ≤ length (now out)) × ((n ≤ mostInitialPuts) × ((tail ≤ mostInitialPuts + 1) × (epoch ≤ mostInitialPuts)))) ⌝ }
+    requires { ⌜ (blockLength * n ≤ length (now program)) × ((from + putLength * n ≤ length (now out)) × ((n ≤ mostInitialPuts) × ((tail ≤ mostInitialPuts + 1) × (epoch ≤ mostInitialPuts)))) ⌝ }
     ensures { λ r. ⌜ Wrote (now (out .entry)) from (programFields tag tail epoch (now (program .entry)) n) (now (out .exit)) r × (r ≡ from + putLength * n) ⌝ }
 {
     let mut at = from;
     let mut i: usize = 0;
     while i < n {
-        let b = file_format::word_at(program, 4 * i);
+        let b = file_format::word_at(program, file_format::BLOCK_LENGTH * i);
         at = put_put(out, at, tag, tail + (i as u8), epoch + (i as u32), b);
         i += 1;
     }

@@ -16,7 +16,7 @@ use Rattle.model.specs.declared.Check.the-variants.{Range}
 use Rattle.model.specs.Answer.{Outcome, answer, refused}
 use Rattle.model.specs.Disk.{block}
 use Rattle.model.specs.Test.{file}
-use Rattle.file_format.specs.Bytes.{Small, half, word, writeBytes}
+use Rattle.file_format.specs.Bytes.{Small, half, word, blockLength, writeBytes}
 use Rattle.file_format.specs.Encode.{fieldBytes, testBytes, WriteFits, CheckFits, TestFits}
 use Rattle.file_format.specs.File.{readOf, putLength}
 use Rattle.file_reader.specs.Limits.{TestLimits}
@@ -59,7 +59,7 @@ puts-fit s b zero p m = absurd (List·Memᴰ·not-nil m)
 puts-fit s b (suc n) p m =
     ⊎-elim (puts-fit s b n p)
     (λ o. let q : p ≡ putAt s n = List·Memᴰ·eq-of-singleton o in
-    rw q (record { key = omega (arith, b (4 * n), b (4 * n + 1)); value = omega (arith, b (4 * n + 2), b (4 * n + 2 + 1)) }))
+    rw q (record { key = omega (arith, b (blockLength * n), b (blockLength * n + 1)); value = omega (arith, b (blockLength * n + 2), b (blockLength * n + 2 + 1)) }))
     (List·Memᴰ·append-cases (tabulate (putAt s) n) m)
 
 -- ---- a whole test
@@ -94,7 +94,7 @@ program-length : (tag t e : ℕ) (s : List ℕ) (n : ℕ) → length (programFie
 unfolding programFields
 program-length tag t e s zero = refl
 program-length tag t e s (suc n) =
-    length-append (programFields tag t e s n) (putFields tag (t + n) (e + n) (word s (4 * n))) ∙ omega (arith, program-length tag t e s n, put-length tag (t + n) (e + n) (word s (4 * n)))
+    length-append (programFields tag t e s n) (putFields tag (t + n) (e + n) (word s (blockLength * n))) ∙ omega (arith, program-length tag t e s n, put-length tag (t + n) (e + n) (word s (blockLength * n)))
 
 test-length : (i m : List ℕ) (n k : ℕ) → length (testFields i m n k) ≡ sizeOf n k
 unfolding testFields
@@ -120,13 +120,13 @@ is-answer (refused n p) = false
 
 module _ (i m l : List ℕ) (p : Small i) (q : Small m) where
   written : (b : Bool) → eqb (traceFault i m (length l)) 0 ≡ b → (o : Traced)
-      → o ≡ cond b (traced (answer (sizeOf (length i / 4) (length m / 4))) (testBytes (logTest (putsOf i) (putsOf m)) ++ drop (sizeOf (length i / 4) (length m / 4)) l)) (traced (refused (traceFault i m (length l)) 0) l)
+      → o ≡ cond b (traced (answer (sizeOf (length i / blockLength) (length m / blockLength))) (testBytes (logTest (putsOf i) (putsOf m)) ++ drop (sizeOf (length i / blockLength) (length m / blockLength)) l)) (traced (refused (traceFault i m (length l)) 0) l)
       → (size : ℕ) → o .outcome ≡ answer size → readOf (take size (o .buffer)) ≡ answer (file [] (logTest (putsOf i) (putsOf m) ∷ []))
   unfolding putsOf size-of is-answer
   written true z o d size e =
       let f : traceFault i m (length l) ≡ 0 = eqb-true _ 0 z in
-      let n = length i / 4 in
-      let k = length m / 4 in
+      let n = length i / blockLength in
+      let k = length m / blockLength in
       let s : sizeOf n k ≡ size = ap size-of (sym (ap (λ (x : Traced). x .outcome) d) ∙ e) in
       rw (d, ← s, front i m l n k)
       (log-read (tabulate (putAt i) n) (tabulate (putAt m) k) (puts-fit i (bounded i p) n) (puts-fit m (bounded m q) k)

@@ -15,7 +15,7 @@ use Rattle.relation.proofs.ListLaws.{any-append, length-tabulate, and-left, and
 use Rattle.model.specs.Limits.{mostInitialPuts, mostMainPuts}
 use Rattle.model.specs.declared.Write.{Write}
 use Rattle.model.specs.Disk.{block}
-use Rattle.file_format.specs.Bytes.{half, word, writeBytes}
+use Rattle.file_format.specs.Bytes.{half, word, blockLength, writeBytes}
 use Rattle.file_format.specs.Encode.{fieldBytes, writeFields, checkFieldBytes, checkFields, testBytes}
 use Rattle.log_get.specs.Puts.{Put, Log, log, start, putWrites, after, afterAll, writesOf, putsOf, emptyPut, logTest, traced, traceOf}
 use Rattle.model.specs.Answer.{answer, refused, refusal, coded}
@@ -26,7 +26,7 @@ use Rattle.log_trace.specs.Traced.{emptyBelow, sizeOf, testFields, trace
 
 -- put i of a program
 abbrev pub putAt : List ℕ → ℕ → Put
-putAt s i = record { key = half s (4 * i); value = half s (4 * i + 2) }
+putAt s i = record { key = half s (blockLength * i); value = half s (blockLength * i + 2) }
 
 pub fields-append : (tag : ℕ) (a b : List Write) → writeFields tag (a ++ b) ≡ writeFields tag a ++ writeFields tag b
 unfolding writeFields
@@ -52,7 +52,7 @@ after-puts t e (p ∷ ps) =
 next-tail : (t : ℕ) → 1 * 65536 + (t + 1) ≡ 65537 + t
 next-tail t = omega arith
 
-one-put : (tag t e : ℕ) (s : List ℕ) (i : ℕ) → writeFields tag (writesOf (log 1 t e) (putAt s i ∷ [])) ≡ putFields tag t e (word s (4 * i))
+one-put : (tag t e : ℕ) (s : List ℕ) (i : ℕ) → writeFields tag (writesOf (log 1 t e) (putAt s i ∷ [])) ≡ putFields tag t e (word s (blockLength * i))
 unfolding writeFields writesOf putWrites putFields word block
 one-put tag t e s i = rw (next-tail t, append-nil)
 
@@ -65,7 +65,7 @@ unfolding programFields tabulate
 program-fields tag t e s zero = fields-none tag (log 1 t e)
 program-fields tag t e s (suc n) =
     rw (writes-append (log 1 t e) (tabulate (putAt s) n) (putAt s n ∷ []), fields-append tag (writesOf (log 1 t e) (tabulate (putAt s) n)) (writesOf (afterAll (log 1 t e) (tabulate (putAt s) n)) (putAt s n ∷ [])), after-puts t e (tabulate (putAt s) n), length-tabulate (putAt s) n, one-put tag (t + n) (e + n) s n)
-    (ap (λ (x : List ℕ). x ++ putFields tag (t + n) (e + n) (word s (4 * n))) (program-fields tag t e s n))
+    (ap (λ (x : List ℕ). x ++ putFields tag (t + n) (e + n) (word s (blockLength * n))) (program-fields tag t e s n))
 
 or-none : (a : Bool) → a || false ≡ a
 or-none true = refl
@@ -77,11 +77,11 @@ both-zero a b = bool-equal (eqb a 0 && eqb b 0) (eqb (a * 65536 + b) 0)
     (λ e. let z : a * 65536 + b ≡ 0 = eqb-true (a * 65536 + b) 0 e in let p : a ≡ 0 = omega arith in let q : b ≡ 0 = omega arith in and-intro (eqb a 0) (eqb b 0) (eq-eqb a 0 p) (eq-eqb b 0 q))
 
 -- an empty put is one whose block is 0
-empty-word : (s : List ℕ) (i : ℕ) → emptyPut (putAt s i) ≡ eqb (word s (4 * i)) 0
+empty-word : (s : List ℕ) (i : ℕ) → emptyPut (putAt s i) ≡ eqb (word s (blockLength * i)) 0
 unfolding emptyPut word
-empty-word s i = both-zero (half s (4 * i)) (half s (4 * i + 2))
+empty-word s i = both-zero (half s (blockLength * i)) (half s (blockLength * i + 2))
 
-any-one : (s : List ℕ) (n : ℕ) → any emptyPut (putAt s n ∷ []) ≡ eqb (word s (4 * n)) 0
+any-one : (s : List ℕ) (n : ℕ) → any emptyPut (putAt s n ∷ []) ≡ eqb (word s (blockLength * n)) 0
 unfolding any
 any-one s n = or-none (emptyPut (putAt s n)) ∙ empty-word s n
 
@@ -114,33 +114,33 @@ choices false false false false false false false x k = refl
 pub by-fault : (initial main buffer : List ℕ)
     → traceOf initial main buffer
     ≡ cond (eqb (traceFault initial main (length buffer)) 0)
-    (traced (answer (sizeOf (length initial / 4) (length main / 4))) (testBytes (logTest (putsOf initial) (putsOf main)) ++ drop (sizeOf (length initial / 4) (length main / 4)) buffer))
+    (traced (answer (sizeOf (length initial / blockLength) (length main / blockLength))) (testBytes (logTest (putsOf initial) (putsOf main)) ++ drop (sizeOf (length initial / blockLength) (length main / blockLength)) buffer))
     (traced (refused (traceFault initial main (length buffer)) 0) buffer)
 unfolding traceOf traceFault putsOf
 by-fault initial main buffer =
-    let n = length initial / 4 in
-    let m = length main / 4 in
+    let n = length initial / blockLength in
+    let m = length main / blockLength in
     rw (length-tabulate (putAt initial) n, length-tabulate (putAt main) m, any-empty initial n, any-empty main m)
-    (choices (not (eqb (length initial % 4) 0)) (not (eqb (length main % 4) 0)) (ltb mostInitialPuts n) (ltb mostMainPuts m) (emptyBelow initial n) (emptyBelow main m) (ltb (length buffer) (sizeOf n m))
+    (choices (not (eqb (length initial % blockLength) 0)) (not (eqb (length main % blockLength) 0)) (ltb mostInitialPuts n) (ltb mostMainPuts m) (emptyBelow initial n) (emptyBelow main m) (ltb (length buffer) (sizeOf n m))
     (traced (answer (sizeOf n m)) (testBytes (logTest (tabulate (putAt initial) n) (tabulate (putAt main) m)) ++ drop (sizeOf n m) buffer)) (λ k. traced (refused k 0) buffer))
 
 -- which refusal, or none, in the code's order
-module _ (i m : List ℕ) (room : ℕ) (a : length i % 4 ≡ 0) (b : length m % 4 ≡ 0) (c : length i / 4 ≤ mostInitialPuts) (d : length m / 4 ≤ mostMainPuts) where
-  past : traceFault i m room ≡ cond (emptyBelow i (length i / 4)) 20 (cond (emptyBelow m (length m / 4)) 20 (cond (ltb room (sizeOf (length i / 4) (length m / 4))) 12 0))
+module _ (i m : List ℕ) (room : ℕ) (a : length i % blockLength ≡ 0) (b : length m % blockLength ≡ 0) (c : length i / blockLength ≤ mostInitialPuts) (d : length m / blockLength ≤ mostMainPuts) where
+  past : traceFault i m room ≡ cond (emptyBelow i (length i / blockLength)) 20 (cond (emptyBelow m (length m / blockLength)) 20 (cond (ltb room (sizeOf (length i / blockLength) (length m / blockLength))) 12 0))
   unfolding traceFault
-  past = rw (eq-eqb (length i % 4) 0 a, eq-eqb (length m % 4) 0 b, le-ltb mostInitialPuts (length i / 4) c, le-ltb mostMainPuts (length m / 4) d) refl
+  past = rw (eq-eqb (length i % blockLength) 0 a, eq-eqb (length m % blockLength) 0 b, le-ltb mostInitialPuts (length i / blockLength) c, le-ltb mostMainPuts (length m / blockLength) d) refl
 
-  pub fault-initial : (e : Bool) → e ≡ emptyBelow i (length i / 4) → e ≡ true → 20 ≡ traceFault i m room
+  pub fault-initial : (e : Bool) → e ≡ emptyBelow i (length i / blockLength) → e ≡ true → 20 ≡ traceFault i m room
   fault-initial e p q = sym (past ∙ rw (← p, q) refl)
 
-  pub fault-main : (e f : Bool) → e ≡ emptyBelow i (length i / 4) → e ≡ false → f ≡ emptyBelow m (length m / 4) → f ≡ true → 20 ≡ traceFault i m room
+  pub fault-main : (e f : Bool) → e ≡ emptyBelow i (length i / blockLength) → e ≡ false → f ≡ emptyBelow m (length m / blockLength) → f ≡ true → 20 ≡ traceFault i m room
   fault-main e f p q r s = sym (past ∙ rw (← p, q, ← r, s) refl)
 
-  pub fault-room : (e f : Bool) → e ≡ emptyBelow i (length i / 4) → e ≡ false → f ≡ emptyBelow m (length m / 4) → f ≡ false → room < sizeOf (length i / 4) (length m / 4) → 12 ≡ traceFault i m room
-  fault-room e f p q r s l = sym (past ∙ rw (← p, q, ← r, s, lt-ltb room (sizeOf (length i / 4) (length m / 4)) l) refl)
+  pub fault-room : (e f : Bool) → e ≡ emptyBelow i (length i / blockLength) → e ≡ false → f ≡ emptyBelow m (length m / blockLength) → f ≡ false → room < sizeOf (length i / blockLength) (length m / blockLength) → 12 ≡ traceFault i m room
+  fault-room e f p q r s l = sym (past ∙ rw (← p, q, ← r, s, lt-ltb room (sizeOf (length i / blockLength) (length m / blockLength)) l) refl)
 
-  pub fault-none : (e f : Bool) → e ≡ emptyBelow i (length i / 4) → e ≡ false → f ≡ emptyBelow m (length m / 4) → f ≡ false → sizeOf (length i / 4) (length m / 4) ≤ room → 0 ≡ traceFault i m room
-  fault-none e f p q r s l = sym (past ∙ rw (← p, q, ← r, s, le-ltb room (sizeOf (length i / 4) (length m / 4)) l) refl)
+  pub fault-none : (e f : Bool) → e ≡ emptyBelow i (length i / blockLength) → e ≡ false → f ≡ emptyBelow m (length m / blockLength) → f ≡ false → sizeOf (length i / blockLength) (length m / blockLength) ≤ room → 0 ≡ traceFault i m room
+  fault-none e f p q r s l = sym (past ∙ rw (← p, q, ← r, s, le-ltb room (sizeOf (length i / blockLength) (length m / blockLength)) l) refl)
 
 small : (b : Bool) (x y : ℕ) → x < 256 → y < 256 → cond b x y < 256
 small true x y p q = p
@@ -160,55 +160,55 @@ module _ (i m : List ℕ) (room f : ℕ) (e : f ≡ traceFault i m room) where
   unfolding traceFault
   fault-small =
       rw e
-      (small (not (eqb (length i % 4) 0)) 19 _ (omega arith)
-      (small (not (eqb (length m % 4) 0)) 19 _ (omega arith)
-      (small (ltb mostInitialPuts (length i / 4)) 6 _ (omega arith)
-      (small (ltb mostMainPuts (length m / 4)) 6 _ (omega arith)
-      (small (emptyBelow i (length i / 4)) 20 _ (omega arith)
-      (small (emptyBelow m (length m / 4)) 20 _ (omega arith)
-      (small (ltb room (sizeOf (length i / 4) (length m / 4))) 12 0 (omega arith) (omega arith))))))))
+      (small (not (eqb (length i % blockLength) 0)) 19 _ (omega arith)
+      (small (not (eqb (length m % blockLength) 0)) 19 _ (omega arith)
+      (small (ltb mostInitialPuts (length i / blockLength)) 6 _ (omega arith)
+      (small (ltb mostMainPuts (length m / blockLength)) 6 _ (omega arith)
+      (small (emptyBelow i (length i / blockLength)) 20 _ (omega arith)
+      (small (emptyBelow m (length m / blockLength)) 20 _ (omega arith)
+      (small (ltb room (sizeOf (length i / blockLength) (length m / blockLength))) 12 0 (omega arith) (omega arith))))))))
 
-  pub fits-initial : f ≡ 0 → length i / 4 ≤ mostInitialPuts
+  pub fits-initial : f ≡ 0 → length i / blockLength ≤ mostInitialPuts
   unfolding traceFault
   fits-initial z =
-      ltb-false mostInitialPuts (length i / 4)
-      (on (ltb mostInitialPuts (length i / 4)) 6 _ (λ (q : 6 ≡ 0). absurd (omega arith))
-      (rest (not (eqb (length m % 4) 0)) 19 _ (λ (q : 19 ≡ 0). absurd (omega arith))
-      (rest (not (eqb (length i % 4) 0)) 19 _ (λ (q : 19 ≡ 0). absurd (omega arith)) (sym e ∙ z))))
+      ltb-false mostInitialPuts (length i / blockLength)
+      (on (ltb mostInitialPuts (length i / blockLength)) 6 _ (λ (q : 6 ≡ 0). absurd (omega arith))
+      (rest (not (eqb (length m % blockLength) 0)) 19 _ (λ (q : 19 ≡ 0). absurd (omega arith))
+      (rest (not (eqb (length i % blockLength) 0)) 19 _ (λ (q : 19 ≡ 0). absurd (omega arith)) (sym e ∙ z))))
 
-  pub fits-main : f ≡ 0 → length m / 4 ≤ mostMainPuts
+  pub fits-main : f ≡ 0 → length m / blockLength ≤ mostMainPuts
   unfolding traceFault
   fits-main z =
-      ltb-false mostMainPuts (length m / 4)
-      (on (ltb mostMainPuts (length m / 4)) 6 _ (λ (q : 6 ≡ 0). absurd (omega arith))
-      (rest (ltb mostInitialPuts (length i / 4)) 6 _ (λ (q : 6 ≡ 0). absurd (omega arith))
-      (rest (not (eqb (length m % 4) 0)) 19 _ (λ (q : 19 ≡ 0). absurd (omega arith))
-      (rest (not (eqb (length i % 4) 0)) 19 _ (λ (q : 19 ≡ 0). absurd (omega arith)) (sym e ∙ z)))))
+      ltb-false mostMainPuts (length m / blockLength)
+      (on (ltb mostMainPuts (length m / blockLength)) 6 _ (λ (q : 6 ≡ 0). absurd (omega arith))
+      (rest (ltb mostInitialPuts (length i / blockLength)) 6 _ (λ (q : 6 ≡ 0). absurd (omega arith))
+      (rest (not (eqb (length m % blockLength) 0)) 19 _ (λ (q : 19 ≡ 0). absurd (omega arith))
+      (rest (not (eqb (length i % blockLength) 0)) 19 _ (λ (q : 19 ≡ 0). absurd (omega arith)) (sym e ∙ z)))))
 
-  pub fits-room : f ≡ 0 → sizeOf (length i / 4) (length m / 4) ≤ room
+  pub fits-room : f ≡ 0 → sizeOf (length i / blockLength) (length m / blockLength) ≤ room
   unfolding traceFault
   fits-room z =
-      ltb-false room (sizeOf (length i / 4) (length m / 4))
-      (on (ltb room (sizeOf (length i / 4) (length m / 4))) 12 0 (λ (q : 12 ≡ 0). absurd (omega arith))
-      (rest (emptyBelow m (length m / 4)) 20 _ (λ (q : 20 ≡ 0). absurd (omega arith))
-      (rest (emptyBelow i (length i / 4)) 20 _ (λ (q : 20 ≡ 0). absurd (omega arith))
-      (rest (ltb mostMainPuts (length m / 4)) 6 _ (λ (q : 6 ≡ 0). absurd (omega arith))
-      (rest (ltb mostInitialPuts (length i / 4)) 6 _ (λ (q : 6 ≡ 0). absurd (omega arith))
-      (rest (not (eqb (length m % 4) 0)) 19 _ (λ (q : 19 ≡ 0). absurd (omega arith))
-      (rest (not (eqb (length i % 4) 0)) 19 _ (λ (q : 19 ≡ 0). absurd (omega arith)) (sym e ∙ z))))))))
+      ltb-false room (sizeOf (length i / blockLength) (length m / blockLength))
+      (on (ltb room (sizeOf (length i / blockLength) (length m / blockLength))) 12 0 (λ (q : 12 ≡ 0). absurd (omega arith))
+      (rest (emptyBelow m (length m / blockLength)) 20 _ (λ (q : 20 ≡ 0). absurd (omega arith))
+      (rest (emptyBelow i (length i / blockLength)) 20 _ (λ (q : 20 ≡ 0). absurd (omega arith))
+      (rest (ltb mostMainPuts (length m / blockLength)) 6 _ (λ (q : 6 ≡ 0). absurd (omega arith))
+      (rest (ltb mostInitialPuts (length i / blockLength)) 6 _ (λ (q : 6 ≡ 0). absurd (omega arith))
+      (rest (not (eqb (length m % blockLength) 0)) 19 _ (λ (q : 19 ≡ 0). absurd (omega arith))
+      (rest (not (eqb (length i % blockLength) 0)) 19 _ (λ (q : 19 ≡ 0). absurd (omega arith)) (sym e ∙ z))))))))
 
 module _ (i m l : List ℕ) (f : ℕ) (e : f ≡ traceFault i m (length l)) where
   pub trace-refused : (r : ℕ) → (f ≡ 0 → ⊥) → r ≡ refusal f 0 → traceOut r l ≡ traceAnswer i m l
   unfolding traceAnswer coded
   trace-refused r n q = rw (by-fault i m l, ← e, ne-eqb f 0 n, q) refl
 
-  pub trace-written : (out : List ℕ) (r : ℕ) → f ≡ 0 → Wrote l 0 (testFields i m (length i / 4) (length m / 4)) out r → r ≡ sizeOf (length i / 4) (length m / 4) → traceOut r out ≡ traceAnswer i m l
+  pub trace-written : (out : List ℕ) (r : ℕ) → f ≡ 0 → Wrote l 0 (testFields i m (length i / blockLength) (length m / blockLength)) out r → r ≡ sizeOf (length i / blockLength) (length m / blockLength) → traceOut r out ≡ traceAnswer i m l
   unfolding traceAnswer coded putsOf
   trace-written out r z w s =
-      let t = testFields i m (length i / 4) (length m / 4) in
-      let k : length t ≡ sizeOf (length i / 4) (length m / 4) = omega (arith, w .place, s) in
-      let b : out ≡ t ++ drop (sizeOf (length i / 4) (length m / 4)) l = w .buffer ∙ sets-eq t l 0 (omega (arith, k, fits-room i m (length l) f e z)) ∙ rw (k, zero-add (sizeOf (length i / 4) (length m / 4))) refl in
-      rw (by-fault i m l, ← e, z, b, s, test-bytes i m (length i / 4) (length m / 4)) refl
+      let t = testFields i m (length i / blockLength) (length m / blockLength) in
+      let k : length t ≡ sizeOf (length i / blockLength) (length m / blockLength) = omega (arith, w .place, s) in
+      let b : out ≡ t ++ drop (sizeOf (length i / blockLength) (length m / blockLength)) l = w .buffer ∙ sets-eq t l 0 (omega (arith, k, fits-room i m (length l) f e z)) ∙ rw (k, zero-add (sizeOf (length i / blockLength) (length m / blockLength))) refl in
+      rw (by-fault i m l, ← e, z, b, s, test-bytes i m (length i / blockLength) (length m / blockLength)) refl
 
 -- the three parts of a test
 pub test-wrote : (i m : List ℕ) (n k : ℕ) (l l₁ l₂ l₃ : List ℕ) (r₁ r₂ r₃ : ℕ)

@@ -8,13 +8,13 @@ use mathlib.Core.List.{List, _++_}
 use Rattle.model.specs.Limits.{mostInitialPuts, mostMainPuts}
 use Rattle.model.specs.Answer.{coded}
 use Rattle.file_format.specs.File.{putLength, endLength}
-use Rattle.file_format.specs.Bytes.{word}
+use Rattle.file_format.specs.Bytes.{word, blockLength}
 use Rattle.log_get.specs.Puts.{traceOf}
 use Rattle.log_puts.specs.Fields.{programFields, endFields}
 
 -- one of the first n puts is (0,0)
 unfoldable pub emptyBelow : List ℕ → ℕ → Bool
-emptyBelow s n = anyBelow (λ i. eqb (word s (4 * i)) 0) n
+emptyBelow s n = anyBelow (λ i. eqb (word s (blockLength * i)) 0) n
 
 -- the size of a trace of n and m puts
 abbrev pub sizeOf : ℕ → ℕ → ℕ
@@ -27,13 +27,13 @@ testFields initial main n m = programFields 1 1 0 initial n ++ (programFields 2 
 -- what is wrong with a call: its refusal's number, or 0
 unfoldable pub traceFault : List ℕ → List ℕ → ℕ → ℕ
 traceFault initial main room =
-    cond (not (eqb (length initial % 4) 0)) 19
-    (cond (not (eqb (length main % 4) 0)) 19
-    (cond (ltb mostInitialPuts (length initial / 4)) 6
-    (cond (ltb mostMainPuts (length main / 4)) 6
-    (cond (emptyBelow initial (length initial / 4)) 20
-    (cond (emptyBelow main (length main / 4)) 20
-    (cond (ltb room (sizeOf (length initial / 4) (length main / 4))) 12 0))))))
+    cond (not (eqb (length initial % blockLength) 0)) 19
+    (cond (not (eqb (length main % blockLength) 0)) 19
+    (cond (ltb mostInitialPuts (length initial / blockLength)) 6
+    (cond (ltb mostMainPuts (length main / blockLength)) 6
+    (cond (emptyBelow initial (length initial / blockLength)) 20
+    (cond (emptyBelow main (length main / blockLength)) 20
+    (cond (ltb room (sizeOf (length initial / blockLength) (length main / blockLength))) 12 0))))))
 
 -- an answer and a buffer
 pub record TraceOut : Type 0 where

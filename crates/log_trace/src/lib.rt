@@ -3,17 +3,18 @@ ghost use mathlib.Core.Path.{_≡_};
 ghost use Prim.Native.Nat.{_*_, _≤_};
 ghost use lib.ListN.{length};
 ghost use Rattle.model.specs.Limits.{mostInitialPuts, mostMainPuts};
+ghost use Rattle.file_format.specs.Bytes.{blockLength};
 ghost use Rattle.file_writing.specs.Writing.{Wrote};
 ghost use Rattle.log_trace.specs.Traced.{emptyBelow, sizeOf, testFields, traceFault, traceOut, traceAnswer};
 
 // Whether one of the first n puts of a program is (0, 0).
 fn has_empty(program: &[u8], n: usize) -> bool
-    requires { ⌜ 4 * n ≤ length (now program) ⌝ }
+    requires { ⌜ blockLength * n ≤ length (now program) ⌝ }
     ensures { λ r. ⌜ r ≡ emptyBelow (now (program .entry)) n ⌝ }
 {
     let mut i: usize = 0;
     while i < n {
-        if file_format::word_at(program, 4 * i) == 0 {
+        if file_format::word_at(program, file_format::BLOCK_LENGTH * i) == 0 {
             return true;
         }
         i += 1;
@@ -25,14 +26,14 @@ fn has_empty(program: &[u8], n: usize) -> bool
 fn trace_fault(initial: &[u8], main: &[u8], room: usize) -> u64
     ensures { λ r. ⌜ r ≡ traceFault (now (initial .entry)) (now (main .entry)) room ⌝ }
 {
-    if initial.len() % 4 != 0 {
+    if initial.len() % file_format::BLOCK_LENGTH != 0 {
         return 19;
     }
-    if main.len() % 4 != 0 {
+    if main.len() % file_format::BLOCK_LENGTH != 0 {
         return 19;
     }
-    let n = initial.len() / 4;
-    let m = main.len() / 4;
+    let n = initial.len() / file_format::BLOCK_LENGTH;
+    let m = main.len() / file_format::BLOCK_LENGTH;
     if model::MOST_INITIAL_PUTS < n {
         return 6;
     }
@@ -53,7 +54,7 @@ fn trace_fault(initial: &[u8], main: &[u8], room: usize) -> u64
 
 // The test of two programs, of n and m puts.
 fn put_test(out: &mut [u8], initial: &[u8], main: &[u8], n: usize, m: usize) -> usize
-    requires { ⌜ (4 * n ≤ length (now initial)) × ((4 * m ≤ length (now main)) × ((n ≤ mostInitialPuts) × ((m ≤ mostMainPuts) × (sizeOf n m ≤ length (now out))))) ⌝ }
+    requires { ⌜ (blockLength * n ≤ length (now initial)) × ((blockLength * m ≤ length (now main)) × ((n ≤ mostInitialPuts) × ((m ≤ mostMainPuts) × (sizeOf n m ≤ length (now out))))) ⌝ }
     ensures { λ r. ⌜ Wrote (now (out .entry)) 0 (testFields (now (initial .entry)) (now (main .entry)) n m) (now (out .exit)) r × (r ≡ sizeOf n m) ⌝ }
 {
     let next = log_puts::put_program(out, 0, 1, initial, n, 1, 0);
@@ -71,7 +72,7 @@ pub fn trace(initial: &[u8], main: &[u8], buffer: &mut [u8]) -> u64
     if number != 0 {
         return model::refuse(number, 0);
     }
-    let n = initial.len() / 4;
-    let m = main.len() / 4;
+    let n = initial.len() / file_format::BLOCK_LENGTH;
+    let m = main.len() / file_format::BLOCK_LENGTH;
     put_test(buffer, initial, main, n, m) as u64
 }

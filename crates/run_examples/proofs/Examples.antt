@@ -17,6 +17,7 @@ use Rattle.relation.specs.Finite.{related, rowsOf, joined, round, closed, loops
 use Rattle.model.specs.declared.Rule.{Rule}
 use Rattle.model.specs.declared.Write.{Write}
 use Rattle.model.specs.declared.Check.the-variants.{Range}
+use Rattle.model.specs.Limits.{diskBlocks}
 use Rattle.model.specs.Answer.{Outcome, answer, refused}
 use Rattle.model.specs.Disk.{block, firstOf, secondOf, empty, emptyDisk}
 use Rattle.model.specs.Rules.{stands, matches, DependsOn, dependsOn, known}
@@ -27,7 +28,7 @@ use Rattle.model.specs.Test.{Test, test, file, initialDisk, bad, countBelow, ba
 use Rattle.model.proofs.RuleLaws.{dependsOn-true, true-dependsOn}
 use Rattle.model.proofs.CheckLaws.{true-consistent}
 use Rattle.model.proofs.TestLaws.{count-holds}
-use Rattle.file_format.specs.Bytes.{half, word, writeBytes, ruleBytes, blockIn, blocksOf}
+use Rattle.file_format.specs.Bytes.{half, word, blockLength, diskLength, blockIn, blocksOf, writeBytes, ruleBytes}
 use Rattle.file_format.specs.File.{isTag, isCheck, bodyLength, ruleOf, writeOf, countsOf, outOfOrder, overTest, overLimit, ruleFault, bodyFault, faultOf, grown, finished, readFrom, nothing, readOf}
 use Rattle.file_reader.proofs.CallerLaws.{holding-limits}
 use Rattle.rule_cyclelaws.proofs.CyclicLaws.{cyclic-true}
@@ -73,7 +74,7 @@ together {cs} ls rs c m = ⊎-elim (λ i. ls c i) (λ i. rs c i) (List·Memᴰ·
 pub record Run (bytes : List ℕ) (rules : List Rule) (disk : List ℕ) (calls : List Call) : Type 0 where
   reads : readOf bytes ≡ answer (file rules [])
   opens : openOf bytes blank disk .outcome ≡ answer 0
-  size : length disk ≡ 1024
+  size : length disk ≡ diskLength
   listed : Each calls
 
 -- what the claim says of every cut
@@ -237,23 +238,23 @@ unfolding disk blank storedOn block
 twice-stored = refl
 
 -- by laws: to compute 256 blocks of 1,024 bytes takes seconds
-zero-block : (i : ℕ) → i < 256 → blockIn blank i ≡ 0
+zero-block : (i : ℕ) → i < diskBlocks → blockIn blank i ≡ 0
 unfolding blank blockIn word half
 zero-block i h =
     rw (
-      getD-replicate {A = ℕ} 1024 (4 * i) 0 0 (omega arith),
-      getD-replicate {A = ℕ} 1024 (4 * i + 1) 0 0 (omega arith),
-      getD-replicate {A = ℕ} 1024 (4 * i + 2) 0 0 (omega arith),
-      getD-replicate {A = ℕ} 1024 (4 * i + 2 + 1) 0 0 (omega arith),
+      getD-replicate {A = ℕ} 1024 (blockLength * i) 0 0 (omega arith),
+      getD-replicate {A = ℕ} 1024 (blockLength * i + 1) 0 0 (omega arith),
+      getD-replicate {A = ℕ} 1024 (blockLength * i + 2) 0 0 (omega arith),
+      getD-replicate {A = ℕ} 1024 (blockLength * i + 2 + 1) 0 0 (omega arith),
     )
 
 blank-blocks : blocksOf blank ≡ emptyDisk
 unfolding blocksOf
-blank-blocks = tabulate-ext (blockIn blank) (λ i. 0) 256 zero-block ∙ unfold tabulate emptyDisk in refl
+blank-blocks = tabulate-ext (blockIn blank) (λ i. 0) diskBlocks zero-block ∙ unfold tabulate emptyDisk in refl
 
 initial-blocks : blocksOf (storedOn (storedOn blank log0) superblock0) ≡ store superblock0 (store log0 emptyDisk)
 initial-blocks =
-    let size : length blank ≡ 1024 = unfold blank in refl in
+    let size : length blank ≡ diskLength = unfold blank in refl in
     blocks-stored (storedOn blank log0) superblock0 (length-stored blank log0 ∙ size) (widths 0 2 0 1 2 (omega arith) (omega arith) (omega arith) (omega arith) (omega arith))
     ∙ ap (store superblock0)
     (blocks-stored blank log0 size (widths 1 1 0 0 42 (omega arith) (omega arith) (omega arith) (omega arith) (omega arith)) ∙ ap (store log0) blank-blocks)

@@ -8,7 +8,7 @@ use native.Mathlib.Decide.{ℕ-discrete}
 use native.Mathlib.Omega.{arith}
 use lib.ListN.{length, getD, length-map, List·getD-append, List·getD-map}
 use lib.Seq.{getD-at}
-use Rattle.model.specs.Limits.{mostHeld}
+use Rattle.model.specs.Limits.{mostRules, mostHeld}
 use Rattle.model.specs.declared.Write.{Write}
 use Rattle.model.specs.declared.Rule.{Rule}
 use Rattle.model.specs.Rules.{Known, DependsOn}
@@ -42,7 +42,7 @@ needs-by-address rules ws i j hi hj l e = (hi, hj, inr (l, e))
 pub record Fine (rules : List Rule) (b : Book) : Type 0 where
   pub known : Known rules
   pub acyclic : Cyclic rules → ⊥
-  pub rules-most : length rules ≤ 32
+  pub rules-most : length rules ≤ mostRules
   pub most : length b ≤ mostHeld
   pub fits : (j : ℕ) → j < length b → WriteFits (getD b j (entry noWrite false) .write)
   pub closed : (i j : ℕ) → flagAt b i ≡ true → Needs rules (accepted b) i j → flagAt b j ≡ true

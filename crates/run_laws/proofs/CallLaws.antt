@@ -19,6 +19,7 @@ use Rattle.model.specs.Answer.{Outcome, answer, refused, coded}
 use Rattle.model.specs.Disk.{block}
 use Rattle.model.specs.Cyclic.{cyclic}
 use Rattle.model.specs.Test.{File}
+use Rattle.file_format.specs.Bytes.{diskLength}
 use Rattle.file_format.specs.File.{readOf}
 use Rattle.file_reader.proofs.CallerLaws.{holding-limits}
 use Rattle.rule_cyclelaws.proofs.CyclicLaws.{true-cyclic, cyclic-true}
@@ -61,7 +62,7 @@ own-is (other x) o = absurd o
 pub decide-length : (c : Call) → WrongLength c ⊎ (WrongLength c → ⊥)
 decide-length c = ⊎-elim
     (λ w. inl (inl w))
-    (λ ns. ⊎-elim (λ w. inl (inr w)) (λ nd. inr (λ w. ⊎-elim ns nd w)) (decide-wrong 1024 (diskLent c)))
+    (λ ns. ⊎-elim (λ w. inl (inr w)) (λ nd. inr (λ w. ⊎-elim ns nd w)) (decide-wrong diskLength (diskLent c)))
     (decide-wrong stateSize (stateLent c))
 
 pub unsound-lent : (l : Lent) (mine : List ℕ) → Unsound l → Sound (lentTo l mine) → ⊥
@@ -71,21 +72,21 @@ unsound-lent (other x) mine u s = u s
 -- ---- refusals by the buffers
 
 -- a call that checks its buffers, lent one of another length
-pub checked-length : (call : List ℕ → List ℕ → Left) (s d : List ℕ) → (length s ≡ stateSize → ⊥) ⊎ (length d ≡ 1024 → ⊥) → checked call s d ≡ left (refused 14 0) s d
+pub checked-length : (call : List ℕ → List ℕ → Left) (s d : List ℕ) → (length s ≡ stateSize → ⊥) ⊎ (length d ≡ diskLength → ⊥) → checked call s d ≡ left (refused 14 0) s d
 unfolding checked
 checked-length call s d (inl n) = rw (ne-eqb (length s) stateSize n)
 checked-length call s d (inr n) = go (eqb (length s) stateSize)
   where
-    go : (b : Bool) → cond (not b) (left (refused 14 0) s d) (cond (not (eqb (length d) 1024)) (left (refused 14 0) s d) (cond (not (sound s)) (left (refused 15 0) s d) (call s d))) ≡ left (refused 14 0) s d
-    go true = rw (ne-eqb (length d) 1024 n)
+    go : (b : Bool) → cond (not b) (left (refused 14 0) s d) (cond (not (eqb (length d) diskLength)) (left (refused 14 0) s d) (cond (not (sound s)) (left (refused 15 0) s d) (call s d))) ≡ left (refused 14 0) s d
+    go true = rw (ne-eqb (length d) diskLength n)
     go false = refl
 
 pub unsound-false : (s : List ℕ) → (Sound s → ⊥) → sound s ≡ false
 unsound-false s n = untrue (sound s) (λ e. n (sound-true s e))
 
-pub checked-unsound : (call : List ℕ → List ℕ → Left) (s d : List ℕ) → length s ≡ stateSize → length d ≡ 1024 → (Sound s → ⊥) → checked call s d ≡ left (refused 15 0) s d
+pub checked-unsound : (call : List ℕ → List ℕ → Left) (s d : List ℕ) → length s ≡ stateSize → length d ≡ diskLength → (Sound s → ⊥) → checked call s d ≡ left (refused 15 0) s d
 unfolding checked
-checked-unsound call s d es ed n = rw (eq-eqb (length s) stateSize es, eq-eqb (length d) 1024 ed, unsound-false s n)
+checked-unsound call s d es ed n = rw (eq-eqb (length s) stateSize es, eq-eqb (length d) diskLength ed, unsound-false s n)
 
 pub hand-length : (w : Write) (s d : List ℕ) → (length s ≡ stateSize → ⊥) → handInOf w s d ≡ left (refused 14 0) s d
 unfolding handInOf
@@ -103,24 +104,24 @@ pub open-read : (file s d : List ℕ) → length s ≡ stateSize → openOf file
 unfolding openOf
 open-read file s d e = rw (eq-eqb (length s) stateSize e)
 
-pub get-length : (d : List ℕ) (key : ℕ) → (length d ≡ 1024 → ⊥) → getOf d key ≡ refused 14 0
+pub get-length : (d : List ℕ) (key : ℕ) → (length d ≡ diskLength → ⊥) → getOf d key ≡ refused 14 0
 unfolding getOf
-get-length d key n = rw (ne-eqb (length d) 1024 n)
+get-length d key n = rw (ne-eqb (length d) diskLength n)
 
 -- a get of a disk of 1,024 bytes is refused by 21 or by none
-pub get-right : (d : List ℕ) (key : ℕ) → length d ≡ 1024 → (getOf d key ≡ refused 21 0) ⊎ ((v : Option ℕ) × (getOf d key ≡ answer v))
+pub get-right : (d : List ℕ) (key : ℕ) → length d ≡ diskLength → (getOf d key ≡ refused 21 0) ⊎ ((v : Option ℕ) × (getOf d key ≡ answer v))
 unfolding getOf
 get-right d key e =
     let head = headOf d in
     let tail = tailOf d in
-    rw (eq-eqb (length d) 1024 e) (go (damaged head tail) (getFrom d key head (tail - head)))
+    rw (eq-eqb (length d) diskLength e) (go (damaged head tail) (getFrom d key head (tail - head)))
   where
     go : (x : Bool) (v : Option ℕ) → (cond x (refused 21 0) (answer v) ≡ refused 21 0) ⊎ ((u : Option ℕ) × (cond x (refused 21 0) (answer v) ≡ answer u))
     go true v = inl refl
     go false v = inr (v, refl)
 
 -- ..: by none where the superblock is no damage, and then it gives the value there is
-pub get-given : (d : List ℕ) (key : ℕ) (v : Option ℕ) → length d ≡ 1024 → (LogDamaged d → ⊥) → LogGets d key v → getOf d key ≡ answer v
+pub get-given : (d : List ℕ) (key : ℕ) (v : Option ℕ) → length d ≡ diskLength → (LogDamaged d → ⊥) → LogGets d key v → getOf d key ≡ answer v
 get-given d key v e n g = ⊎-elim
     (λ (r : getOf d key ≡ refused 21 0). absurd (n (refused-gets d key e .0 r)))
     (λ (u : (x : Option ℕ) × (getOf d key ≡ answer x)). u .1 ∙ ap answer (one (u .0) (u .1)))

@@ -19,11 +19,12 @@ use Rattle.relation.proofs.BitLaws.{bit-suc, bit-mask, mask-below}
 use Rattle.relation.proofs.ListLaws.{length-tabulate, getD-tabulate}
 use Rattle.model.specs.declared.Write.{Write}
 use Rattle.model.specs.declared.Rule.{Rule}
+use Rattle.model.specs.Limits.{diskBlocks}
 use Rattle.model.specs.Rules.{DependsOn, labelOf}
 use Rattle.model.specs.Check.{Consistent}
 use Rattle.model.specs.Test.{Test, initialDisk, diskAfter, TestHolds}
 use Rattle.model.specs.Schedule.{noWrite, writeAt, labelAt, store, run, Valid}
-use Rattle.file_format.specs.Bytes.{byte, half, word, bytes4, blockIn, blocksOf}
+use Rattle.file_format.specs.Bytes.{byte, half, word, bytes4, blockLength, diskLength, blockIn, blocksOf}
 use Rattle.file_format.specs.Encode.{WriteFits}
 use Rattle.file_format.proofs.ByteLaws.{number}
 use Rattle.cache_model.specs.State.{storedOn}
@@ -52,7 +53,7 @@ sets-sets-comm (v ∷ vs) ws l i j h =
 stored-comm : (d : List ℕ) (w v : Write) → w .address ≢ v .address → storedOn (storedOn d w) v ≡ storedOn (storedOn d v) w
 unfolding storedOn
 stored-comm d w v ne =
-    sets-sets-comm (bytes4 (w .block)) (bytes4 (v .block)) d (4 * w .address) (4 * v .address)
+    sets-sets-comm (bytes4 (w .block)) (bytes4 (v .block)) d (blockLength * w .address) (blockLength * v .address)
     (elim (decLt (w .address) (v .address)) [ yes l ↦ inl (omega arith) | no g ↦ inr (omega arith) ])
 
 -- a store goes past stored writes to other addresses
@@ -111,47 +112,47 @@ valid-book rules b f i j hi hj p d =
 
 -- ---- bytes and blocks
 
-module _ (d : List ℕ) (w : Write) (size : length d ≡ 1024) (fits : WriteFits w) where
+module _ (d : List ℕ) (w : Write) (size : length d ≡ diskLength) (fits : WriteFits w) where
   block-same : blockIn (storedOn d w) (w .address) ≡ w .block
   unfolding blockIn storedOn word half
   block-same =
       let a = fits .address in
-      let room : 4 * w .address + 4 ≤ length d = omega arith in
-      let z : 4 * w .address ≡ 4 * w .address + 0 = omega arith in
-      let y : 4 * w .address + 2 + 1 ≡ 4 * w .address + 3 = omega arith in
-      let b0 : byte (sets d (4 * w .address) (bytes4 (w .block))) (4 * w .address) ≡ w .block / 16777216 % 256 = subst (λ (k : ℕ). byte (sets d (4 * w .address) (bytes4 (w .block))) k ≡ w .block / 16777216 % 256) (sym z) (sets-in 0 (bytes4 (w .block)) d (4 * w .address) 0 (omega arith) room) in
-      rw (b0, sets-in 0 (bytes4 (w .block)) d (4 * w .address) 1 (omega arith) room, sets-in 0 (bytes4 (w .block)) d (4 * w .address) 2 (omega arith) room, y, sets-in 0 (bytes4 (w .block)) d (4 * w .address) 3 (omega arith) room)
+      let room : blockLength * w .address + blockLength ≤ length d = omega arith in
+      let z : blockLength * w .address ≡ blockLength * w .address + 0 = omega arith in
+      let y : blockLength * w .address + 2 + 1 ≡ blockLength * w .address + 3 = omega arith in
+      let b0 : byte (sets d (blockLength * w .address) (bytes4 (w .block))) (blockLength * w .address) ≡ w .block / 16777216 % 256 = subst (λ (k : ℕ). byte (sets d (blockLength * w .address) (bytes4 (w .block))) k ≡ w .block / 16777216 % 256) (sym z) (sets-in 0 (bytes4 (w .block)) d (blockLength * w .address) 0 (omega arith) room) in
+      rw (b0, sets-in 0 (bytes4 (w .block)) d (blockLength * w .address) 1 (omega arith) room, sets-in 0 (bytes4 (w .block)) d (blockLength * w .address) 2 (omega arith) room, y, sets-in 0 (bytes4 (w .block)) d (blockLength * w .address) 3 (omega arith) room)
       (number (w .block) (fits .block))
 
   block-else : (k : ℕ) → k ≢ w .address → blockIn (storedOn d w) k ≡ blockIn d k
   unfolding blockIn storedOn word half
   block-else k ne = rw (first, at 1 (omega arith), at 2 (omega arith), last)
     where
-      outside : (j : ℕ) → j < 4 → (4 * k + j < 4 * w .address) ⊎ (4 * w .address + 4 ≤ 4 * k + j)
+      outside : (j : ℕ) → j < blockLength → (blockLength * k + j < blockLength * w .address) ⊎ (blockLength * w .address + blockLength ≤ blockLength * k + j)
       outside j h = elim (decLt k (w .address)) [ yes l ↦ inl (omega arith) | no g ↦ inr (let n : k ≢ w .address = ne in omega arith) ]
 
-      at : (j : ℕ) → j < 4 → byte (sets d (4 * w .address) (bytes4 (w .block))) (4 * k + j) ≡ byte d (4 * k + j)
-      at j h = sets-out 0 (bytes4 (w .block)) d (4 * w .address) (4 * k + j) (outside j h)
+      at : (j : ℕ) → j < blockLength → byte (sets d (blockLength * w .address) (bytes4 (w .block))) (blockLength * k + j) ≡ byte d (blockLength * k + j)
+      at j h = sets-out 0 (bytes4 (w .block)) d (blockLength * w .address) (blockLength * k + j) (outside j h)
 
-      first : byte (sets d (4 * w .address) (bytes4 (w .block))) (4 * k) ≡ byte d (4 * k)
-      first = let z : 4 * k + 0 ≡ 4 * k = omega arith in subst (λ (x : ℕ). byte (sets d (4 * w .address) (bytes4 (w .block))) x ≡ byte d x) z (at 0 (omega arith))
+      first : byte (sets d (blockLength * w .address) (bytes4 (w .block))) (blockLength * k) ≡ byte d (blockLength * k)
+      first = let z : blockLength * k + 0 ≡ blockLength * k = omega arith in subst (λ (x : ℕ). byte (sets d (blockLength * w .address) (bytes4 (w .block))) x ≡ byte d x) z (at 0 (omega arith))
 
-      last : byte (sets d (4 * w .address) (bytes4 (w .block))) (4 * k + 2 + 1) ≡ byte d (4 * k + 2 + 1)
-      last = let z : 4 * k + 2 + 1 ≡ 4 * k + 3 = omega arith in rw z (at 3 (omega arith))
+      last : byte (sets d (blockLength * w .address) (bytes4 (w .block))) (blockLength * k + 2 + 1) ≡ byte d (blockLength * k + 2 + 1)
+      last = let z : blockLength * k + 2 + 1 ≡ blockLength * k + 3 = omega arith in rw z (at 3 (omega arith))
 
   pub blocks-stored : blocksOf (storedOn d w) ≡ store w (blocksOf d)
   unfolding blocksOf store
   blocks-stored =
-      ext-getD 0 (tabulate (blockIn (storedOn d w)) 256) (set (tabulate (blockIn d) 256) (w .address) (w .block))
-      (length-tabulate (blockIn (storedOn d w)) 256 ∙ sym (length-set (tabulate (blockIn d) 256) (w .address) (w .block) ∙ length-tabulate (blockIn d) 256))
-      (λ k h. block k (subst (λ (n : ℕ). k < n) (length-tabulate (blockIn (storedOn d w)) 256) h))
+      ext-getD 0 (tabulate (blockIn (storedOn d w)) diskBlocks) (set (tabulate (blockIn d) diskBlocks) (w .address) (w .block))
+      (length-tabulate (blockIn (storedOn d w)) diskBlocks ∙ sym (length-set (tabulate (blockIn d) diskBlocks) (w .address) (w .block) ∙ length-tabulate (blockIn d) diskBlocks))
+      (λ k h. block k (subst (λ (n : ℕ). k < n) (length-tabulate (blockIn (storedOn d w)) diskBlocks) h))
     where
-      block : (k : ℕ) → k < 256 → getD (tabulate (blockIn (storedOn d w)) 256) k 0 ≡ getD (set (tabulate (blockIn d) 256) (w .address) (w .block)) k 0
+      block : (k : ℕ) → k < diskBlocks → getD (tabulate (blockIn (storedOn d w)) diskBlocks) k 0 ≡ getD (set (tabulate (blockIn d) diskBlocks) (w .address) (w .block)) k 0
       block k h =
-          getD-tabulate (blockIn (storedOn d w)) 256 k 0 h
+          getD-tabulate (blockIn (storedOn d w)) diskBlocks k 0 h
           ∙ elim (ℕ-discrete k (w .address)) [
-            | yes z ↦ rw z (block-same ∙ sym (getD-set-same (tabulate (blockIn d) 256) (w .address) (w .block) 0 (rw (length-tabulate (blockIn d) 256) (fits .address))))
-            | no n ↦ block-else k n ∙ sym (getD-set-other (tabulate (blockIn d) 256) (w .address) k (w .block) 0 n ∙ getD-tabulate (blockIn d) 256 k 0 h)
+            | yes z ↦ rw z (block-same ∙ sym (getD-set-same (tabulate (blockIn d) diskBlocks) (w .address) (w .block) 0 (rw (length-tabulate (blockIn d) diskBlocks) (fits .address))))
+            | no n ↦ block-else k n ∙ sym (getD-set-other (tabulate (blockIn d) diskBlocks) (w .address) k (w .block) 0 n ∙ getD-tabulate (blockIn d) diskBlocks k 0 h)
           ]
 
 pub length-applied : (b : Book) (d : List ℕ) → length (applied b d) ≡ length d
@@ -173,7 +174,7 @@ run-cons : (w : Write) (ws : List Write) (s : ℕ) (d : List ℕ) → run (w ∷
 unfolding run
 run-cons w ws s d = refl
 
-run-book : (b : Book) (d : List ℕ) (s : ℕ) → length d ≡ 1024 → ((j : ℕ) → j < length b → WriteFits (getD b j (entry noWrite false) .write))
+run-book : (b : Book) (d : List ℕ) (s : ℕ) → length d ≡ diskLength → ((j : ℕ) → j < length b → WriteFits (getD b j (entry noWrite false) .write))
     → ((i : ℕ) → i < length b → bit s i ≡ flagAt b i) → run (accepted b) s (blocksOf d) ≡ blocksOf (applied b d)
 unfolding applied flagAt
 run-book [] d s size fits h = unfold run in refl
@@ -182,7 +183,7 @@ run-book (e ∷ b) d s size fits h =
     ∙ ap (λ (f : Bool). run (accepted b) (s / 2) (cond f (store (e .write) (blocksOf d)) (blocksOf d))) (sym (low-bit s) ∙ h 0 (omega arith))
     ∙ (go (e .flag) (λ x q. run-book b x (s / 2) q (λ j l. fits (suc j) (omega arith)) (λ i l. sym (bit-suc s i) ∙ h (suc i) (omega arith))))
   where
-    go : (f : Bool) → ((x : List ℕ) → length x ≡ 1024 → run (accepted b) (s / 2) (blocksOf x) ≡ blocksOf (applied b x))
+    go : (f : Bool) → ((x : List ℕ) → length x ≡ diskLength → run (accepted b) (s / 2) (blocksOf x) ≡ blocksOf (applied b x))
         → run (accepted b) (s / 2) (cond f (store (e .write) (blocksOf d)) (blocksOf d)) ≡ blocksOf (applied b (cond f (storedOn d (e .write)) d))
     go true ih = ap (run (accepted b) (s / 2)) (sym (blocks-stored d (e .write) size (fits 0 (omega arith)))) ∙ ih (storedOn d (e .write)) (length-stored d (e .write) ∙ size)
     go false ih = ih d size
@@ -202,7 +203,7 @@ run-front (w ∷ ws) rest s d h = run-front ws rest (s / 2) (cond (eqb (s % 2) 1
 label-front : (ws rest : List Write) (i : ℕ) → i < length ws → labelAt (ws ++ rest) i ≡ labelAt ws i
 label-front ws rest i h = ap labelOf (List·getD-append ws rest noWrite i h)
 
-pub consistent-left : (rules : List Rule) (b : Book) (disk : List ℕ) → Fine rules b → length disk ≡ 1024
+pub consistent-left : (rules : List Rule) (b : Book) (disk : List ℕ) → Fine rules b → length disk ≡ diskLength
     → (t : Test) → blocksOf disk ≡ initialDisk t → Begins (accepted b) (t .main) → TestHolds rules t → NoneBeyond rules b (t .main)
     → Consistent (t .checks) (blocksOf (applied b disk))
 unfolding Begins TestHolds NoneBeyond

@@ -12,7 +12,7 @@ use lib.ListN.{length, getD, take, drop, set, replicate, length-append, length-s
 use lib.Seq.{sets, sets-eq, drop-append-add, getD-append-add, getD-at, getD-set-same, getD-set-other, map-set-same}
 use Rattle.relation.specs.Lists.{tabulate}
 use Rattle.relation.proofs.ListLaws.{tabulate-ext}
-use Rattle.model.specs.Limits.{mostHeld}
+use Rattle.model.specs.Limits.{mostRules, mostHeld}
 use Rattle.model.specs.declared.Write.{Write}
 use Rattle.model.specs.declared.Rule.{Rule}
 use Rattle.model.specs.Cyclic.{noRule}
@@ -95,13 +95,13 @@ unfolding entriesBytes writeBytes
 length-entries [] = refl
 length-entries (e ∷ b) = let h = length-entries b in omega arith
 
-length-front : (rules : List Rule) (n c : ℕ) → length rules ≤ 32 → length (front rules n c) ≡ 100
+length-front : (rules : List Rule) (n c : ℕ) → length rules ≤ mostRules → length (front rules n c) ≡ 100
 unfolding front
 length-front rules n c h =
     let e : length (rulesBytes rules ++ zeros (96 - 3 * length rules)) ≡ 96 = length-append (rulesBytes rules) (zeros (96 - 3 * length rules)) ∙ rw (length-rules rules, length-zeros (96 - 3 * length rules)) (omega arith) in
     omega arith
 
-pub length-state : (rules : List Rule) (b : Book) → length rules ≤ 32 → length b ≤ mostHeld → length (stateOf rules b) ≡ 1024
+pub length-state : (rules : List Rule) (b : Book) → length rules ≤ mostRules → length b ≤ mostHeld → length (stateOf rules b) ≡ 1024
 unfolding stateOf back
 length-state rules b h l =
     length-append (front rules (length b) (flagCount b)) (entriesBytes b ++ zeros (924 - 12 * length b))
@@ -143,7 +143,7 @@ zero-there (e ∷ b) rest (suc i) h =
     rw z (zero-there b rest i (omega arith))
 
 -- what is read back behind the first 100 bytes
-module _ (rules : List Rule) (b : Book) (hr : length rules ≤ 32) where
+module _ (rules : List Rule) (b : Book) (hr : length rules ≤ mostRules) where
   behind : (k : ℕ) → drop (100 + k) (stateOf rules b) ≡ drop k (back b)
   unfolding stateOf
   behind k =
@@ -240,7 +240,7 @@ module _ (rules : List Rule) (b : Book) (hr : length rules ≤ 32) where
 
 -- ---- opening, hand-in and step on these bytes
 
-pub opened-state : (rules : List Rule) → length rules ≤ 32 → opened rules ≡ stateOf rules []
+pub opened-state : (rules : List Rule) → length rules ≤ mostRules → opened rules ≡ stateOf rules []
 unfolding opened stateOf front back entriesBytes flagCount countBelow
 opened-state rules h =
     sets-zeros 1024 (length rules ∷ 0 ∷ 0 ∷ 0 ∷ rulesBytes rules) size ∙ rest
@@ -299,7 +299,7 @@ back-appended b w hb =
     ∙ ap (λ (l : List ℕ). l ++ zeros (924 - 12 * suc (length b))) grown
     ∙ append-assoc (entriesBytes b) bytes (zeros (924 - 12 * suc (length b))))
 
-entry-there : (rules : List Rule) (b : Book) (w : Write) → length rules ≤ 32 → length b < mostHeld
+entry-there : (rules : List Rule) (b : Book) (w : Write) → length rules ≤ mostRules → length b < mostHeld
     → sets (stateOf rules b) (100 + 12 * length b) (entryBytes w) ≡ front rules (length b) (flagCount b) ++ back (appended b w)
 unfolding stateOf
 entry-there rules b w hr hb =
@@ -314,7 +314,7 @@ header-appended : (rules : List Rule) (b : Book) (w : Write)
 unfolding stateOf front
 header-appended rules b w = rw (length-appended b w, count-appended b w, add-one (length b))
 
-pub handed-state : (rules : List Rule) (b : Book) (w : Write) → length rules ≤ 32 → length b < mostHeld → handed (stateOf rules b) w ≡ stateOf rules (appended b w)
+pub handed-state : (rules : List Rule) (b : Book) (w : Write) → length rules ≤ mostRules → length b < mostHeld → handed (stateOf rules b) w ≡ stateOf rules (appended b w)
 unfolding handed
 handed-state rules b w hr hb = rw (state-accepted rules b hr, entry-there rules b w hr hb) (header-appended rules b w)
 
@@ -352,7 +352,7 @@ count-flagging : (b : Book) (i : ℕ) → i < length b → flagAt b i ≡ false 
 unfolding flagCount
 count-flagging b i h e = rw (length-flagging b (suc i)) (count-one-more (flagAt b) (flagAt (flagging (suc i) b)) i (length b) h e (flag-here b i h) (flag-else b i))
 
-flag-set : (rules : List Rule) (b : Book) (i : ℕ) → length rules ≤ 32 → i < length b
+flag-set : (rules : List Rule) (b : Book) (i : ℕ) → length rules ≤ mostRules → i < length b
     → set (stateOf rules b) (100 + 12 * i + 10) 1 ≡ front rules (length b) (flagCount b) ++ back (flagging (suc i) b)
 unfolding stateOf back
 flag-set rules b i hr h =
@@ -368,6 +368,6 @@ header-flagging : (rules : List Rule) (b : Book) (i : ℕ) → i < length b → 
 unfolding stateOf front
 header-flagging rules b i h e = rw (length-flagging b (suc i), count-flagging b i h e)
 
-pub marked-state : (rules : List Rule) (b : Book) (i : ℕ) → length rules ≤ 32 → i < length b → flagAt b i ≡ false → marked (stateOf rules b) i ≡ stateOf rules (flagging (suc i) b)
+pub marked-state : (rules : List Rule) (b : Book) (i : ℕ) → length rules ≤ mostRules → i < length b → flagAt b i ≡ false → marked (stateOf rules b) i ≡ stateOf rules (flagging (suc i) b)
 unfolding marked
 marked-state rules b i hr h e = rw (state-stored rules b hr, flag-set rules b i hr h) (header-flagging rules b i h e)

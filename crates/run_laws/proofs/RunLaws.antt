@@ -21,6 +21,7 @@ use Rattle.model.specs.Answer.{Outcome, answer, refused}
 use Rattle.model.specs.Cyclic.{cyclic}
 use Rattle.model.specs.Test.{File}
 use Rattle.model.proofs.TestLaws.{count-none, none-count}
+use Rattle.file_format.specs.Bytes.{diskLength}
 use Rattle.file_format.specs.File.{readOf}
 use Rattle.file_format.specs.Encode.{WriteFits}
 use Rattle.file_reader.proofs.CallerLaws.{holding-limits}
@@ -60,7 +61,7 @@ record Mirrors (rules : List Rule) (disk : List ℕ) (m : Moment) : Type 0 where
 abbrev Goes : List Rule → List ℕ → Call → Moment → Type 0
 Goes rules disk c m = Answers rules disk c m × Mirrors rules disk (next rules c m)
 
-module _ (rules : List Rule) (disk : List ℕ) (size : length disk ≡ 1024) where
+module _ (rules : List Rule) (disk : List ℕ) (size : length disk ≡ diskLength) where
   mirrored : (b : Book) → Fine rules b → Mirrors rules disk (at rules disk b)
   mirrored b f = record { fine = f; same = refl }
 
@@ -73,7 +74,7 @@ module _ (rules : List Rule) (disk : List ℕ) (size : length disk ≡ 1024) whe
   own-state : (b : Book) → Fine rules b → length (stateOf rules b) ≡ stateSize
   own-state b f = length-state rules b (f .rules-most) (f .most)
 
-  own-disk : (b : Book) → length (applied b disk) ≡ 1024
+  own-disk : (b : Book) → length (applied b disk) ≡ diskLength
   own-disk b = length-applied b disk ∙ size
 
   -- what hand-in gives, by the book
@@ -125,16 +126,16 @@ module _ (rules : List Rule) (disk : List ℕ) (size : length disk ≡ 1024) whe
   unfolding called stepOf drainOf valued
   by-length b (opening file s) w = ⊎-elim (λ v. outcome-of (open-length file _ _ (wrong-lent stateSize s (stateOf rules b) v))) (λ v. absurd v) w
   by-length b (handIn v s) w = ⊎-elim (λ x. outcome-of (hand-length v _ _ (wrong-lent stateSize s (stateOf rules b) x))) (λ x. absurd x) w
-  by-length b (step s d) w = outcome-of (checked-length stepOn _ _ (⊎-map (wrong-lent stateSize s (stateOf rules b)) (wrong-lent 1024 d (applied b disk)) w))
-  by-length b (drain s d) w = outcome-of (checked-length drainOn _ _ (⊎-map (wrong-lent stateSize s (stateOf rules b)) (wrong-lent 1024 d (applied b disk)) w))
-  by-length b (get key d) w = ⊎-elim (λ v. absurd v) (λ v. ap valued (get-length (lentTo d (applied b disk)) key (wrong-lent 1024 d (applied b disk) v))) w
+  by-length b (step s d) w = outcome-of (checked-length stepOn _ _ (⊎-map (wrong-lent stateSize s (stateOf rules b)) (wrong-lent diskLength d (applied b disk)) w))
+  by-length b (drain s d) w = outcome-of (checked-length drainOn _ _ (⊎-map (wrong-lent stateSize s (stateOf rules b)) (wrong-lent diskLength d (applied b disk)) w))
+  by-length b (get key d) w = ⊎-elim (λ v. absurd v) (λ v. ap valued (get-length (lentTo d (applied b disk)) key (wrong-lent diskLength d (applied b disk) v))) w
 
   -- what is lent otherwise has the right lengths
   right-state : (b : Book) → Fine rules b → (c : Call) → (WrongLength c → ⊥) → length (lentTo (stateLent c) (stateOf rules b)) ≡ stateSize
   right-state b f c n = right-length stateSize (stateLent c) (stateOf rules b) (own-state b f) (λ w. n (inl w))
 
-  right-disk : (b : Book) (c : Call) → (WrongLength c → ⊥) → length (lentTo (diskLent c) (applied b disk)) ≡ 1024
-  right-disk b c n = right-length 1024 (diskLent c) (applied b disk) (own-disk b) (λ w. n (inr w))
+  right-disk : (b : Book) (c : Call) → (WrongLength c → ⊥) → length (lentTo (diskLent c) (applied b disk)) ≡ diskLength
+  right-disk b c n = right-length diskLength (diskLent c) (applied b disk) (own-disk b) (λ w. n (inr w))
 
   by-soundness : (b : Book) → Fine rules b → (c : Call) → (WrongLength c → ⊥) → UnsoundLent c → called c (at rules disk b .held) .outcome ≡ refused 15 0
   unfolding called stepOf drainOf
@@ -530,7 +531,7 @@ demand3 file state disk g calls e o size listed =
     )
 
 -- after the calls of a list, n calls of step are n steps of the book. (For examples: the book is quick to compute)
-pub steps-after : (file state disk : List ℕ) (g : File) (calls : List Call) → readOf file ≡ answer g → openOf file state disk .outcome ≡ answer 0 → length disk ≡ 1024
+pub steps-after : (file state disk : List ℕ) (g : File) (calls : List Call) → readOf file ≡ answer g → openOf file state disk .outcome ≡ answer 0 → length disk ≡ diskLength
     → ((c : Call) → List·Memᴰ c calls → Listed c) → (n : ℕ)
     → steps (g .rules) n (after (g .rules) calls (begun (openOf file state disk .state) disk)) .book
     ≡ stepsEntered (g .rules) n (after (g .rules) calls (begun (openOf file state disk .state) disk) .book)

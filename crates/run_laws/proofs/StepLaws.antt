@@ -12,6 +12,7 @@ use Rattle.model.specs.declared.Rule.{Rule}
 use Rattle.model.specs.Answer.{answer}
 use Rattle.model.specs.Rules.{labelOf, dependsOn}
 use Rattle.model.specs.Schedule.{labelAt}
+use Rattle.file_format.specs.Bytes.{diskLength}
 use Rattle.cache_model.specs.Needs.{needs, met, readyFrom, ready}
 use Rattle.cache_model.specs.State.{stateSize, rulesIn, writesIn, storedIn}
 use Rattle.cache_model.specs.Calls.{Held, Left, left, late, storing, checked, stepped as stepOn, stepOf, waiting, stepsOf, drained as drainOn, drainOf}
@@ -45,12 +46,12 @@ module _ (rules : List Rule) (ws : List Write) (p q : ℕ → Bool) (same : (i :
 
 -- ---- a step
 
-module _ (rules : List Rule) (disk : List ℕ) (size : length disk ≡ 1024) where
+module _ (rules : List Rule) (disk : List ℕ) (size : length disk ≡ diskLength) where
   -- a call that is lent a book's own bytes and a disk of 1,024 is carried out
   pub carried : (f : List ℕ → List ℕ → Left) (b : Book) → Fine rules b → checked f (stateOf rules b) (applied b disk) ≡ f (stateOf rules b) (applied b disk)
   unfolding checked
   carried f b fine =
-      rw (eq-eqb (length (stateOf rules b)) stateSize (length-state rules b (fine .rules-most) (fine .most)), eq-eqb (length (applied b disk)) 1024 (length-applied b disk ∙ size), true-sound (stateOf rules b) (fine-sound rules b fine))
+      rw (eq-eqb (length (stateOf rules b)) stateSize (length-state rules b (fine .rules-most) (fine .most)), eq-eqb (length (applied b disk)) diskLength (length-applied b disk ∙ size), true-sound (stateOf rules b) (fine-sound rules b fine))
 
   ready-state : (b : Book) → Fine rules b
       → ready (rulesIn (stateOf rules b)) (writesIn (stateOf rules b)) (storedIn (stateOf rules b)) ≡ ready rules (accepted b) (flagAt b)
@@ -95,7 +96,7 @@ waiting-book rules b fine =
     let e = count-split (flagAt b) (length b) in
     rw (state-accepted rules b (fine .rules-most), state-stored rules b (fine .rules-most)) (omega arith)
 
-pub drain-book : (rules : List Rule) (disk : List ℕ) → length disk ≡ 1024 → (b : Book) → Fine rules b
+pub drain-book : (rules : List Rule) (disk : List ℕ) → length disk ≡ diskLength → (b : Book) → Fine rules b
     → drainOf (stateOf rules b) (applied b disk)
     ≡ left (answer (waitingIn b)) (stateOf rules (stepsEntered rules (waitingIn b) b)) (applied (stepsEntered rules (waitingIn b) b) disk)
 unfolding drainOf drainOn

@@ -12,6 +12,7 @@ use Rattle.model.specs.declared.Rule.{Rule}
 use Rattle.model.specs.Answer.{Outcome, answer, refused}
 use Rattle.model.specs.Cyclic.{Cyclic}
 use Rattle.model.specs.Test.{File}
+use Rattle.file_format.specs.Bytes.{diskLength}
 use Rattle.file_format.specs.File.{readOf}
 use Rattle.file_format.specs.Encode.{WriteFits}
 use Rattle.log_get.specs.Get.{getOf, valueCode}
@@ -115,7 +116,7 @@ OwnLent c = Own (stateLent c) × Own (diskLent c)
 
 -- a buffer of another length is lent
 abbrev pub WrongLength : Call → Type 0
-WrongLength c = Wrong stateSize (stateLent c) ⊎ Wrong 1024 (diskLent c)
+WrongLength c = Wrong stateSize (stateLent c) ⊎ Wrong diskLength (diskLent c)
 
 -- an unsound state is lent, to a call that asks for a sound one: an opening does not
 abbrev pub UnsoundLent : Call → Type 0

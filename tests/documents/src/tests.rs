@@ -494,15 +494,14 @@ const ASKED: [(&str, &str, &str, &str); 5] = [
         "judge_counting",
         "search_by",
         "may_begin",
-        "if !judge_schedules::may_begin(low, near, x) { x += 1; continue 'beginnings; }",
+        "if !judge_schedules::may_begin(low, near, x) { x += 1; continue 'search; }",
     ),
     (
         "judge_counting",
-        "bad_end",
+        "search_by",
         "is_valid",
-        "let y = ends[k]; \
-         if !judge_schedules::is_valid(low, high, near, joined(x, near, y)) \
-         { k += 1; continue 'search; }",
+        "let y = ends[k]; let s = joined(x, near, y); \
+         if !judge_schedules::is_valid(low, high, near, s) { k += 1; continue 'ends; }",
     ),
 ];
 
@@ -592,6 +591,147 @@ fn other_turns_are_noticed() {
     ] {
         let changed = edited(&sources, &format!("{}/src/lib.rt", name), old, new);
         assert_ne!(turns_elsewhere(&changed), [""; 0], "{} for {}", new, old);
+    }
+}
+
+/// What is done once for a file, or once for a test of it, and who does it.
+const DONE_ONCE: [(&str, &[(&str, &str)]); 8] = [
+    (
+        "read",
+        &[
+            ("file_calls", "read_counts"),
+            ("file_calls", "locate_test"),
+            ("file_calls", "cyclic_rules"),
+            ("find_call", "find"),
+            ("judge_cases", "open_file"),
+            ("receiver", "pelzhondy_open"),
+        ],
+    ),
+    (
+        "file_rules",
+        &[
+            ("file_calls", "cyclic_rules"),
+            ("judge_cases", "with_rules"),
+            ("receiver", "pelzhondy_open"),
+        ],
+    ),
+    (
+        "is_cyclic",
+        &[
+            ("cache_opening", "open_with"),
+            ("cache_soundness", "is_sound"),
+            ("file_calls", "cyclic_rules"),
+            // Of a set of candidates, not of a file's rules.
+            ("find_choice", "better_of"),
+            ("judge_cases", "with_rules"),
+        ],
+    ),
+    ("with_rules", &[("judge_cases", "open_file")]),
+    (
+        "open_file",
+        &[("judge_cases", "select"), ("judge_text", "judge_lines")],
+    ),
+    (
+        "select",
+        &[("judge_cases", "judge"), ("judge_cases", "decide")],
+    ),
+    (
+        "load_test",
+        &[
+            // The finder loads each test twice: here for its labels.
+            ("find_candidates", "collect"),
+            ("find_table", "mark_test"),
+            ("judge_cases", "judge_test"),
+            ("judge_cases", "decide_test"),
+        ],
+    ),
+    (
+        "load_checks",
+        &[
+            ("find_table", "mark_test"),
+            ("judge_cases", "judge_test"),
+            ("judge_cases", "decide_test"),
+        ],
+    ),
+];
+
+/// The one that goes from test to test itself; the others have no loop before the call.
+const FROM_TEST_TO_TEST: (&str, &str) = ("find_candidates", "collect");
+
+/// What is against it that a file is scanned, its rules loaded and asked for rings, a test loaded once:
+/// a caller that is not known to, one that does it twice, or in a loop.
+fn done_again(sources: &Sources) -> Vec<String> {
+    let mut faults = Vec::new();
+    let mut found = BTreeSet::new();
+    for path in sources.code() {
+        let name = path.split('/').next().unwrap_or("");
+        for function in functions(sources.get(path)) {
+            let of = format!("{}::{}", name, function.name);
+            let body = function.body.replace("libc::read(", "");
+            for (what, _) in DONE_ONCE {
+                let made = calls(&body);
+                let count = made.iter().filter(|(called, _)| called == what).count();
+                found.extend((0..count).map(|i| format!("{} calls {} ({})", of, what, i + 1)));
+                let before = body.split(&format!("{}(", what)).next().unwrap_or("");
+                let loops = ["while", "loop", "for"].iter();
+                let looped = loops.map(|word| uses(before, word)).sum::<usize>() > 0;
+                if count > 0 && looped && (name, function.name.as_str()) != FROM_TEST_TO_TEST {
+                    faults.push(format!("{} calls {} in a loop, or behind one", of, what));
+                }
+            }
+        }
+    }
+    let known = DONE_ONCE.iter().flat_map(|(what, by)| {
+        by.iter()
+            .map(move |(name, function)| format!("{}::{} calls {} (1)", name, function, what))
+    });
+    faults.extend(found.symmetric_difference(&known.collect()).cloned());
+    faults
+}
+
+#[test]
+fn a_file_is_decoded_once() {
+    none(done_again(&Sources::load()));
+}
+
+/// Each of these would scan, load or ask once more.
+#[test]
+fn decoding_again_is_noticed() {
+    let sources = Sources::load();
+    for (path, old, new) in [
+        (
+            "judge_text/src/lib.rt",
+            "let j = judge_cases::judge_test(",
+            "let opened = judge_cases::open_file(file);\n    let j = judge_cases::judge_test(",
+        ),
+        (
+            "judge_text/src/lib.rt",
+            "let opened = judge_cases::open_file(file);",
+            "while false {}\n    let opened = judge_cases::open_file(file);",
+        ),
+        (
+            "judge_cases/src/lib.rt",
+            "if rule_cycles::is_cyclic(rules) {",
+            "if rule_cycles::is_cyclic(rules) && rule_cycles::is_cyclic(rules) {",
+        ),
+        (
+            "judge_cases/src/lib.rt",
+            "let opened = open_file(file);",
+            "let read = file_reader::read(file);\n    let opened = open_file(file);",
+        ),
+        (
+            "find_table/src/lib.rt",
+            "        mark_test(",
+            "        judge_loading::load_test(file, tests[t]);\n        mark_test(",
+        ),
+        (
+            "find_call/src/lib.rt",
+            "let best = choice(",
+            "let rules = file_loading::file_rules(file, 0);\n    let best = choice(",
+        ),
+    ] {
+        let changed = edited(&sources, path, old, new);
+        assert_ne!(done_again(&changed), [""; 0], "{} for {}", new, old);
     }
 }
 

@@ -3,6 +3,7 @@ use mathlib.Core.Path.{_≡_}
 use Prim.Native.Nat.{_≤_, _-_}
 use lib.ListN.{length, take}
 use Rattle.relation.specs.Lists.{tabulate}
+use Rattle.model.specs.Limits.{mostRules}
 use Rattle.rule_match.specs.Held.{rulesOf}
 use Rattle.cache_masks.specs.Masks.{secondMask}
 use Rattle.cache_needs.proofs.NeedSteps.{steps}
@@ -10,7 +11,7 @@ use Rattle.cache_needs.proofs.fill_seconds.Statement.{statement}
 use Rattle.cache_needs.proofs.fill_seconds.Tie as tie
 
 abbrev Inv-loop : tie.InvT-loop
-Inv-loop seconds₀ state rules k₀ seconds k = (k ≤ rules .count) × (length seconds ≡ 32) × (take k seconds ≡ tabulate (secondMask (rulesOf rules) state) k)
+Inv-loop seconds₀ state rules k₀ seconds k = (k ≤ rules .count) × (length seconds ≡ mostRules) × (take k seconds ≡ tabulate (secondMask (rulesOf rules) state) k)
 
 abbrev μ-loop : tie.MeasureT-loop
 μ-loop seconds₀ state rules k₀ seconds k = rules .count - k

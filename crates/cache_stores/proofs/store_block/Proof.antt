@@ -6,8 +6,8 @@ use Rattle.cache_stores.proofs.store_block.Tie as tie
 wide-requires : tie.Need-wide-requires
 wide-requires c κs = search storing-steps
 
-mul-put-word : tie.Need-mul-put-word
-mul-put-word c = search storing-steps
+mul-at : tie.Need-mul-at
+mul-at c = search storing-steps
 
 put-word-requires : tie.Need-put-word-requires
 put-word-requires c κs = search storing-steps
@@ -20,4 +20,4 @@ returns c = search storing-steps
 
 pub store-block-spec : {M : Type 1} → statement M
 store-block-spec =
-    tie.close (tie.spec wide-requires mul-put-word put-word-requires same-length returns)
+    tie.close (tie.spec wide-requires mul-at put-word-requires same-length returns)

@@ -1,61 +1,51 @@
--- `find_call::put_rule` meets its contract. Six stores one behind the other are one block.
-use Rattle.find_call.proofs.FindSteps.{putting}
+-- `find_call::put_rule` meets its contract: its bytes, written one behind the other, are the field.
+use borrow.Author.Needs.{needs}
+use Rattle.find_call.proofs.FoundLaws.{rule-wrote, rule-most}
 use Rattle.find_call.proofs.put_rule.Statement.{statement}
 use Rattle.find_call.proofs.put_rule.Tie as tie
 
-slice-write-buffer : tie.Need-slice-write-buffer
-slice-write-buffer c = search putting
+put-requires : tie.Need-put-requires
+put-requires c κs = search needs
 
-add-buffer : tie.Need-add-buffer
-add-buffer c = search putting
+put-requires-2 : tie.Need-put-requires-2
+put-requires-2 c κs = search needs
 
-slice-write-buffer-2 : tie.Need-slice-write-buffer-2
-slice-write-buffer-2 c = search putting
+put-requires-3 : tie.Need-put-requires-3
+put-requires-3 c κs = search needs
 
-add-buffer-2 : tie.Need-add-buffer-2
-add-buffer-2 c = search putting
+put-requires-4 : tie.Need-put-requires-4
+put-requires-4 c κs = search needs
 
-slice-write-buffer-3 : tie.Need-slice-write-buffer-3
-slice-write-buffer-3 c = search putting
+put-requires-5 : tie.Need-put-requires-5
+put-requires-5 c κs = search needs
 
-add-buffer-3 : tie.Need-add-buffer-3
-add-buffer-3 c = search putting
-
-slice-write-buffer-4 : tie.Need-slice-write-buffer-4
-slice-write-buffer-4 c = search putting
-
-add-buffer-4 : tie.Need-add-buffer-4
-add-buffer-4 c = search putting
-
-slice-write-buffer-5 : tie.Need-slice-write-buffer-5
-slice-write-buffer-5 c = search putting
-
-add-buffer-5 : tie.Need-add-buffer-5
-add-buffer-5 c = search putting
-
-slice-write-buffer-6 : tie.Need-slice-write-buffer-6
-slice-write-buffer-6 c = search putting depth 8
+put-requires-6 : tie.Need-put-requires-6
+put-requires-6 c κs = search needs
 
 same-length : tie.Need-same-length
-same-length c = search putting
+same-length c = search needs
 
 returns : tie.Need-returns
-returns c = search putting
+returns c =
+    let w =
+    rule-wrote _ _ _ _ _ _ _ _ _ _ _ _ _ _ _
+    (c .before .before .before .before .before .before .before .before .before .before .before .before .before .before .before .before .before .before .before .before .before .before .put .ensures)
+    (c .before .before .before .before .before .before .before .before .before .before .before .before .before .before .before .before .before .before .put2 .ensures)
+    (c .before .before .before .before .before .before .before .before .before .before .before .before .before .before .put3 .ensures)
+    (c .before .before .before .before .before .before .before .before .before .before .put4 .ensures)
+    (c .before .before .before .before .before .before .put5 .ensures)
+    (c .before .before .put6 .ensures) in
+    (w, rule-most _ _ _ _ _ w)
 
 pub put-rule-spec : {M : Type 1} → statement M
 put-rule-spec =
     tie.close
     (tie.spec
-    slice-write-buffer
-    add-buffer
-    slice-write-buffer-2
-    add-buffer-2
-    slice-write-buffer-3
-    add-buffer-3
-    slice-write-buffer-4
-    add-buffer-4
-    slice-write-buffer-5
-    add-buffer-5
-    slice-write-buffer-6
+    put-requires
+    put-requires-2
+    put-requires-3
+    put-requires-4
+    put-requires-5
+    put-requires-6
     same-length
     returns)

@@ -1,27 +1,25 @@
--- `find_call::put_rules` meets its contract. The invariant: the fields of the first i rules stand at the front, the rest of the buffer is as it was.
+-- `find_call::put_rules` meets its contract. The invariant: the fields of the first i rules stand at the front, one behind the other, the rest of the buffer is as it was.
 use mathlib.Core.Path.{_≡_}
-use Prim.Native.Nat.{_-_, _≤_}
+use Prim.Native.Nat.{_-_, _*_, _≤_}
 use lib.ListN.{length, take}
 use Rattle.file_format.specs.Encode.{ruleFields}
-use Rattle.find_call.specs.Finder.{over}
+use Rattle.file_writing.specs.Writing.{Wrote}
+use Rattle.find_call.specs.Finder.{fieldLength}
 use Rattle.find_call.proofs.FindSteps.{putting}
 use Rattle.find_call.proofs.put_rules.Statement.{statement}
 use Rattle.find_call.proofs.put_rules.Tie as tie
 
 abbrev Inv-loop : tie.InvT-loop
-Inv-loop buffer₀ set i₀ buffer i = (i ≤ set .count) × (length buffer ≡ length buffer₀) × (buffer ≡ over (ruleFields (take i (set .items))) buffer₀)
+Inv-loop buffer₀ set at₀ i₀ buffer at i = (i ≤ set .count) × (length buffer ≡ length buffer₀) × (at ≤ fieldLength * i) × Wrote buffer₀ 0 (ruleFields (take i (set .items))) buffer at
 
 abbrev μ-loop : tie.MeasureT-loop
-μ-loop buffer₀ set i₀ buffer i = set .count - i
+μ-loop buffer₀ set at₀ i₀ buffer at i = set .count - i
 
 loop-holds : tie.Need-loop-holds Inv-loop μ-loop
 loop-holds c = search putting
 
 mul-put-rule : tie.Need-mul-put-rule Inv-loop μ-loop
 mul-put-rule c = search putting
-
-mul-put-rule-2 : tie.Need-mul-put-rule-2 Inv-loop μ-loop
-mul-put-rule-2 c = search putting
 
 element-copy-out-put-rule : tie.Need-element-copy-out-put-rule Inv-loop μ-loop
 element-copy-out-put-rule c = search putting
@@ -52,7 +50,6 @@ put-rules-spec =
     μ-loop
     loop-holds
     mul-put-rule
-    mul-put-rule-2
     element-copy-out-put-rule
     put-rule-requires
     add-i

@@ -6,8 +6,8 @@ use Rattle.judge_cases.proofs.select.Tie as tie
 open-file-requires : tie.Need-open-file-requires
 open-file-requires c κs = search selects
 
-enum-known-found : tie.Need-enum-known-found
-enum-known-found c = search selects
+enum-known-cases : tie.Need-enum-known-cases
+enum-known-cases c = search selects
 
 has-test-requires : tie.Need-has-test-requires
 has-test-requires c κs = search selects
@@ -24,8 +24,8 @@ mul-t17 c = search selects
 array-copy-out-t20 : tie.Need-array-copy-out-t20
 array-copy-out-t20 c = search selects
 
-enum-known-found-2 : tie.Need-enum-known-found-2
-enum-known-found-2 c = search selects
+enum-known-cases-2 : tie.Need-enum-known-cases-2
+enum-known-cases-2 c = search selects
 
 returns-2 : tie.Need-returns-2
 returns-2 c = search selects
@@ -38,12 +38,12 @@ select-spec =
     tie.close
     (tie.spec
     open-file-requires
-    enum-known-found
+    enum-known-cases
     has-test-requires
     returns
     from-zero-requires
     mul-t17
     array-copy-out-t20
-    enum-known-found-2
+    enum-known-cases-2
     returns-2
     returns-3)

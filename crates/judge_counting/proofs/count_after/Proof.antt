@@ -12,7 +12,7 @@ use Rattle.model.specs.Check.{consistent}
 use Rattle.judge_disks.specs.Packed.{heldFrom}
 use Rattle.judge_checks.proofs.CheckSteps.{checks-start, checks-more, passed-all, passed-some}
 use Rattle.judge_disks.proofs.RestoreLaws.{restored-run, ran}
-use Rattle.judge_schedules.specs.Rows.{halfSets}
+use Rattle.judge_schedules.specs.Halves.{halfSets}
 use Rattle.judge_counting.specs.Tally.{validEnd, badEnd, Gains}
 use Rattle.judge_counting.proofs.CountLaws.{counts, either, gains-skip, gains-more}
 use Rattle.judge_counting.proofs.count_after.Statement.{statement}

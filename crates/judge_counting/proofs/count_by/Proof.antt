@@ -4,7 +4,7 @@ use mathlib.Core.Path.{_≡_, _∙_}
 use native.Mathlib.Omega.{arith}
 use lib.ListN.{take}
 use Rattle.judge_disks.proofs.RestoreLaws.{restored-run, ran, mid-length}
-use Rattle.judge_schedules.specs.Rows.{halfSets}
+use Rattle.judge_schedules.specs.Halves.{halfSets}
 use Rattle.judge_counting.proofs.GridLaws.{grids, Grid, grid-skip, grid-more, grid-valid, grid-bad}
 use Rattle.judge_counting.proofs.count_by.Statement.{statement}
 use Rattle.judge_counting.proofs.count_by.Tie as tie

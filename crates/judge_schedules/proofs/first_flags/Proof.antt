@@ -1,5 +1,5 @@
 -- `judge_schedules::first_flags` meets its contract: a mask of the first k bits is a remainder.
-use Rattle.judge_schedules.proofs.RowLaws.{halves}
+use Rattle.judge_schedules.proofs.HalfLaws.{halves}
 use Rattle.judge_schedules.proofs.first_flags.Statement.{statement}
 use Rattle.judge_schedules.proofs.first_flags.Tie as tie
 

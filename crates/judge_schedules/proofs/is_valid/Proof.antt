@@ -1,5 +1,5 @@
 -- `judge_schedules::is_valid` meets its contract: a union is part of a set exactly if both its parts are.
-use Rattle.judge_schedules.proofs.RowLaws.{halves}
+use Rattle.judge_schedules.proofs.HalfLaws.{halves}
 use Rattle.judge_schedules.proofs.is_valid.Statement.{statement}
 use Rattle.judge_schedules.proofs.is_valid.Tie as tie
 

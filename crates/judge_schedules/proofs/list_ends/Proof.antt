@@ -2,7 +2,7 @@
 use Prim.Native.Nat.{_-_, _^_, _≤_}
 use mathlib.Core.Path.{_≡_}
 use lib.ListN.{length}
-use Rattle.judge_schedules.specs.Rows.{halfSets, mayEnd, Lists}
+use Rattle.judge_schedules.specs.Halves.{halfSets, mayEnd, Lists}
 use Rattle.judge_schedules.proofs.EndLaws.{listing}
 use Rattle.judge_schedules.proofs.list_ends.Statement.{statement}
 use Rattle.judge_schedules.proofs.list_ends.Tie as tie

@@ -6,14 +6,14 @@ use Rattle.judge_text.proofs.judge_lines.Tie as tie
 open-file-requires : tie.Need-open-file-requires
 open-file-requires c κs = search texts
 
-enum-known-found : tie.Need-enum-known-found
-enum-known-found c = search texts
+enum-known-cases : tie.Need-enum-known-cases
+enum-known-cases c = search texts
 
 put-cases-requires : tie.Need-put-cases-requires
 put-cases-requires c κs = search texts
 
-enum-known-found-2 : tie.Need-enum-known-found-2
-enum-known-found-2 c = search texts
+enum-known-cases-2 : tie.Need-enum-known-cases-2
+enum-known-cases-2 c = search texts
 
 cast-put-refused : tie.Need-cast-put-refused
 cast-put-refused c = search texts
@@ -38,9 +38,9 @@ judge-lines-spec =
     tie.close
     (tie.spec
     open-file-requires
-    enum-known-found
+    enum-known-cases
     put-cases-requires
-    enum-known-found-2
+    enum-known-cases-2
     cast-put-refused
     put-refused-requires
     same-length
