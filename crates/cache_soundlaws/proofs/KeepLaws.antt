@@ -22,7 +22,7 @@ use Rattle.cache_model.specs.Calls.{Left, storing, checked, stepped, stepOf, st
 use Rattle.cache_contents.proofs.ContentSteps.{writes-length}
 use Rattle.cache_soundness.proofs.SoundLaws.{sound-true, true-sound}
 use Rattle.cache_soundlaws.proofs.GeneralLaws.{part-same, count-one-more}
-use Rattle.cache_soundlaws.proofs.ReadyLaws.{met-true, ready-earliest}
+use Rattle.cache_soundlaws.proofs.ReadyLaws.{ready-earliest}
 
 -- ---- states whose bytes agree where their rules and writes stand
 
@@ -146,10 +146,6 @@ mark-keeps s i f a w m =
           ]);
       ringless = λ r. f .ringless (rw (er, ew) at r);
     }
-
-pub sound-marked : (s : List ℕ) (i : ℕ) → sound s ≡ true → i < acceptedCount s → storedIn s i ≡ false
-    → met (rulesIn s) (writesIn s) (storedIn s) i ≡ true → sound (marked s i) ≡ true
-sound-marked s i e a w m = true-sound (marked s i) (mark-keeps s i (sound-true s e) a w (met-true (rulesIn s) (writesIn s) (storedIn s) i m))
 
 -- ---- a step, and several
 

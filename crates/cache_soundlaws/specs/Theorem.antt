@@ -11,6 +11,7 @@ use Rattle.model.specs.declared.Write.{Write}
 use Rattle.model.specs.Answer.{answer, refused}
 use Rattle.model.specs.Cyclic.{Cyclic}
 use Rattle.model.specs.Test.{File, countBelow}
+use Rattle.file_format.specs.Bytes.{diskLength}
 use Rattle.file_format.specs.File.{readOf}
 use Rattle.file_format.specs.Encode.{WriteFits}
 use Rattle.cache_model.specs.Needs.{NeedsRing, Earliest}
@@ -95,7 +96,7 @@ pub record Step (s d : List ℕ) : Type 0 where
   pub none : AllStored s → stepOf s d ≡ left (answer 0) s d
 
 abbrev pub Steps : Type 0
-Steps = (s d : List ℕ) → Sound s → length d ≡ 1024 → Step s d
+Steps = (s d : List ℕ) → Sound s → length d ≡ diskLength → Step s d
 
 -- ---- drain
 
@@ -109,7 +110,7 @@ pub record Drain (s d : List ℕ) : Type 0 where
   pub writes : writesIn (drainOf s d .state) ≡ writesIn s
 
 abbrev pub Drains : Type 0
-Drains = (s d : List ℕ) → Sound s → length d ≡ 1024 → Drain s d
+Drains = (s d : List ℕ) → Sound s → length d ≡ diskLength → Drain s d
 
 -- ---- refusals of what is lent
 
@@ -117,10 +118,10 @@ Drains = (s d : List ℕ) → Sound s → length d ≡ 1024 → Drain s d
 pub record Turned (s d : List ℕ) : Type 0 where
   pub hand-in-length : (w : Write) → length s ≢ stateSize → handInOf w s d ≡ left (refused 14 0) s d
   pub hand-in-unsound : (w : Write) → length s ≡ stateSize → (Sound s → ⊥) → handInOf w s d ≡ left (refused 15 0) s d
-  pub step-length : (length s ≢ stateSize) ⊎ (length d ≢ 1024) → stepOf s d ≡ left (refused 14 0) s d
-  pub step-unsound : length s ≡ stateSize → length d ≡ 1024 → (Sound s → ⊥) → stepOf s d ≡ left (refused 15 0) s d
-  pub drain-length : (length s ≢ stateSize) ⊎ (length d ≢ 1024) → drainOf s d ≡ left (refused 14 0) s d
-  pub drain-unsound : length s ≡ stateSize → length d ≡ 1024 → (Sound s → ⊥) → drainOf s d ≡ left (refused 15 0) s d
+  pub step-length : (length s ≢ stateSize) ⊎ (length d ≢ diskLength) → stepOf s d ≡ left (refused 14 0) s d
+  pub step-unsound : length s ≡ stateSize → length d ≡ diskLength → (Sound s → ⊥) → stepOf s d ≡ left (refused 15 0) s d
+  pub drain-length : (length s ≢ stateSize) ⊎ (length d ≢ diskLength) → drainOf s d ≡ left (refused 14 0) s d
+  pub drain-unsound : length s ≡ stateSize → length d ≡ diskLength → (Sound s → ⊥) → drainOf s d ≡ left (refused 15 0) s d
 
 abbrev pub TurnsDown : Type 0
 TurnsDown = (s d : List ℕ) → Turned s d

@@ -11,7 +11,7 @@ use borrow.Author.Tests.{leb-true, not-false}
 use Rattle.relation.proofs.ListLaws.{and-left, and-right, length-tabulate, getD-other}
 use Rattle.model.specs.declared.Refusal.{Refusal}
 use Rattle.model.specs.Limits.{mostRules, mostTests}
-use Rattle.model.specs.Test.{Test, test, File}
+use Rattle.model.specs.Test.{Test, File}
 use Rattle.file_format.specs.declared.Extent.{Extent}
 use Rattle.file_format.specs.declared.Scan.{Scan}
 use Rattle.file_format.specs.declared.Scan.the-variants.{Accepted, Refused}
@@ -109,9 +109,6 @@ module _ (s : List ℕ) (x : Scan) (ts : List Extent) (g : ScansTo (scanOf s) x 
 
     pub accepted-room : length ts ≡ mostTests
     accepted-room = accepted .3
-
-    pub accepted-long : length s ≤ longest
-    accepted-long = held-most s _ accepted-places .2
 
     pub accepted-fields : Fields isRule s 0 rules
     accepted-fields = held-fields s _ accepted-places

@@ -69,7 +69,7 @@ fn find_among(file: &[u8], tests: [Extent; model::MOST_TESTS], n: usize, buffer:
         return model::refuse(11, 0);
     }
     let best = choice(cands, file, tests, n);
-    if best == 18446744073709551615 {
+    if best == find_choice::NONE {
         return model::refuse(13, 0);
     }
     let set = find_sets::pick(cands, best);

@@ -1,5 +1,5 @@
 -- The code's steps: one law for each return and each turn of a loop, whose premises are what is known at that place.
-use mathlib.Core.Path.{_≡_, refl, sym, ap, subst, _∙_}
+use mathlib.Core.Path.{_≡_, sym, ap, subst, _∙_}
 use mathlib.Core.List.{List, [], _∷_}
 use Prim.Native.Nat.{ℕ, suc, _+_, _≤_, _<_}
 use native.Mathlib.Numerals.{add-one}
@@ -16,6 +16,7 @@ use Rattle.file_format.specs.declared.Extent.{Extent}
 use Rattle.file_format.specs.Scan.{testAt}
 use Rattle.file_format.specs.Held.{noTest, extentOf, Inside, Placed}
 use Rattle.rule_match.specs.declared.Rules.{Rules}
+use Rattle.rule_match.specs.Held.{rulesOf}
 use Rattle.rule_match.proofs.MatchSteps.{length-mapped}
 use Rattle.judge_disks.specs.Packed.{labelled, Labels}
 use Rattle.judge_loading.specs.declared.Loaded.{Loaded}
@@ -89,11 +90,11 @@ pub record Gathered (s : List ℕ) (t : ℕ) (c : Rules) : Type 0 where
   pub keeps : Keeps (candidatesOf (drop t (testsIn s))) c
 
 module _ (s : List ℕ) (extents : List Extent) (many : ℕ) (placed : Placed s (testsIn s) extents many) where
-  pub collect-begun : (items : List Rule) → Gathered s many (record { items = items; count = 0 })
+  pub collect-begun : (c : Rules) → rulesOf c ≡ [] → c .count ≡ 0 → Gathered s many c
   unfolding candidatesOf
-  collect-begun items =
+  collect-begun c e z =
       let h = placed .count in
-      record { keeps = rw (drop-of-length-le (testsIn s) {i = many} (omega arith)) (keeps-all [] (record { items = items; count = 0 }) refl refl (omega arith)) }
+      record { keeps = rw (drop-of-length-le (testsIn s) {i = many} (omega arith)) (keeps-all [] c e z (omega arith)) }
 
   pub test-inside : (t : ℕ) → t < many → Inside s (extentOf extents t)
   test-inside t h = placed .inside t h

@@ -86,12 +86,7 @@ pub fn collect(file: &[u8], tests: [Extent; model::MOST_TESTS], n: usize) -> Rul
     requires { ⌜ Placed (now file) (testsIn (now file)) tests n ⌝ }
     ensures { λ r. ⌜ Keeps (candidatesOf (testsIn (now (file .entry)))) r ⌝ }
 {
-    let items = [Rule {
-        first: 0,
-        predicate: 0,
-        second: 0,
-    }; model::MOST_RULES];
-    let mut out = Rules { items, count: 0 };
+    let mut out = rule_match::none();
     let mut t: usize = n;
     while 0 < t {
         t -= 1;

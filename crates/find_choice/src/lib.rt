@@ -12,8 +12,11 @@ ghost use Rattle.rule_match.specs.Held.{rulesOf};
 ghost use Rattle.find_table.specs.Table.{setWords, markAt};
 ghost use Rattle.find_choice.specs.Choice.{passing, spare, better, choiceCode, Hopeless};
 
-// A word of which every set is marked, and the choice of none.
-const ALL_ONES: u64 = 18446744073709551615;
+// The choice of none: more ones than any set has.
+pub const NONE: u64 = 18446744073709551615;
+
+// A word of which every set is marked.
+const ALL_MARKED: u64 = 18446744073709551615;
 
 // Whether a set is marked.
 fn is_marked(table: &[u64; SET_WORDS], m: u64) -> bool
@@ -49,8 +52,8 @@ fn has_spare(table: &[u64; SET_WORDS], m: u64, n: usize) -> bool
     false
 }
 
-// The set m in place of the best so far, if it is sufficient and has no more rules. A sufficient set
-// with a spare candidate is cyclic or larger than the best so far.
+// The set m in place of the best so far, if it is acyclic and sufficient and has no more rules. A
+// sufficient set with a spare candidate is cyclic or larger than the best so far.
 fn better_of(table: &[u64; SET_WORDS], cands: Rules, m: u64, best: u64) -> u64
     requires { ⌜ (cands .count ≤ mostCandidates) × ((m < candidateSets) × (best ≡ choiceCode (chosenBelow (passing (now table) (rulesOf cands)) m))) ⌝ }
     ensures { λ r. ⌜ r ≡ better (passing (now (table .entry)) (rulesOf cands)) m best ⌝ }
@@ -93,7 +96,7 @@ fn is_hopeless(table: &[u64; SET_WORDS], word: u64, best: u64) -> bool
     if u64::count_ones(best) < u64::count_ones(word) {
         return true;
     }
-    table[word as usize] == ALL_ONES
+    table[word as usize] == ALL_MARKED
 }
 
 // The smaller of two numbers.
@@ -106,14 +109,14 @@ fn least(a: u64, b: u64) -> u64
     b
 }
 
-// The set with the fewest rules, of these the one with the largest number; all bits set if none is
-// sufficient. Word by word, for most words have no set that can be chosen.
+// Of the acyclic and sufficient sets the one with the fewest rules, of these the one with the largest
+// number; NONE if there is none. Word by word, for most words have no set that can be chosen.
 pub fn choose(table: &[u64; SET_WORDS], cands: Rules) -> u64
     requires { ⌜ cands .count ≤ mostCandidates ⌝ }
     ensures { λ r. ⌜ r ≡ choiceCode (chosenBelow (passing (now (table .entry)) (rulesOf cands)) (2 ^ cands .count)) ⌝ }
 {
     let total = 1u64 << cands.count;
-    let mut best = ALL_ONES;
+    let mut best = NONE;
     let mut m: u64 = 0;
     'words: while m < total {
         let word = m / 64;

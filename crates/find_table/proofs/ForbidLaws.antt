@@ -16,10 +16,10 @@ use borrow.Author.Tests.{ltb-true, ltb-false, lt-ltb}
 use Rattle.relation.specs.Bits.{bit, withBit, maskOf}
 use Rattle.relation.specs.Lists.{allBelow, anyBelow, any}
 use Rattle.relation.specs.Union.{union, rowsOn, Unites}
-use Rattle.relation.proofs.BitLaws.{bit-zero, bit-or, bit-mask, mask-below, mask-ext, bits-equal}
+use Rattle.relation.proofs.BitLaws.{power-is, bit-zero, bit-or, bit-mask, mask-below, mask-ext, bits-equal}
 use Rattle.relation.proofs.ListLaws.{untrue, or-none-left, or-none-right, below-suc, anyBelow-true, anyBelow-false, allBelow-true, allBelow-intro}
 use Rattle.relation.proofs.MaskLaws.{implies, implied}
-use Rattle.relation.proofs.UnionLaws.{bit-past, union-ext, size-is, bit-top, bit-under, mask-others, others-bits, union-rows, union-below, bit-union}
+use Rattle.relation.proofs.UnionLaws.{bit-past, union-ext, bit-top, bit-under, mask-others, others-bits, union-rows, union-below, bit-union}
 use Rattle.model.specs.Limits.{mostFound, foundSchedules, mostCandidates, candidateSets}
 use Rattle.model.specs.declared.Rule.{Rule}
 use Rattle.model.specs.declared.Write.{Write}
@@ -35,7 +35,7 @@ use Rattle.find_table.specs.Table.{halfSchedules, matching, pairs, Facin
 -- ---- powers of two in a word
 
 pub power : (n : ℕ) → n ≤ mostCandidates → 1 * 2 ^ n % 18446744073709551616 ≡ 2 ^ n
-power n h = size-is n (omega arith)
+power n h = power-is n (omega arith)
 
 pub power-most : (n : ℕ) → n ≤ mostCandidates → 1 * 2 ^ n % 18446744073709551616 ≤ candidateSets
 power-most n h = rw (power n h) (pow-mono {i = n} {j = mostCandidates} h)

@@ -4,18 +4,18 @@ use mathlib.Core.Logic.{_⊎_, inl, inr, ⊎-elim}
 use mathlib.Core.Bool.{Bool, true, false, cond, not, and-false, and-true, or-false, _&&_, _||_, false≢true}
 use mathlib.Core.List.{List, _∷_}
 use Prim.Native.Nat.{ℕ, zero, suc, _+_, _-_, _*_, _/_, _%_, _^_, _≤_, _<_}
-use native.Mathlib.Nat.{one-mul, mod-lt, mul-zero, add-zero, zero-add, mul-suc, mul-comm, add-comm}
+use native.Mathlib.Nat.{mod-lt, mul-zero, add-zero, zero-add, mul-suc, mul-comm, add-comm}
 use native.Mathlib.Numerals.{add-one}
 use native.Mathlib.Omega.{arith}
 use lib.Bits.{bitAnd, bitOr}
 use lib.Dec.{eqb, lit<}
 use lib.ListN.{length, getD, take, drop, set, length-set, replicate, getD-replicate, drop-of-length-le}
-use lib.Pow.{shl-exact, pow-lt, pow-mono, pow-add, pow-pos, split, shr-lt}
+use lib.Pow.{pow-lt, pow-mono, pow-add, pow-pos, split, shr-lt}
 use lib.Seq.{getD-set-same, getD-set-other, drop-cons, length-take-le}
 use borrow.Author.Tests.{eq-eqb, ne-eqb, eqb-true, eqb-false, lt-ltb}
 use Rattle.relation.specs.Bits.{bit, withBit, maskOf}
 use Rattle.relation.specs.Lists.{any}
-use Rattle.relation.proofs.BitLaws.{bit-zero, bit-or, bit-and, bit-with, bit-mask, bit-mod, bit-shift, with-below, with-most, parts-below}
+use Rattle.relation.proofs.BitLaws.{power-is, bit-zero, bit-or, bit-and, bit-with, bit-mask, bit-mod, bit-shift, with-below, with-most, parts-below}
 use Rattle.relation.proofs.ListLaws.{below-suc, bool-equal, or-cases, or-left, or-right, and-left, and-right, and-intro, anyBelow-true, anyBelow-intro}
 use Rattle.model.specs.Limits.{mostRules, mostTests, mostCandidates, candidateSets, mostFound, foundSchedules}
 use Rattle.model.specs.declared.Rule.{Rule}
@@ -474,7 +474,7 @@ step-most b h = rw (step-is b h) (pow-lt {i = b} {j = 6} h)
 double : (b : ℕ) → b < 6 → 1 * 2 ^ (1 * 2 ^ b % 18446744073709551616) % 18446744073709551616 ≡ 2 ^ 2 ^ b
 double b h =
     let s = step-most b h in
-    shl-exact {a = 1} 1 (1 * 2 ^ b % 18446744073709551616) 64 (lit< tt) (omega arith) ∙ rw (step-is b h) (one-mul (2 ^ 2 ^ b))
+    power-is (1 * 2 ^ b % 18446744073709551616) (omega arith) ∙ ap (λ (n : ℕ). 2 ^ n) (step-is b h)
 
 pub double-fits : (b : ℕ) → b < 6 → 1 * 2 ^ (1 * 2 ^ b % 18446744073709551616) % 18446744073709551616 + 1 < 18446744073709551616
 double-fits b h =

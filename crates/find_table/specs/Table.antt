@@ -62,7 +62,7 @@ pub record Widened (outs backs : List ℕ) (k : ℕ) (old new : List ℕ) (n : �
 pub record Sets (cs : List Rule) (ws : List Write) (n c : ℕ) (l : List ℕ) : Type 0 where
   pub at : (s : ℕ) → s < n → getD l s 0 ≡ maskOf (λ i. not (allows cs ws s i)) c
 
--- these sets, of the schedules below n, are sets of some among all candidates
+-- these sets, of the schedules below n, have numbers up to that of the set of all candidates
 pub record Bounded (l : List ℕ) (all n : ℕ) : Type 0 where
   pub few : all < candidateSets
   pub below : (s : ℕ) → s < n → getD l s 0 ≤ all

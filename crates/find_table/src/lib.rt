@@ -151,7 +151,7 @@ fn mark_after(
             continue 'ends;
         }
         judge_disks::apply(&mut disk, stores, near, far, y);
-        // Not is_consistent, which takes the checks by value: a copy of all of them in every turn.
+        // In a routine of its own this would take the checks by value: a copy of all in every turn.
         let mut i: usize = 0;
         while i < m {
             let c = checks[i];

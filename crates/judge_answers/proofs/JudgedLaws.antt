@@ -18,11 +18,6 @@ use Rattle.judge_cases.specs.declared.Decided.the-variants as Decided
 use Rattle.judge_cases.specs.Judge.{Case, Judging, Deciding, SmallRefusal, FewNumbers, Few, FewDecided}
 use Rattle.judge_answers.specs.Judged.{judgementCode, verdictCode, JudgeAnswer, VerdictAnswer}
 
--- what a `Judged` is; two forms are never equal
-isCounts : Judged → Type 0
-isCounts (Counts j) = Unit {0}
-isCounts (Judged.Refused why) = ⊥
-
 module _ (x : Judged) (few : Few x) where
   pub counts-few : (j : Judgement) → x ≡ Counts j → FewNumbers j
   unfolding Few

@@ -113,9 +113,6 @@ module _ (d : List ℕ) (cs : List Check) where
   unfolding consistent all
   checks-start = refl
 
-  pub checks-end : (n i : ℕ) → i ≤ n → n ≤ i → consistent (take i cs) d ≡ true → true ≡ consistent (take n cs) d
-  checks-end n i h l p = let e : i ≡ n = omega arith in sym (rw e at p)
-
 -- what is known of the form that was matched
 pub same-check : (d : List ℕ) (c c′ : Check) (r : Bool) → c ≡ c′ → r ≡ holds d c′ → r ≡ holds d c
 same-check d c c′ r e q = rw e q
@@ -147,4 +144,4 @@ module _ (d : List ℕ) (cs : List Check) (m i : ℕ) where
   pub passed-some : (z : Check) (b : Bool) → i < m → m ≤ mostChecks → length cs ≡ mostChecks → b ≡ holds d (getD cs i z) → not b ≡ true → eqb i m ≡ consistent (take m cs) d
   passed-some z b h l n e q = ne-eqb i m (λ (y : i ≡ m). absurd (omega arith)) ∙ checks-stop d cs z m i b h l n e q
 
-pub ruleset checking = (needs, damage-beyond, damage-past, range-none, range-past, range-start, range-gap, range-more, range-full, checks-start, checks-stop, checks-more, checks-end, same-check, range-read, pointer-none, pointer-past, pointer-read)
+pub ruleset checking = (needs, damage-beyond, damage-past, range-none, range-past, range-start, range-gap, range-more, range-full, same-check, range-read, pointer-none, pointer-past, pointer-read)

@@ -1,11 +1,9 @@
 // The three checks of a disk.
 use model::Check;
 ghost use mathlib.Core.Path.{_≡_};
-ghost use Prim.Native.Nat.{_<_, _≤_};
-ghost use lib.ListN.{take};
-ghost use Rattle.model.specs.Limits.{mostChecks};
+ghost use Prim.Native.Nat.{_<_};
 ghost use Rattle.model.specs.Disk.{firstOf, secondOf};
-ghost use Rattle.model.specs.Check.{damaged, rangeHolds, holds, consistent};
+ghost use Rattle.model.specs.Check.{damaged, rangeHolds, holds};
 
 // Whether a range with this head and tail fails whatever the disk holds: head exceeds tail, or it has
 // blocks and some are beyond the disk.
@@ -91,24 +89,4 @@ pub fn check_holds(disk: &[u32; model::DISK_BLOCKS], c: Check) -> bool
         Check::Pair { a, v, b, w } => pair_holds(disk, a, v, b, w),
         Check::Pointer(a) => pointer_holds(disk, a),
     }
-}
-
-// Whether the first n checks hold of a disk.
-pub fn is_consistent(
-    disk: &[u32; model::DISK_BLOCKS],
-    checks: [Check; model::MOST_CHECKS],
-    n: usize,
-) -> bool
-    requires { ⌜ n ≤ mostChecks ⌝ }
-    ensures { λ r. ⌜ r ≡ consistent (take n checks) (now (disk .entry)) ⌝ }
-{
-    let mut i: usize = 0;
-    while i < n {
-        let c = checks[i];
-        if !check_holds(disk, c) {
-            return false;
-        }
-        i += 1;
-    }
-    true
 }

@@ -20,7 +20,7 @@ use Rattle.model.specs.Check.{consistent}
 use Rattle.model.specs.Test.{countBelow}
 use Rattle.model.proofs.TestLaws.{count-most}
 use Rattle.judge_schedules.specs.Halves.{mostHalf, halfSets, Lists}
-use Rattle.judge_schedules.proofs.TotalLaws.{sets-fit}
+use Rattle.judge_schedules.proofs.SetLaws.{sets-fit}
 use Rattle.judge_schedules.proofs.EndLaws.{listed-below}
 use Rattle.judge_counting.specs.declared.Judgement.{Judgement}
 use Rattle.judge_counting.specs.Tally.{tallied, badBy, after, listed, Gains}

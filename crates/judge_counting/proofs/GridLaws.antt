@@ -22,7 +22,7 @@ use Rattle.judge_disks.specs.Packed.{heldFrom}
 use Rattle.judge_disks.proofs.DiskSteps.{run-parts}
 use Rattle.judge_disks.proofs.RestoreLaws.{mid-length}
 use Rattle.judge_schedules.specs.Halves.{validRows, badRows, firstHalf, mostHalf, halfSets, validBy, Validates, mayBegin, mayEnd, Lists}
-use Rattle.judge_schedules.proofs.TotalLaws.{sets-are, sets-fit, sets-most}
+use Rattle.judge_schedules.proofs.SetLaws.{sets-are, sets-fit, sets-most}
 use Rattle.judge_schedules.proofs.EndLaws.{unbegun, unended, listed-below, listed-count}
 use Rattle.judge_counting.specs.declared.Judgement.{Judgement}
 use Rattle.judge_counting.specs.Tally.{Tallies, badBy, after, validEnd, badEnd, listed, Gains}

@@ -18,7 +18,7 @@ use Rattle.model.proofs.TestLaws.{count-none, none-count}
 use Rattle.judge_disks.proofs.RestoreLaws.{mid-length}
 use Rattle.judge_disks.specs.Packed.{heldFrom}
 use Rattle.judge_schedules.specs.Halves.{badRows, firstHalf, mostHalf, validBy, Validates, mayBegin, mayEnd, Lists}
-use Rattle.judge_schedules.proofs.TotalLaws.{sets-are, sets-most}
+use Rattle.judge_schedules.proofs.SetLaws.{sets-are, sets-most}
 use Rattle.judge_counting.specs.declared.Verdict.{Verdict}
 use Rattle.judge_counting.specs.declared.Verdict.the-variants.{Holds, Fails}
 use Rattle.judge_counting.specs.Tally.{Finds, badBy, after, listed}

@@ -11,7 +11,7 @@ ghost use lib.ListN.{length, take};
 ghost use Rattle.model.specs.Limits.{diskBlocks, mostMain, mostChecks, mostSchedules};
 ghost use Rattle.judge_disks.specs.Packed.{heldFrom};
 ghost use Rattle.judge_schedules.specs.Halves.{validRows, badRows, mostHalf, halfSets, validBy, mayEnd, Lists};
-ghost use Rattle.judge_counting.specs.Tally.{Finds, tallied, Tallies, badBy, validEnd, badEnd, listed, Gains};
+ghost use Rattle.judge_counting.specs.Tally.{Finds, tallied, Tallies, badBy, validEnd, badEnd, Gains};
 
 // The judge's three numbers: valid schedules, bad ones, and one of these, or 0 where there is none.
 pub struct Judgement {

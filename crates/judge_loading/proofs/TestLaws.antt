@@ -24,7 +24,6 @@ use Rattle.file_format.specs.Held.{Fields, Inside}
 use Rattle.file_loading.proofs.LoadSteps.{places, fields-length, fields-none, fields-more, fields-all}
 use Rattle.judge_disks.specs.Packed.{Packs, Stores, heldFrom, allFlags, labelled, Labels}
 use Rattle.judge_disks.proofs.DiskSteps.{stores-run}
-use Rattle.judge_loading.specs.declared.Loaded.{Loaded}
 use Rattle.judge_loading.specs.Loaded.{LoadsTest, LoadsChecks}
 
 module _ (s : List ℕ) (from : ℕ) where

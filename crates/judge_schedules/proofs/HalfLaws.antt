@@ -19,7 +19,7 @@ use Rattle.relation.proofs.ListLaws.{allBelow-ext, allBelow-split}
 use Rattle.relation.proofs.UnionLaws.{part-or, union-part}
 use Rattle.model.specs.Limits.{mostMain}
 use Rattle.judge_schedules.specs.Halves.{validRows, firstHalf, mostHalf, halfSets, needed, validBy, Validates}
-use Rattle.judge_schedules.proofs.TotalLaws.{sets-are, sets-fit, sets-most, sets-some}
+use Rattle.judge_schedules.proofs.SetLaws.{sets-are, sets-fit, sets-most, sets-some}
 
 -- ---- the first flags
 

@@ -1,3 +1,3 @@
-pub mod TotalLaws
+pub mod SetLaws
 pub mod HalfLaws
 pub mod EndLaws

@@ -7,7 +7,7 @@ ghost use Rattle.model.specs.Limits.{mostMain};
 ghost use Rattle.judge_schedules.specs.Halves.{firstHalf, mostHalf, halfSets, validBy, Validates, mayBegin, mayEnd, Lists};
 
 // The most writes of a half, and the sets of these: the entries of a table of unions.
-pub const HALF: usize = (model::MOST_MAIN + 1) / 2;
+const HALF: usize = (model::MOST_MAIN + 1) / 2;
 
 pub const HALF_SETS: usize = 1 << HALF;
 

@@ -8,7 +8,7 @@ use lib.ListN.{length, replicate}
 use Rattle.model.specs.declared.Check.the-variants.{Range}
 use Rattle.model.specs.Answer.{answer, refused}
 use Rattle.model.specs.Check.{Holds}
-use Rattle.file_format.specs.Bytes.{Small, bytes4, blockIn, blocksOf}
+use Rattle.file_format.specs.Bytes.{diskLength, Small, bytes4, blockIn, blocksOf}
 use Rattle.log_get.specs.Get.{Gets, headOf, tailOf, LogGets, LogDamaged, getFrom, getOf}
 
 -- `getFrom` computes the value at the highest address, and there is no other
@@ -21,7 +21,7 @@ GetAnswers = (disk : List ℕ) (key : ℕ) (v : Option ℕ) → getOf disk key �
 
 -- a get of a disk of 1,024 bytes is refused by 21 exactly if its superblock is damage
 abbrev pub RefusedGets : Type 0
-RefusedGets = (disk : List ℕ) (key : ℕ) → length disk ≡ 1024 → getOf disk key ≡ refused 21 0 ↔ LogDamaged disk
+RefusedGets = (disk : List ℕ) (key : ℕ) → length disk ≡ diskLength → getOf disk key ≡ refused 21 0 ↔ LogDamaged disk
 
 -- ---- damage and the range check (02, [6])
 
@@ -31,7 +31,7 @@ filled superblock = bytes4 superblock ++ replicate 1020 1
 
 -- a disk of 1,024 bytes with this block 0 that meets the range check at 0
 pub record Meets (superblock : ℕ) (disk : List ℕ) : Type 0 where
-  pub size : length disk ≡ 1024
+  pub size : length disk ≡ diskLength
   pub bytes : Small disk
   pub block-0 : blockIn disk 0 ≡ superblock
   pub range : Holds (blocksOf disk) (Range 0)
@@ -39,7 +39,7 @@ pub record Meets (superblock : ℕ) (disk : List ℕ) : Type 0 where
 -- on a disk of 1,024 bytes get gives 21, whatever the key, exactly if no disk with that block 0 meets the range check at 0
 abbrev pub DamageExactly : Type 0
 DamageExactly =
-    (disk : List ℕ) (key : ℕ) → length disk ≡ 1024 → getOf disk key ≡ refused 21 0 ↔ ((other : List ℕ) → Meets (blockIn disk 0) other → ⊥)
+    (disk : List ℕ) (key : ℕ) → length disk ≡ diskLength → getOf disk key ≡ refused 21 0 ↔ ((other : List ℕ) → Meets (blockIn disk 0) other → ⊥)
 
 -- so no damaged head and tail is shown as a log, empty or not: where get answers, be it that there is no value, some disk with that block 0 meets the check
 abbrev pub ShownMeets : Type 0

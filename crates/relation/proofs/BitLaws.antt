@@ -92,6 +92,10 @@ or-bit n i =
     go q e (inl even) = rw even (omega (arith, add-mul q 1 (2 ^ i)))
     go q e (inr odd) = rw odd e
 
+-- a power of two in a word of the machine
+pub power-is : (i : ℕ) → i < 64 → 1 * 2 ^ i % 18446744073709551616 ≡ 2 ^ i
+power-is i h = shl-exact {a = 1} 1 i 64 (lit< tt) (omega arith) ∙ one-mul (2 ^ i)
+
 -- the machine's way to set a bit of 64
 pub set-bit : (n i : ℕ) → i < 64 → bitOr n (1 * 2 ^ i % 2 ^ 64) ≡ withBit n i
 set-bit n i h = rw (shl-exact {a = 1} 1 i 64 (lit< tt) (omega arith)) (or-bit n i)

@@ -4,20 +4,20 @@ use mathlib.Core.Logic.{⊎-elim}
 use mathlib.Core.Bool.{Bool, true, false, cond, not, and-true, or-false, _&&_, _||_, false≢true}
 use mathlib.Core.List.{List}
 use Prim.Native.Nat.{ℕ, zero, suc, _+_, _-_, _*_, _/_, _%_, _^_, _≤_, _<_}
-use native.Mathlib.Nat.{pow-suc, one-mul, div-eq-of-lt}
+use native.Mathlib.Nat.{pow-suc, div-eq-of-lt}
 use native.Mathlib.Numerals.{add-one}
 use native.Mathlib.Omega.{arith}
 use lib.Bits.{bitAnd, bitOr, and-mod, and-shr, or-lt}
 use lib.Dec.{eqb, ltb, lit<}
 use lib.ListN.{length, getD, set}
-use lib.Pow.{pow-pos, pow-mono, shl-exact}
+use lib.Pow.{pow-pos, pow-mono}
 use lib.Seq.{getD-set-same, getD-set-other}
 use borrow.Author.Needs.{needs}
 use borrow.Author.Tests.{eqb-true, eq-eqb, ne-eqb, ltb-true, ltb-false, lt-ltb}
 use Rattle.relation.specs.Bits.{bit, withBit, maskOf}
 use Rattle.relation.specs.Lists.{allBelow, anyBelow}
 use Rattle.relation.specs.Union.{partOf, union, rowsOn, Unites, Doubled}
-use Rattle.relation.proofs.BitLaws.{bit-zero, bit-or, bit-and, bit-with, bit-mask, mask-below, bits-equal}
+use Rattle.relation.proofs.BitLaws.{power-is, bit-zero, bit-or, bit-and, bit-with, bit-mask, mask-below, bits-equal}
 use Rattle.relation.proofs.ListLaws.{and-left, and-right, and-intro, or-cases, or-left, or-right, bool-equal, below-suc}
 use Rattle.relation.proofs.MaskLaws.{mask-false}
 
@@ -104,7 +104,7 @@ low-bit x i j h l = rw (above-bit x i h, bit-with x i j, ne-eqb j i (λ (e : j �
 -- ---- double
 
 pub size-is : (i : ℕ) → i < 32 → 1 * 2 ^ i % 18446744073709551616 ≡ 2 ^ i
-size-is i h = shl-exact {a = 1} 1 i 64 (lit< tt) (omega arith) ∙ one-mul (2 ^ i)
+size-is i h = power-is i (omega arith)
 
 pub size-most : (i : ℕ) → i < 32 → 1 * 2 ^ i % 18446744073709551616 ≤ 2147483648
 size-most i h = rw (size-is i (omega arith)) (pow-mono {i = i} {j = 31} (omega arith))

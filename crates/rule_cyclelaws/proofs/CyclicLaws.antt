@@ -1,4 +1,4 @@
--- Labels can form a ring cyclic-exactly if some closed walk of rules uses only =, or both > and <, cyclic-exactly if `cyclic` computes to true.
+-- Labels can form a ring exactly if some closed walk of rules uses only =, or both > and <, and exactly if `cyclic` computes to true.
 -- The rules of a ring are a walk whose epochs return (`EpochLaws`); on the numbers of the rules any two rules of a closed walk reach each other.
 use mathlib.Core.Path.{_≡_, refl, sym, ap, subst, subst⁻¹, _∙_}
 use mathlib.Core.Logic.{inl, inr, ⊎-elim}

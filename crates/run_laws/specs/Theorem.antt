@@ -15,7 +15,7 @@ use Rattle.model.specs.Cyclic.{Cyclic}
 use Rattle.model.specs.Schedule.{labelAt, Valid}
 use Rattle.model.specs.Check.{Consistent}
 use Rattle.model.specs.Test.{Test, File, initialDisk, TestHolds}
-use Rattle.file_format.specs.Bytes.{blocksOf}
+use Rattle.file_format.specs.Bytes.{diskLength, blocksOf}
 use Rattle.file_format.specs.File.{readOf}
 use Rattle.file_format.specs.Encode.{WriteFits}
 use Rattle.log_get.specs.Get.{LogGets, LogDamaged, getOf, valueCode, getAnswer}
@@ -39,7 +39,7 @@ NoneBeyond rules b trace =
 -- State and disk are such that a call on the run's own meets neither 14 nor 15
 pub record Safe (rules : List Rule) (disk : List ℕ) (m : Moment) : Type 0 where
   pub sound : Sound (m .held .state)
-  pub size : length (m .held .disk) ≡ 1024
+  pub size : length (m .held .disk) ≡ diskLength
   pub equals : m .held .disk ≡ applied (m .book) disk
   pub valid : Valid rules (accepted (m .book)) (scheduleOf (m .book))
   pub consistent : (t : Test) → blocksOf disk ≡ initialDisk t → Begins (accepted (m .book)) (t .main) → TestHolds rules t
@@ -100,7 +100,7 @@ begun state disk = record { held = record { state = state; disk = disk }; book =
 unfoldable pub Demand3 : Type 0
 Demand3 =
     (file state disk : List ℕ) (f : File) (calls : List Call)
-    → readOf file ≡ answer f → openOf file state disk .outcome ≡ answer 0 → length disk ≡ 1024
+    → readOf file ≡ answer f → openOf file state disk .outcome ≡ answer 0 → length disk ≡ diskLength
     → ((c : Call) → List·Memᴰ c calls → Listed c)
     → ((m : Moment) → List·Memᴰ m (moments (f .rules) calls (begun (openOf file state disk .state) disk)) → Safe (f .rules) disk m)
     × ((c : Call) (m : Moment) → Made (f .rules) calls (begun (openOf file state disk .state) disk) c m → Answers (f .rules) disk c m)

@@ -9,35 +9,14 @@ use reference::judge::judge_test;
 use reference::log;
 use reference::random::Random;
 use reference::samples::{log_rules, test_k};
-use reference::writes::{Block, Predicate, Rule, Write};
+use reference::writes::{block, rule, write, Block, Predicate, Rule, Write};
 
 /// The main writes of a test, but for the longest file: as many as finding takes.
 const MAIN: usize = 12;
 
-fn block(first: u16, second: u16) -> Block {
-    Block { first, second }
-}
-
 fn file_of(rules: &[Rule], tests: Vec<Test>) -> Vec<u8> {
     let rules = rules.to_vec();
     File { rules, tests }.to_bytes()
-}
-
-fn rule(name: u8, predicate: Predicate, second: u8) -> Rule {
-    Rule {
-        name,
-        predicate,
-        second,
-    }
-}
-
-fn write(address: u8, name: u8, epoch: u32, block: Block) -> Write {
-    Write {
-        address,
-        name,
-        epoch,
-        block,
-    }
 }
 
 /// Test K of the bench sheet.

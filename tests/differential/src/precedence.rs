@@ -12,7 +12,7 @@ use reference::log::{self, MOST_INITIAL_PUTS, MOST_MAIN_PUTS, PUT};
 use reference::random::Random;
 use reference::refusal::{self, Refusal};
 use reference::samples;
-use reference::writes::{Block, Predicate, Rule, Write};
+use reference::writes::{rule, Block, Predicate, Write};
 
 use crate::answer;
 use crate::calls;
@@ -68,14 +68,6 @@ fn combinations<const N: usize>() -> impl Iterator<Item = [bool; N]> {
         }
         met
     })
-}
-
-fn rule(name: u8, predicate: Predicate, second: u8) -> Rule {
-    Rule {
-        name,
-        predicate,
-        second,
-    }
 }
 
 const THERE: Block = Block {

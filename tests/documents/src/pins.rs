@@ -22,7 +22,7 @@ pub struct Kind {
 
 pub const CONTRACTS: Kind = Kind {
     file: "contracts.txt",
-    head: "# The exported routines: crate, name, signature, contract, and the modules of the names in it.",
+    head: "# The exported routines, and the one that makes the program's text: crate, name, signature, contract, and the modules of the names in it.",
     of: contracts,
 };
 
@@ -168,6 +168,19 @@ pub fn exported(sources: &Sources) -> Vec<(String, Function)> {
     found
 }
 
+/// Those whose contracts users read: the exported ones, and the one that makes the program's text.
+pub fn promised(sources: &Sources) -> Vec<(String, Function)> {
+    let mut found = exported(sources);
+    let path = "judge/src/main.rt";
+    let program = functions(sources.get(path)).into_iter();
+    found.extend(
+        program
+            .filter(|f| f.name == "render")
+            .map(|f| (path.to_string(), f)),
+    );
+    found
+}
+
 fn crate_of(path: &str) -> &str {
     path.split('/').next().unwrap_or("")
 }
@@ -182,7 +195,7 @@ fn modules(source: &str, text: &str) -> BTreeSet<String> {
 
 pub fn contracts(sources: &Sources) -> Pins {
     let mut found = Pins::new();
-    for (path, function) in exported(sources) {
+    for (path, function) in promised(sources) {
         let mut lines = vec![function.signature.clone()];
         let mut whole = String::new();
         for (kind, text) in &function.clauses {
@@ -240,7 +253,7 @@ pub fn definitions(sources: &Sources) -> Pins {
         .collect();
     let mut found = Pins::new();
     let mut todo = Vec::new();
-    for (path, function) in exported(sources) {
+    for (path, function) in promised(sources) {
         for (_, text) in &function.clauses {
             todo.extend(words(text).filter_map(|word| parsed[path.as_str()].imported(word)));
         }

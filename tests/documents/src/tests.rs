@@ -4,7 +4,7 @@ use super::*;
 use crate::antt::declarations as antt_declarations;
 use crate::code::{calls, functions, uses, without_comments};
 use crate::listing::{faults_in, listing, named, named_in, Crates};
-use crate::pins::{exported, Sources, CONTRACTS, DEFINITIONS, THEOREMS};
+use crate::pins::{exported, promised, Sources, CONTRACTS, DEFINITIONS, THEOREMS};
 
 const DOCUMENTS: [&str; 7] = [
     "README.md",
@@ -244,8 +244,8 @@ fn their_definitions_are_pinned() {
 fn a_weaker_contract_is_noticed() {
     const WEAK: &str = "λ r. ⌜ r ≡ r ⌝";
     let sources = Sources::load();
-    let all = exported(&sources);
-    assert_eq!(all.len(), 13);
+    let all = promised(&sources);
+    assert_eq!(all.len(), 14);
     for (path, function) in all {
         let ensures = function.clauses_of("ensures")[0].to_string();
         let before = sources.get(&path);
@@ -594,98 +594,138 @@ fn other_turns_are_noticed() {
     }
 }
 
-/// What is done once for a file, or once for a test of it, and who does it.
-const DONE_ONCE: [(&str, &[(&str, &str)]); 8] = [
+/// What is done once for a file, or once for a test of it, and who does it: each of these is done once
+/// too, up to the routines that nothing of the kit calls.
+const DONE_ONCE: [(&str, &[&str]); 27] = [
     (
         "read",
         &[
-            ("file_calls", "read_counts"),
-            ("file_calls", "locate_test"),
-            ("file_calls", "cyclic_rules"),
-            ("find_call", "find"),
-            ("judge_cases", "open_file"),
-            ("receiver", "pelzhondy_open"),
+            "file_calls::read_counts",
+            "file_calls::locate_test",
+            "file_calls::cyclic_rules",
+            "find_call::find",
+            "judge_cases::open_file",
+            "receiver::pelzhondy_open",
         ],
     ),
     (
         "file_rules",
         &[
-            ("file_calls", "cyclic_rules"),
-            ("judge_cases", "with_rules"),
-            ("receiver", "pelzhondy_open"),
+            "file_calls::cyclic_rules",
+            "judge_cases::with_rules",
+            "receiver::pelzhondy_open",
         ],
     ),
     (
         "is_cyclic",
         &[
-            ("cache_opening", "open_with"),
-            ("cache_soundness", "is_sound"),
-            ("file_calls", "cyclic_rules"),
-            // Of a set of candidates, not of a file's rules.
-            ("find_choice", "better_of"),
-            ("judge_cases", "with_rules"),
+            "cache_opening::open_with",
+            "cache_soundness::is_sound",
+            "file_calls::cyclic_rules",
+            "find_choice::better_of",
+            "judge_cases::with_rules",
         ],
     ),
-    ("with_rules", &[("judge_cases", "open_file")]),
+    ("open_with", &["receiver::pelzhondy_open"]),
+    ("with_rules", &["judge_cases::open_file"]),
     (
         "open_file",
-        &[("judge_cases", "select"), ("judge_text", "judge_lines")],
+        &["judge_cases::select", "judge_text::judge_lines"],
     ),
-    (
-        "select",
-        &[("judge_cases", "judge"), ("judge_cases", "decide")],
-    ),
+    ("select", &["judge_cases::judge", "judge_cases::decide"]),
     (
         "load_test",
         &[
             // The finder loads each test twice: here for its labels.
-            ("find_candidates", "collect"),
-            ("find_table", "mark_test"),
-            ("judge_cases", "judge_test"),
-            ("judge_cases", "decide_test"),
+            "find_candidates::collect",
+            "find_table::mark_test",
+            "judge_cases::judge_test",
+            "judge_cases::decide_test",
         ],
     ),
     (
         "load_checks",
         &[
-            ("find_table", "mark_test"),
-            ("judge_cases", "judge_test"),
-            ("judge_cases", "decide_test"),
+            "find_table::mark_test",
+            "judge_cases::judge_test",
+            "judge_cases::decide_test",
         ],
     ),
+    (
+        "judge_test",
+        &["judge_cases::judge", "judge_text::put_case"],
+    ),
+    ("decide_test", &["judge_cases::decide"]),
+    ("judge", &["workbench::pelzhondy_judge"]),
+    ("decide", &["workbench::pelzhondy_verdict"]),
+    ("put_case", &["judge_text::put_cases"]),
+    ("put_cases", &["judge_text::judge_lines"]),
+    (
+        "judge_lines",
+        &["judge::render", "workbench::pelzhondy_judge_lines"],
+    ),
+    ("render", &["judge::judge_input"]),
+    ("judge_input", &["judge::main"]),
+    ("collect", &["find_call::find_among"]),
+    ("mark_test", &["find_table::mark_all"]),
+    ("mark_all", &["find_call::choice"]),
+    ("choice", &["find_call::find_among"]),
+    ("find_among", &["find_call::find"]),
+    ("find", &["workbench::pelzhondy_find"]),
+    ("read_counts", &["workbench::pelzhondy_read"]),
+    ("locate_test", &["workbench::pelzhondy_locate"]),
+    ("cyclic_rules", &["workbench::pelzhondy_cyclic"]),
 ];
 
-/// The one that goes from test to test itself; the others have no loop before the call.
-const FROM_TEST_TO_TEST: (&str, &str) = ("find_candidates", "collect");
+/// Those that go from test to test; the others have no loop before the call.
+const FROM_TEST_TO_TEST: [&str; 3] = [
+    "find_candidates::collect",
+    "find_table::mark_all",
+    "judge_text::put_cases",
+];
+
+/// Those that ask for rings among rules that are not a file's: a state's, and a set of candidates.
+const OF_OTHER_RULES: [&str; 2] = ["cache_soundness::is_sound", "find_choice::better_of"];
 
 /// What is against it that a file is scanned, its rules loaded and asked for rings, a test loaded once:
-/// a caller that is not known to, one that does it twice, or in a loop.
+/// a caller that is not known to, one that does it twice, or in a loop, or one that is not called
+/// once itself, for all that is known.
 fn done_again(sources: &Sources) -> Vec<String> {
     let mut faults = Vec::new();
     let mut found = BTreeSet::new();
+    let mut outermost: BTreeSet<String> = OF_OTHER_RULES.map(String::from).into();
     for path in sources.code() {
         let name = path.split('/').next().unwrap_or("");
         for function in functions(sources.get(path)) {
             let of = format!("{}::{}", name, function.name);
+            if function.exported || function.name == "main" {
+                outermost.insert(of.clone());
+            }
             let body = function.body.replace("libc::read(", "");
+            let made = calls(&body);
             for (what, _) in DONE_ONCE {
-                let made = calls(&body);
                 let count = made.iter().filter(|(called, _)| called == what).count();
                 found.extend((0..count).map(|i| format!("{} calls {} ({})", of, what, i + 1)));
                 let before = body.split(&format!("{}(", what)).next().unwrap_or("");
                 let loops = ["while", "loop", "for"].iter();
                 let looped = loops.map(|word| uses(before, word)).sum::<usize>() > 0;
-                if count > 0 && looped && (name, function.name.as_str()) != FROM_TEST_TO_TEST {
+                if count > 0 && looped && !FROM_TEST_TO_TEST.contains(&of.as_str()) {
                     faults.push(format!("{} calls {} in a loop, or behind one", of, what));
                 }
             }
         }
     }
-    let known = DONE_ONCE.iter().flat_map(|(what, by)| {
-        by.iter()
-            .map(move |(name, function)| format!("{}::{} calls {} (1)", name, function, what))
-    });
-    faults.extend(found.symmetric_difference(&known.collect()).cloned());
+    let mut known = BTreeSet::new();
+    for (what, by) in DONE_ONCE {
+        for of in by {
+            known.insert(format!("{} calls {} (1)", of, what));
+            let asked = |(what, _): &(&str, _)| of.ends_with(&format!("::{}", what));
+            if !outermost.contains(*of) && !DONE_ONCE.iter().any(asked) {
+                faults.push(format!("who calls {} is not listed", of));
+            }
+        }
+    }
+    faults.extend(found.symmetric_difference(&known).cloned());
     faults
 }
 
@@ -728,6 +768,21 @@ fn decoding_again_is_noticed() {
             "find_call/src/lib.rt",
             "let best = choice(",
             "let rules = file_loading::file_rules(file, 0);\n    let best = choice(",
+        ),
+        (
+            "find_call/src/lib.rt",
+            "let best = choice(",
+            "let again = find_candidates::collect(file, tests, n);\n    let best = choice(",
+        ),
+        (
+            "judge_text/src/lib.rt",
+            "let j = judge_cases::judge_test(",
+            "judge_cases::judge(file, k);\n    let j = judge_cases::judge_test(",
+        ),
+        (
+            "workbench/src/lib.rt",
+            "    find_call::find(",
+            "    judge_cases::judge(file, 1);\n    find_call::find(",
         ),
     ] {
         let changed = edited(&sources, path, old, new);

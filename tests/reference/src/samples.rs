@@ -3,34 +3,13 @@
 use crate::checks::Check;
 use crate::file::{File, Test};
 use crate::log;
-use crate::writes::{Block, Predicate, Rule, Write};
+use crate::writes::{block, rule, write, Block, Predicate, Rule};
 
 use Predicate::{Equal, Greater, Less};
 
 pub struct Sample {
     pub name: &'static str,
     pub bytes: Vec<u8>,
-}
-
-fn block(first: u16, second: u16) -> Block {
-    Block { first, second }
-}
-
-fn rule(name: u8, predicate: Predicate, second: u8) -> Rule {
-    Rule {
-        name,
-        predicate,
-        second,
-    }
-}
-
-fn write(address: u8, name: u8, epoch: u32, block: Block) -> Write {
-    Write {
-        address,
-        name,
-        epoch,
-        block,
-    }
 }
 
 /// The log's rules: a superblock after its log block, and after the earlier superblocks.

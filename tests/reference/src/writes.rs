@@ -33,6 +33,10 @@ impl Block {
     }
 }
 
+pub fn block(first: u16, second: u16) -> Block {
+    Block { first, second }
+}
+
 pub type Disk = [Block; BLOCKS];
 
 pub const EMPTY_DISK: Disk = [EMPTY; BLOCKS];
@@ -70,6 +74,15 @@ impl Write {
             name: self.name,
             epoch: self.epoch,
         }
+    }
+}
+
+pub fn write(address: u8, name: u8, epoch: u32, block: Block) -> Write {
+    Write {
+        address,
+        name,
+        epoch,
+        block,
     }
 }
 
@@ -121,6 +134,14 @@ impl Rule {
         self.name == one.name
             && self.second == two.name
             && self.predicate.relates(one.epoch, two.epoch)
+    }
+}
+
+pub fn rule(name: u8, predicate: Predicate, second: u8) -> Rule {
+    Rule {
+        name,
+        predicate,
+        second,
     }
 }
 

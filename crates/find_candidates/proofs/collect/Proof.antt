@@ -12,6 +12,9 @@ Inv-loop file n tests out₀ t₀ out t = (t ≤ n) × (out .count ≤ mostCandi
 abbrev μ-loop : tie.MeasureT-loop
 μ-loop file n tests out₀ t₀ out t = t
 
+none-requires : tie.Need-none-requires Inv-loop μ-loop
+none-requires c κs = search steps
+
 loop-holds : tie.Need-loop-holds Inv-loop μ-loop
 loop-holds c = search steps
 
@@ -25,7 +28,7 @@ array-copy-out-load-test : tie.Need-array-copy-out-load-test Inv-loop μ-loop
 array-copy-out-load-test c = search steps
 
 load-test-requires : tie.Need-load-test-requires Inv-loop μ-loop
-load-test-requires c κs = test-inside _ _ _ (c .before .before .before .before .pre) _ (search needs)
+load-test-requires c κs = test-inside _ _ _ (c .before .before .before .before .before .pre) _ (search needs)
 
 from-trace-requires : tie.Need-from-trace-requires Inv-loop μ-loop
 from-trace-requires c κs = search steps
@@ -38,7 +41,7 @@ loop-again c =
     let l = c .before .before .before .before .before .before .loop in (
       search steps,
       search steps,
-      collect-more _ _ _ (c .before .before .before .before .before .before .before .before .pre) _ (l .t) (c .before .before .before .load-test .result) (l .out) _ (l .inv .2) (search needs) (search needs) (c .before .before .before .load-test .ensures) (c .from-trace .ensures .1),
+      collect-more _ _ _ (c .before .before .before .before .before .before .before .before .before .pre) _ (l .t) (c .before .before .before .load-test .result) (l .out) _ (l .inv .2) (search needs) (search needs) (c .before .before .before .load-test .ensures) (c .from-trace .ensures .1),
     )
 
 returns : tie.Need-returns Inv-loop μ-loop
@@ -50,6 +53,7 @@ collect-spec =
     (tie.spec
     Inv-loop
     μ-loop
+    none-requires
     loop-holds
     sub-t
     mul-load-test

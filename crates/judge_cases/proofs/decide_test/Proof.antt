@@ -1,4 +1,4 @@
--- `judge_cases::decide_test` meets its contract: and they give its verdict.
+-- `judge_cases::decide_test` meets its contract: rows, disks and checks of the loaded test give the verdict of the definition.
 use Rattle.judge_cases.proofs.JudgeLaws.{loops}
 use Rattle.judge_cases.proofs.decide_test.Statement.{statement}
 use Rattle.judge_cases.proofs.decide_test.Tie as tie

@@ -5,7 +5,7 @@ use mathlib.Core.Bool.{true}
 use native.Mathlib.Omega.{arith}
 use lib.ListN.{length, take}
 use Rattle.model.specs.declared.Check.the-variants.{Range}
-use Rattle.model.specs.Limits.{diskBlocks, mostChecks}
+use Rattle.model.specs.Limits.{mostChecks}
 use Rattle.model.specs.Schedule.{run}
 use Rattle.model.specs.Check.{consistent}
 use Rattle.judge_disks.specs.Packed.{heldFrom}

@@ -1,7 +1,7 @@
 -- `judge_schedules::prepare` meets its contract: the unions of the rows decide validity.
 use native.Mathlib.Omega.{arith}
 use Rattle.judge_schedules.proofs.HalfLaws.{halves}
-use Rattle.judge_schedules.proofs.TotalLaws.{sets-fit}
+use Rattle.judge_schedules.proofs.SetLaws.{sets-fit}
 use Rattle.judge_schedules.proofs.prepare.Statement.{statement}
 use Rattle.judge_schedules.proofs.prepare.Tie as tie
 

@@ -9,21 +9,9 @@ use crate::judge::{is_bad, judge, verdict, Judgement, Verdict};
 use crate::log::{get, trace};
 use crate::program::output;
 use crate::refusal::plain;
-use crate::writes::{disk_to_bytes, Block, Predicate, Rule, Write, EMPTY_DISK};
+use crate::writes::{block, disk_to_bytes, rule, Predicate, Rule, Write, EMPTY_DISK};
 
 use Predicate::{Equal, Greater, Less};
-
-fn rule(name: u8, predicate: Predicate, second: u8) -> Rule {
-    Rule {
-        name,
-        predicate,
-        second,
-    }
-}
-
-fn block(first: u16, second: u16) -> Block {
-    Block { first, second }
-}
 
 fn write(address: u8, name: u8, epoch: u32, first: u16, second: u16) -> Write {
     Write {
