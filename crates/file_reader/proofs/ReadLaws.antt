@@ -16,7 +16,7 @@ use Rattle.file_format.specs.declared.ScanState.{ScanState}
 use Rattle.file_format.specs.declared.Scan.the-variants.{Accepted, Refused}
 use Rattle.file_format.specs.declared.Scanned.{Scanned}
 use Rattle.file_format.specs.Bytes.{byte}
-use Rattle.file_format.specs.File.{isTag, faultOf, fieldEnd}
+use Rattle.file_format.specs.File.{headLength, isTag, bodyLength, faultOf, fieldEnd}
 use Rattle.file_format.specs.Scan.{inHand, counted, found, advanced, ended, scanFrom, started, scanOf}
 use Rattle.file_format.specs.Held.{ScansTo, Scans}
 use Rattle.file_reader.specs.Limits.{Within}
@@ -61,16 +61,18 @@ found-put st tests l =
 
 module _ (s : List ℕ) (at : ℕ) (st : ScanState) (tests : List Extent) (going : Going s at st tests) (lt : at < length s) where
   -- a field that is not refused ends inside the file, and its test has a place in the array
-  pub ahead : (number : ℕ) → number ≡ faultOf s at (st .counts) → number ≡ 0 → fieldEnd s at ≤ length s
-  ahead number e z = clean-fits s at (st .counts) (clean s at (st .counts) (sym e ∙ z))
+  pub ahead : (number r : ℕ) → number ≡ faultOf s at (st .counts) → number ≡ 0 → r ≡ bodyLength (byte s at) → at + headLength + r ≤ length s
+  ahead number r e z q =
+      let h = clean-fits s at (st .counts) (clean s at (st .counts) (sym e ∙ z)) in
+      omega arith
 
   pub room : (number : ℕ) → number ≡ faultOf s at (st .counts) → number ≡ 0 → st .counts .tests < mostTests
   room number e z =
       let k = clean s at (st .counts) (sym e ∙ z) in
       counted-room (st .counts) (going .2) (byte s at) (k .tag) (k .order) (k .limit)
 
-  pub next : (number r : ℕ) (st′ : ScanState) (e : Extent) → number ≡ faultOf s at (st .counts) → number ≡ 0 → r ≡ fieldEnd s at
-      → e ≡ inHand st → st′ ≡ advanced (byte s at) r st → Going s r st′ (set tests (st .counts .tests) e)
+  pub next : (number r : ℕ) (st′ : ScanState) (e : Extent) → number ≡ faultOf s at (st .counts) → number ≡ 0 → r ≡ bodyLength (byte s at)
+      → e ≡ inHand st → st′ ≡ advanced (byte s at) (at + headLength + r) st → Going s (at + headLength + r) st′ (set tests (st .counts .tests) e)
   unfolding scanFrom advanced
   next number r st′ x e z q i f =
       rw (f, q, i)

@@ -25,8 +25,14 @@ returns c = search reads-on
 shared-slice-read-tag : tie.Need-shared-slice-read-tag Inv-loop μ-loop
 shared-slice-read-tag c = search reads-on
 
-end-of-requires : tie.Need-end-of-requires Inv-loop μ-loop
-end-of-requires c κs = search reads-on
+add-next : tie.Need-add-next Inv-loop μ-loop
+add-next c = search reads-on
+
+body-length-requires : tie.Need-body-length-requires Inv-loop μ-loop
+body-length-requires c κs = search reads-on
+
+add-next-2 : tie.Need-add-next-2 Inv-loop μ-loop
+add-next-2 c = search reads-on
 
 in-hand-requires : tie.Need-in-hand-requires Inv-loop μ-loop
 in-hand-requires c κs = search reads-on
@@ -62,7 +68,9 @@ read-spec =
     fault-requires
     returns
     shared-slice-read-tag
-    end-of-requires
+    add-next
+    body-length-requires
+    add-next-2
     in-hand-requires
     mul-tests
     array-set-from-tests
