@@ -1,10 +1,10 @@
 -- The theorem over the bench sheet: each line computes, and what speaks of every schedule or of labels follows from what is computed.
 use mathlib.Core.Path.{_≡_, refl, sym, ap, _∙_}
-use mathlib.Core.Bool.{Bool, true, cond, not, _||_}
+use mathlib.Core.Bool.{Bool, true, false, cond, not, _||_}
 use mathlib.Core.List.{List, [], _∷_, _++_, append-nil}
 use mathlib.Core.Option.{Option}
 use Prim.{tt}
-use Prim.Native.Nat.{ℕ}
+use Prim.Native.Nat.{ℕ, zero, suc, _^_}
 use native.Mathlib.Omega.{arith}
 use lib.Count.{ones, onesIn}
 use lib.Dec.{eqb, ltb, lit<}
@@ -14,9 +14,10 @@ use borrow.Author.Tests.{eqb-true, lt-ltb, le-ltb}
 use Rattle.relation.specs.Bits.{bit, withBit, maskOf}
 use Rattle.relation.specs.Lists.{any, all, anyBelow, allBelow, tabulate}
 use Rattle.relation.specs.Finite.{related, rowsOf, joined, round, closed, loops, hasRing}
-use Rattle.relation.proofs.ListLaws.{allBelow-true}
+use Rattle.relation.proofs.ListLaws.{or-right, allBelow-true, allBelow-intro}
 use Rattle.relation.proofs.MaskLaws.{implies}
 use Rattle.model.specs.declared.Rule.{Rule}
+use Rattle.model.specs.declared.Write.{Write}
 use Rattle.model.specs.Answer.{Outcome, answer, refused}
 use Rattle.model.specs.Disk.{block, firstOf, secondOf, empty, emptyDisk}
 use Rattle.model.specs.Rules.{stands, matches, dependsOn, known}
@@ -37,12 +38,13 @@ use Rattle.log_get.specs.Theorem.{filled, Meets}
 use Rattle.log_get.proofs.DamageLaws.{filled-meets, damage-exactly}
 use Rattle.judge_text.specs.Decimal.{decimalWith, decimal}
 use Rattle.judge_text.specs.Lines.{refusedLine, testLine, lines, textOf, programText}
+use Rattle.find_candidates.specs.Tests.{tooLong}
 use Rattle.find_call.specs.Finder.{Found, over, wrote, findAmong, findIn, findOf}
 use Rattle.cache_model.specs.Needs.{needs, needsRing, met, readyFrom, ready}
 use Rattle.cache_model.specs.State.{ruleIn, writeIn, rulesIn, writesIn, storedIn, rulesBytes, opened, entryBytes, handed, marked, storedOn}
 use Rattle.cache_model.specs.Calls.{openWith, openOf, late, storing, stepped}
 use Rattle.bench.proofs.CallLaws.{all-called}
-use Rattle.bench.specs.Sheet.{put, K, together, Finding, RangeAt, Call, Gave, gave, blank, Calling, Sheet, K-initial, K-main, Unstarred, trimmed, Requested}
+use Rattle.bench.specs.Sheet.{put, K, together, Finding, RangeAt, Call, Gave, gave, blank, Calling, Sheet, K-initial, K-main, Unstarred, trimmed, long, puts, Requested}
 
 -- ---- what the lines are computed by: to unfold one of these is to unfold all that it unfolds
 
@@ -73,7 +75,7 @@ caseRead f = caseIn (fileBytes f) 1
 
 -- the finder's choice
 searched : List Test → List ℕ → Found
-unfolding counted together ringed fileRead findAmong wrote over candidatesOf fromTrace fromWrite inserted pairing before chosen chosenBelow preferred suffices picked testHolds ones onesIn
+unfolding counted together ringed fileRead tooLong any findAmong wrote over candidatesOf fromTrace fromWrite inserted pairing before chosen chosenBelow preferred suffices picked testHolds ones onesIn
 searched tests buffer = findAmong tests buffer
 
 -- calls of the cache
@@ -98,10 +100,10 @@ only : (rules : List Rule) (t : Test) (n : ℕ) → allBelow (λ s. not (bad rul
 unfolding Bad
 only rules t n e s b = eqb-true s n (implies (bad rules t s) (eqb s n) (allBelow-true _ (schedules t) e s (b .0)) (true-bad rules t s b))
 
-finding : (t : Test) (left : List ℕ → Found) → readOf (fileBytes (file [] (t ∷ []))) ≡ answer (file [] (t ∷ [])) → ((buffer : List ℕ) → findAmong (t ∷ []) buffer ≡ left buffer)
-    → Finding t left
+finding : (t : Test) (left : List ℕ → Found) → readOf (fileBytes (file [] (t ∷ []))) ≡ answer (file [] (t ∷ [])) → tooLong (t ∷ []) ≡ false
+    → ((buffer : List ℕ) → findAmong (t ∷ []) buffer ≡ left buffer) → Finding t left
 unfolding findOf findIn
-finding t left e h buffer l = rw (e, le-ltb (length buffer) 96 l) (h buffer)
+finding t left e short h buffer l = rw (e, short, le-ltb (length buffer) 96 l) (h buffer)
 
 calling : (cs : List Call) (outcomes : List (Outcome ℕ)) (disk : List ℕ) → called cs ≡ gave outcomes disk → Calling cs outcomes disk
 unfolding called
@@ -123,10 +125,10 @@ sheet =
         bad-true _ _ _ (unfold counted in lit< tt) (unfold counted in refl),
         only _ _ _ (unfold counted in refl),
       );
-      K4 = finding _ _ (unfold searched in refl) (λ buffer. unfold searched in refl);
+      K4 = finding _ _ (unfold searched in refl) (unfold searched in refl) (λ buffer. unfold searched in refl);
       K5 = (unfold ringed in refl, K5-not-cyclic);
       K6 = (unfold ringed in refl, K6-cyclic);
-      K7 = finding _ _ (unfold searched in refl) (λ buffer. unfold searched in refl);
+      K7 = finding _ _ (unfold searched in refl) (unfold searched in refl) (λ buffer. unfold searched in refl);
       K8 = calling _ _ _ (unfold called in refl);
       K9 = calling _ _ _ (unfold called in refl);
       K10 = calling _ _ _ (unfold called in refl);
@@ -182,6 +184,39 @@ unmet : (other : List ℕ) → Meets (block 300 200) other → ⊥
 unfolding gets
 unmet = damage-exactly (filled (block 300 200)) 0 refl .0 refl
 
+-- a long test's file, and the finder's answer where it does not look for rules
+reads : File → Outcome File
+unfolding counted fileRead long
+reads f = readOf (fileBytes f)
+
+asked : File → List ℕ → Found
+unfolding reads tooLong any findOf findIn
+asked f buffer = findOf (fileBytes f) buffer
+
+-- a program of puts traced
+put-traces : ℕ → List ℕ → Traced
+unfolding made puts
+put-traces n buffer = traceOf [] (puts n) buffer
+
+ten-room : Roomed [] (puts 10) (logTest [] (putsOf (puts 10))) 267
+unfolding put-traces
+ten-room buffer = refl
+
+-- a count of all numbers
+count-all : (p : ℕ → Bool) (n : ℕ) → ((s : ℕ) → p s ≡ true) → countBelow p n ≡ n
+unfolding countBelow
+count-all p zero h = refl
+count-all p (suc n) h = rw (h n, count-all p n h) (omega arith)
+
+unruled : (ws : List Write) (s : ℕ) → valid [] ws s ≡ true
+unfolding valid dependsOn any
+unruled ws s =
+    allBelow-intro _ (length ws) (λ i h. or-right (not (bit s i)) _ (allBelow-intro _ (length ws) (λ j l. refl)))
+
+all-valid : (t : Test) → validCount [] t ≡ schedules t
+unfolding validCount
+all-valid t = count-all (valid [] (t .main)) (schedules t) (unruled (t .main))
+
 pub requested : Requested
 requested =
     record {
@@ -192,6 +227,15 @@ requested =
       get-some = unfold gets in refl;
       none-meets = unmet;
       some-meet = (filled-meets (block 1 4) (unfold gets in refl), filled-meets (block 5 5) (unfold gets in refl));
-      trimmed-holds = (count-holds [] (trimmed 4) (unfold trims in refl), finding _ _ (unfold trims in refl) (λ buffer. unfold trims in refl));
-      trimmed-fails = (bad-true [] (trimmed 5) 1 (unfold trims in lit< tt) (unfold trims in refl), finding _ _ (unfold trims in refl) (λ buffer. unfold trims in refl));
+      trimmed-holds = (count-holds [] (trimmed 4) (unfold trims in refl), finding _ _ (unfold trims in refl) (unfold trims in refl) (λ buffer. unfold trims in refl));
+      trimmed-fails = (bad-true [] (trimmed 5) 1 (unfold trims in lit< tt) (unfold trims in refl), finding _ _ (unfold trims in refl) (unfold trims in refl) (λ buffer. unfold trims in refl));
+      twenty-read = unfold reads in refl;
+      one-more-refused = unfold reads in refl;
+      all-valid = all-valid;
+      twenty-valid = λ t e. all-valid t ∙ ap (λ (n : ℕ). 2 ^ n) e;
+      longest-line = (unfold printed in refl, refl);
+      thirteen-refused = ((λ buffer. unfold asked in refl), (λ buffer. unfold asked in refl), λ buffer. unfold asked in refl);
+      twelve-taken = (unfold asked in refl, unfold asked in refl);
+      ten-traced = λ buffer l. rw (ten-room buffer, le-ltb (length buffer) 267 l);
+      eleven-refused = λ buffer. unfold put-traces in refl;
     }

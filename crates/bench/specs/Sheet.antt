@@ -2,7 +2,7 @@
 -- `Sheet` is the table, one field a line; `proofs/Proved.antt: sheet` is the theorem over it. `Unstarred` has the lines that need no proof, and
 -- what the judging program prints; `proofs/Proved.antt: unstarred` proves them all the same. `Requested` has worked lines of document 02, and
 -- `proofs/Proved.antt: requested` proves these.
-use Prim.Native.Nat.{ℕ, _≤_}
+use Prim.Native.Nat.{ℕ, _*_, _≤_}
 use mathlib.Core.Path.{_≡_}
 use mathlib.Core.Bool.{Bool, true, false}
 use mathlib.Core.List.{List, [], _∷_, _++_}
@@ -15,14 +15,16 @@ use Rattle.model.specs.Answer.{Outcome, answer, refused}
 use Rattle.model.specs.Disk.{block, blockAt}
 use Rattle.model.specs.Cyclic.{Cyclic, cyclic}
 use Rattle.model.specs.Check.{holds}
-use Rattle.model.specs.Test.{Test, test, file, TestHolds, Bad, validCount, badCount}
+use Rattle.model.specs.Test.{Test, test, file, schedules, TestHolds, Bad, validCount, badCount}
 use Rattle.rule_cyclelaws.specs.Examples.{rule}
 use Rattle.file_format.specs.Encode.{ruleFields, testBytes, fileBytes}
+use Rattle.file_format.specs.File.{readOf}
 use Rattle.judge_cases.specs.Judge.{caseIn}
 use Rattle.log_get.specs.Puts.{Put, start, writesOf, logTest, traced, traceOf}
 use Rattle.log_get.specs.Get.{getOf}
 use Rattle.log_get.specs.Theorem.{filled, Meets}
-use Rattle.judge_text.specs.Lines.{refusedText, failsText, programText}
+use Rattle.judge_text.specs.Lines.{refusedText, failsText, testLine, programText, textLength}
+use Rattle.find_candidates.specs.Tests.{tooLong}
 use Rattle.find_call.specs.Finder.{Found, found, findOf, foundLength}
 use Rattle.cache_model.specs.State.{storedOn}
 use Rattle.cache_model.specs.Calls.{Left, openOf, handInOf, stepOf, given}
@@ -200,6 +202,18 @@ Getting head tail o = (key : ℕ) → getOf (filled (block head tail)) key ≡ o
 unfoldable pub trimmed : ℕ → Test
 trimmed head = test (writesOf start (put 0 830 ∷ put 1 825 ∷ put 2 640 ∷ [])) (given 0 2 3 head 4 ∷ []) (Range 0 ∷ [])
 
+-- a test of n main writes, all the same
+unfoldable pub long : ℕ → Test
+long n = test [] (replicate n (given 0 1 0 0 1)) []
+
+-- finding on the file of these rules and tests refuses by this number, whatever the buffer
+abbrev pub FindRefused : List Rule → List Test → ℕ → Type 0
+FindRefused rules tests number = (buffer : List ℕ) → findOf (fileBytes (file rules tests)) buffer ≡ found (refused number 0) buffer
+
+-- a program of n puts, all of them (257,257)
+unfoldable pub puts : ℕ → List ℕ
+puts n = replicate (4 * n) 1
+
 pub record Requested : Type 0 where
   -- [6] the range check fails whenever head exceeds tail: three such blocks, at any address
   pub fails : RangeAt 6 5 false × RangeAt 256 255 false × RangeAt 65535 65534 false
@@ -217,3 +231,18 @@ pub record Requested : Type 0 where
   -- the judge and the finder follow: the head moved up to the tail, 4, holds; one block past it, it is bad, and no rules do
   pub trimmed-holds : TestHolds [] (trimmed 4) × Finding (trimmed 4) (λ buffer. found (answer 0) buffer)
   pub trimmed-fails : Bad [] (trimmed 5) 1 × Finding (trimmed 5) (λ buffer. found (refused 13 0) buffer)
+  -- [8] 20 main writes of a test are read; the 21st is 6, at its field
+  pub twenty-read : readOf (fileBytes (file [] (long 20 ∷ []))) ≡ answer (file [] (long 20 ∷ []))
+  pub one-more-refused : readOf (fileBytes (file [] (long 21 ∷ []))) ≡ refused 6 260
+  -- without rules every schedule is valid, so 1,048,576 of 20 main writes are
+  pub all-valid : (t : Test) → validCount [] t ≡ schedules t
+  pub twenty-valid : (t : Test) → length (t .main) ≡ 20 → validCount [] t ≡ 1048576
+  -- a line of 25 bytes tells so of test 16; 16 such lines are a text of 400
+  pub longest-line : (length (testLine 16 1048576 1048576) ≡ 25) × (16 * 25 ≡ textLength)
+  -- finding takes 12 of a test: 13 are 24, with a buffer of 0 bytes too, and so they are behind a shorter test; with a rule it is 10
+  pub thirteen-refused : FindRefused [] (long 13 ∷ []) 24 × FindRefused [] (K ∷ long 13 ∷ []) 24 × FindRefused K3-rules (long 13 ∷ []) 10
+  -- 12 are not 24: with a buffer of 0 bytes it is 12
+  pub twelve-taken : (tooLong (long 12 ∷ []) ≡ false) × (findOf (fileBytes (file [] (long 12 ∷ []))) [] ≡ found (refused 12 0) [])
+  -- 10 main puts are traced, a test of 267 bytes; 11 are 6
+  pub ten-traced : (buffer : List ℕ) → 267 ≤ length buffer → traceOf [] (puts 10) buffer .outcome ≡ answer 267
+  pub eleven-refused : (buffer : List ℕ) → traceOf [] (puts 11) buffer ≡ traced (refused 6 0) buffer

@@ -1,5 +1,5 @@
 -- No answer reaches bit 63: each is bounded by the limits of files, tests, states and buffers.
-use Prim.Native.Nat.{ℕ, zero, suc, _+_, _*_, _-_, _/_, _%_, _≤_, _<_}
+use Prim.Native.Nat.{ℕ, zero, suc, _+_, _*_, _-_, _/_, _%_, _^_, _≤_, _<_}
 use mathlib.Core.Path.{_≡_, refl, sym}
 use mathlib.Core.Bool.{Bool, true, false, cond, not, _&&_, _||_, false≢true}
 use mathlib.Core.List.{List, [], _∷_, _++_, List·Memᴰ, List·Memᴰ·head, List·Memᴰ·tail}
@@ -29,15 +29,16 @@ use Rattle.file_format.specs.Held.{noTest, testOf, extentOf}
 use Rattle.file_format.specs.Scan.{Places, scanOf}
 use Rattle.file_reader.specs.Limits.{TestLimits}
 use Rattle.file_reader.proofs.CallerLaws.{holding-limits, refused-limits}
-use Rattle.judge_counting.specs.declared.Verdict.{Verdict}
-use Rattle.judge_counting.specs.declared.Verdict.the-variants.{Holds, Fails}
+use Rattle.judge_search.specs.declared.Verdict.{Verdict}
+use Rattle.judge_search.specs.declared.Verdict.the-variants.{Holds, Fails}
 use Rattle.judge_cases.specs.Judge.{Case, caseOf, caseIn, Decides}
 use Rattle.judge_answers.specs.Judged.{judgementCode, verdictCode, JudgeAnswer, VerdictAnswer}
 use Rattle.file_calls.specs.File.{sizes, readAnswer, packedExtent, Packed, located, locateAnswer, cyclicIn, cyclicAnswer}
 use Rattle.file_calls.proofs.FileLaws.{placed-packed}
 use Rattle.judge_text.specs.Decimal.{decimal}
-use Rattle.judge_text.specs.Lines.{refusedLine, testLine, lines, textOf, programText, holdsText, failsText, mostDigits, numbers, testLength, refusedLength, textLength}
+use Rattle.judge_text.specs.Lines.{refusedLine, testLine, lines, textOf, programText, holdsText, failsText, testDigits, countDigits, refusalDigits, placeDigits, testLength, refusedLength, textLength}
 use Rattle.judge_text.proofs.WriteLaws.{decimal-most}
+use Rattle.find_candidates.specs.Tests.{tooLong}
 use Rattle.find_call.specs.Finder.{Found, wrote, findAmong, findIn, findOf, foundLength}
 use Rattle.model.specs.Check.{damaged}
 use Rattle.log_get.specs.Get.{keyed, headOf, tailOf, getFrom, getOf, valueCode}
@@ -231,16 +232,16 @@ verdict-below file k c r e (v, p, q) = rw q (go v p)
 
 -- ---- lines: one for each test, or that of a refusal
 
-line-most : (k valid bad : ℕ) → k < numbers → valid < numbers → bad < numbers → length (testLine k valid bad) ≤ testLength
+line-most : (k valid bad : ℕ) → k < 10 ^ testDigits → valid < 10 ^ countDigits → bad < 10 ^ countDigits → length (testLine k valid bad) ≤ testLength
 unfolding testLine
 line-most k valid bad h i j =
-    let a = decimal-most (mostDigits - 1) k h in
-    let b = decimal-most (mostDigits - 1) valid i in
-    let c = decimal-most (mostDigits - 1) bad j in
+    let a = decimal-most (testDigits - 1) k h in
+    let b = decimal-most (countDigits - 1) valid i in
+    let c = decimal-most (countDigits - 1) bad j in
     rw (length-append (decimal k) _, length-append (decimal valid) _, length-append (decimal bad) _, length-append (cond (eqb bad 0) holdsText failsText) _)
     (go (eqb bad 0) a b c)
   where
-    go : (x : Bool) → length (decimal k) ≤ mostDigits → length (decimal valid) ≤ mostDigits → length (decimal bad) ≤ mostDigits
+    go : (x : Bool) → length (decimal k) ≤ testDigits → length (decimal valid) ≤ countDigits → length (decimal bad) ≤ countDigits
         → length (decimal k) + suc (length (decimal valid) + suc (length (decimal bad) + suc (length (cond x holdsText failsText) + 1))) ≤ testLength
     go true a b c = omega arith
     go false a b c = omega arith
@@ -253,11 +254,11 @@ lines-most f (suc n) h =
     let b = h n (omega arith) in
     rw (length-append (lines f n) (f n)) (omega arith)
 
-refused-most : (number place : ℕ) → number < numbers → place < numbers → length (refusedLine number place) ≤ refusedLength
+refused-most : (number place : ℕ) → number < 10 ^ refusalDigits → place < 10 ^ placeDigits → length (refusedLine number place) ≤ refusedLength
 unfolding refusedLine
 refused-most number place h i =
-    let a = decimal-most (mostDigits - 1) number h in
-    let b = decimal-most (mostDigits - 1) place i in
+    let a = decimal-most (refusalDigits - 1) number h in
+    let b = decimal-most (placeDigits - 1) place i in
     rw (length-append (decimal number) _, length-append (decimal place) _) (omega arith)
 
 text-most : (file : List ℕ) → length (programText file) ≤ textLength
@@ -320,11 +321,12 @@ find-apart file buffer = go (readOf file)
     go (answer f) =
         unfold findIn findAmong in
         found-either (ltb 0 (length (f .rules))) _ _ (λ e. turned-down 10 0)
+        (λ e. found-either (tooLong (f .tests)) _ _ (λ e. turned-down 24 0)
         (λ e. found-either (ltb (length buffer) foundLength) _ _ (λ e. turned-down 12 0)
         (λ e. found-either (ltb mostCandidates (length (candidatesOf (f .tests)))) _ _ (λ e. turned-down 11 0)
-        (λ l. wrote-apart (candidatesOf (f .tests)) (chosen (f .tests) (candidatesOf (f .tests))) (ltb-false mostCandidates (length (candidatesOf (f .tests))) l))))
+        (λ l. wrote-apart (candidatesOf (f .tests)) (chosen (f .tests) (candidatesOf (f .tests))) (ltb-false mostCandidates (length (candidatesOf (f .tests))) l)))))
 
--- ---- trace: at most 38 puts
+-- ---- trace: at most 42 puts
 
 traced-either : (b : Bool) (x y : Traced) → (b ≡ true → ToldApart (x .outcome)) → (b ≡ false → ToldApart (y .outcome)) → ToldApart (cond b x y .outcome)
 traced-either = by-case (λ (l : Traced). l .outcome)

@@ -1,6 +1,6 @@
 -- The chosen rules as fields at the front of the buffer, and the answers and refusals of the call.
 use mathlib.Core.Path.{_≡_, refl, sym, ap, _∙_}
-use mathlib.Core.Bool.{cond}
+use mathlib.Core.Bool.{Bool, true, false, cond}
 use mathlib.Core.List.{List, [], _∷_, _++_}
 use mathlib.Core.Option.{Option, none, some}
 use Prim.Native.Nat.{ℕ, _+_, _*_, _^_, _≤_, _<_}
@@ -8,12 +8,13 @@ use native.Mathlib.Nat.{zero-add}
 use native.Mathlib.Numerals.{add-one}
 use native.Mathlib.Omega.{arith}
 use lib.Dec.{ltb}
-use lib.ListN.{length, take}
+use lib.ListN.{length, getD, take}
 use lib.Pow.{pow-mono}
 use lib.Seq.{sets-eq, take-suc, length-take-le}
 use borrow.Author.Tests.{lt-ltb, le-ltb}
-use Rattle.relation.proofs.ListLaws.{length-tabulate}
-use Rattle.model.specs.Limits.{words, mostRules, mostCandidates, candidateSets}
+use Rattle.relation.specs.Lists.{any, anyBelow}
+use Rattle.relation.proofs.ListLaws.{bool-equal, anyBelow-true, anyBelow-intro, any-true, any-intro, mem-index, index-mem}
+use Rattle.model.specs.Limits.{words, mostRules, mostTests, mostFound, mostCandidates, candidateSets}
 use Rattle.model.specs.declared.Refusal.{Refusal}
 use Rattle.model.specs.declared.Rule.{Rule}
 use Rattle.model.specs.Answer.{refused, refusal, coded}
@@ -25,20 +26,21 @@ use Rattle.file_format.specs.declared.Scan.the-variants.{Accepted, Refused}
 use Rattle.file_format.specs.File.{ruleLength}
 use Rattle.file_format.specs.Bytes.{ruleBytes}
 use Rattle.file_format.specs.Encode.{fieldBytes, ruleFields}
-use Rattle.file_format.specs.Scan.{ruleField, fieldPlace, fieldsAt, scanOf}
-use Rattle.file_format.specs.Held.{ScansTo, Placed}
+use Rattle.file_format.specs.Scan.{ruleField, writeField, mainPlace, testAt, scanOf}
+use Rattle.file_format.specs.Held.{noTest, extentOf, ScansTo, Placed}
 use Rattle.file_writing.specs.Writing.{Wrote}
 use Rattle.file_writing.proofs.WroteLaws.{wrote-then, wrote-none}
 use Rattle.file_reader.proofs.CallerLaws.{refused-read, refused-most, accepted-file, accepted-read, accepted-at, accepted-placed}
+use Rattle.file_loading.proofs.LoadSteps.{fields-length}
 use Rattle.rule_match.specs.declared.Rules.{Rules}
 use Rattle.rule_match.specs.Held.{rulesOf}
 use Rattle.rule_match.specs.Held.{itemAt}
 use Rattle.find_sets.specs.Kept.{Keeps}
-use Rattle.find_candidates.specs.Tests.{testsOf, testsIn}
+use Rattle.find_candidates.specs.Tests.{testsOf, testsIn, tooLong}
 use Rattle.find_sets.proofs.KeepLaws.{keeps-short, keeps-same, keeps-long}
 use Rattle.find_laws.proofs.ChosenLaws.{some-chosen}
 use Rattle.find_choice.specs.Choice.{choiceCode}
-use Rattle.find_call.specs.Finder.{fieldLength, foundLength, found, over, wrote, findAmong, findIn, findOf, findLeaves, foundCoded}
+use Rattle.find_call.specs.Finder.{fieldLength, foundLength, longBelow, found, over, wrote, findAmong, findIn, findOf, findLeaves, foundCoded}
 
 -- ---- put_rule
 
@@ -129,6 +131,57 @@ module _ (tests : List Test) (cands : Rules) (buffer : List ℕ) (k : Keeps (can
         let held : set .count ≡ length (rulesOf set) = sym (length-take-le (set .count) (set .items) (omega arith)) in
         rw (among-few tests short buffer, o, ← same, ← q, p) (ap (λ (n : ℕ). findLeaves n (over (ruleFields (rulesOf set)) buffer)) held)
 
+-- ---- too_long
+
+module _ (extents : List Extent) (n i : ℕ) where
+  pub long-none : longBelow extents 0 ≡ false
+  unfolding longBelow anyBelow
+  long-none = refl
+
+  pub long-found : i < n → mostFound < extentOf extents i .main → true ≡ longBelow extents n
+  unfolding longBelow
+  long-found h l = sym (anyBelow-intro (λ k. ltb mostFound (extentOf extents k .main)) n i h (lt-ltb mostFound (extentOf extents i .main) l))
+
+  pub long-more : longBelow extents i ≡ false → extentOf extents i .main ≤ mostFound → longBelow extents (i + 1) ≡ false
+  unfolding longBelow anyBelow
+  long-more p l = rw (add-one i, p, le-ltb mostFound (extentOf extents i .main) l)
+
+  pub long-all : i ≤ n → n ≤ i → longBelow extents i ≡ false → false ≡ longBelow extents n
+  long-all h k p = let z : i ≡ n = omega arith in sym (rw z at p)
+
+main-length : (s : List ℕ) (e : Extent) → length (testAt s e .main) ≡ e .main
+unfolding testAt
+main-length s e = fields-length writeField s (mainPlace s e) (e .main)
+
+-- the extents tell how many main writes the tests have
+long-tests : (s : List ℕ) (tests : List Test) (extents : List Extent) (n : ℕ) → Placed s tests extents n → longBelow extents n ≡ tooLong tests
+unfolding longBelow tooLong
+long-tests s tests extents n placed =
+    bool-equal (anyBelow p n) (any q tests)
+    (λ e.
+    let (i, h, l) = anyBelow-true p n e in
+    any-intro q (index-mem tests i noTest (inside i h) refl) (same i h ∙ l))
+    (λ e.
+    let (t, m, l) = any-true q tests e in
+    let (i, h, g) = mem-index m noTest in
+    let k = within i h in
+    anyBelow-intro p n i k (sym (same i k) ∙ ap q g ∙ l))
+  where
+    p : ℕ → Bool
+    p i = ltb mostFound (extentOf extents i .main)
+
+    q : Test → Bool
+    q t = ltb mostFound (length (t .main))
+
+    inside : (i : ℕ) → i < n → i < length tests
+    inside i h = let c = placed .count in omega arith
+
+    within : (i : ℕ) → i < length tests → i < n
+    within i h = let c = placed .count in omega arith
+
+    same : (i : ℕ) → i < n → q (getD tests i noTest) ≡ p i
+    same i h = ap q (placed .each i h) ∙ ap (ltb mostFound) (main-length s (extentOf extents i))
+
 -- ---- find
 
 module _ (s buffer : List ℕ) (x : Scan) (ts : List Extent) (g : ScansTo (scanOf s) x ts) where
@@ -148,23 +201,36 @@ module _ (s buffer : List ℕ) (x : Scan) (ts : List Extent) (g : ScansTo (scanO
     pub find-placed : Placed s (testsIn s) ts n
     find-placed = rw same-tests (accepted-placed s x ts g rules n e)
 
+    pub find-few : n ≤ mostTests
+    find-few = find-placed .most
+
     rules-count : length (accepted-file s x ts g rules n e .rules) ≡ rules
-    rules-count = ap length (accepted-at s x ts g rules n e) ∙ (unfold fieldsAt in length-tabulate (λ i. ruleField s (fieldPlace s 0 i)) rules)
+    rules-count = ap length (accepted-at s x ts g rules n e) ∙ fields-length ruleField s 0 rules
 
     -- what is left once the file is read
     reads : foundCoded (findOf s buffer)
-        ≡ foundCoded (cond (ltb 0 rules) (found (refused 10 0) buffer) (cond (ltb (length buffer) foundLength) (found (refused 12 0) buffer) (findAmong (testsIn s) buffer)))
+        ≡ foundCoded (cond (ltb 0 rules) (found (refused 10 0) buffer) (cond (tooLong (testsIn s)) (found (refused 24 0) buffer) (cond (ltb (length buffer) foundLength) (found (refused 12 0) buffer) (findAmong (testsIn s) buffer))))
     unfolding findOf findIn
     reads = rw (same-tests, accepted-read s x ts g rules n e, rules-count)
+
+    long-is : (b : Bool) → b ≡ longBelow ts n → b ≡ tooLong (testsIn s)
+    long-is b q = q ∙ long-tests s (testsIn s) ts n find-placed
+
+    pub find-long : (b : Bool) (r : ℕ) → rules ≤ 0 → b ≡ longBelow ts n → b ≡ true → r ≡ refusal 24 0 → findLeaves r buffer ≡ foundCoded (findOf s buffer)
+    unfolding foundCoded coded
+    find-long b r h q l z = rw z (sym (reads ∙ rw (le-ltb 0 rules h, ← long-is b q, l)))
+
+    pub none-long : (b : Bool) → b ≡ longBelow ts n → b ≡ false → tooLong (testsIn s) ≡ false
+    none-long b q l = sym (long-is b q) ∙ l
 
     pub find-rules : (r : ℕ) → 0 < rules → r ≡ refusal 10 0 → findLeaves r buffer ≡ foundCoded (findOf s buffer)
     unfolding foundCoded coded
     find-rules r h q = rw q (sym (reads ∙ rw (lt-ltb 0 rules h)))
 
-    pub find-short : (r : ℕ) → rules ≤ 0 → length buffer < foundLength → r ≡ refusal 12 0 → findLeaves r buffer ≡ foundCoded (findOf s buffer)
+    pub find-short : (b : Bool) (r : ℕ) → rules ≤ 0 → b ≡ longBelow ts n → b ≡ false → length buffer < foundLength → r ≡ refusal 12 0 → findLeaves r buffer ≡ foundCoded (findOf s buffer)
     unfolding foundCoded coded
-    find-short r h l q = rw q (sym (reads ∙ rw (le-ltb 0 rules h, lt-ltb (length buffer) foundLength l)))
+    find-short b r h q k l z = rw z (sym (reads ∙ rw (le-ltb 0 rules h, none-long b q k, lt-ltb (length buffer) foundLength l)))
 
-    pub find-done : (r : ℕ) (new : List ℕ) → rules ≤ 0 → foundLength ≤ length buffer → findLeaves r new ≡ foundCoded (findAmong (testsIn s) buffer)
+    pub find-done : (b : Bool) (r : ℕ) (new : List ℕ) → rules ≤ 0 → b ≡ longBelow ts n → b ≡ false → foundLength ≤ length buffer → findLeaves r new ≡ foundCoded (findAmong (testsIn s) buffer)
         → findLeaves r new ≡ foundCoded (findOf s buffer)
-    find-done r new h l q = q ∙ sym (reads ∙ rw (le-ltb 0 rules h, le-ltb (length buffer) foundLength l))
+    find-done b r new h q k l z = z ∙ sym (reads ∙ rw (le-ltb 0 rules h, none-long b q k, le-ltb (length buffer) foundLength l))

@@ -1,13 +1,16 @@
--- The finder's answers and its 13 are right for all files: by the cases of `findOf`, and by what is chosen among the candidates.
+-- The finder's answers, its 13 and its 24 are right for all files: by the cases of `findOf`, and by what is chosen among the candidates.
 use mathlib.Core.Path.{_≡_, refl, sym, ap}
 use mathlib.Core.Bool.{Bool, true, false, cond, false≢true}
-use mathlib.Core.List.{List}
+use mathlib.Core.List.{List, [], _∷_, List·Memᴰ}
 use mathlib.Core.Option.{Option, none, some}
-use Prim.Native.Nat.{ℕ}
+use Prim.Native.Nat.{ℕ, _<_}
 use native.Mathlib.Omega.{arith}
 use lib.Dec.{ltb}
 use lib.ListN.{length}
-use Rattle.model.specs.Limits.{mostCandidates}
+use borrow.Author.Tests.{lt-ltb, ltb-true, ltb-false}
+use Rattle.relation.specs.Lists.{any}
+use Rattle.relation.proofs.ListLaws.{any-true, any-intro}
+use Rattle.model.specs.Limits.{mostFound, mostCandidates}
 use Rattle.model.specs.declared.Rule.{Rule}
 use Rattle.model.specs.Answer.{Outcome, answer, refused}
 use Rattle.model.specs.Test.{Test, File}
@@ -15,10 +18,11 @@ use Rattle.model.specs.Find.{Candidates, NoneSuffices, Fewest, picked, Chosen, 
 use Rattle.file_format.specs.Encode.{ruleFields}
 use Rattle.file_format.specs.File.{readOf}
 use Rattle.file_reader.proofs.CallerLaws.{refused-limits}
+use Rattle.find_candidates.specs.Tests.{tooLong}
 use Rattle.find_laws.proofs.CandidateLaws.{collected}
 use Rattle.find_laws.proofs.ChosenLaws.{given, refused as unmet}
 use Rattle.find_call.specs.Finder.{foundLength, Found, found, over, wrote, findAmong, findIn, findOf}
-use Rattle.find_call.specs.Theorem.{FindsSmallest, Wanting, RefusalLeaves}
+use Rattle.find_call.specs.Theorem.{FindsSmallest, Wanting, HasLongTest, LongRefused, LongAnyBuffer, RefusalLeaves}
 
 -- ---- outcomes told apart
 
@@ -84,8 +88,78 @@ right-file : (f : File) (buffer : List ℕ) → Right (f .tests) buffer (findIn 
 unfolding findIn
 right-file f buffer =
     right-cond (f .tests) buffer (ltb 0 (length (f .rules))) _ _ (other (f .tests) buffer 10 (λ (e : 10 ≡ 13). absurd (omega arith)))
+    (right-cond (f .tests) buffer (tooLong (f .tests)) _ _ (other (f .tests) buffer 24 (λ (e : 24 ≡ 13). absurd (omega arith)))
     (right-cond (f .tests) buffer (ltb (length buffer) foundLength) _ _ (other (f .tests) buffer 12 (λ (e : 12 ≡ 13). absurd (omega arith)))
-    (right-among (f .tests) buffer))
+    (right-among (f .tests) buffer)))
+
+-- ---- 24
+
+-- a refusal's number and place; an answer has none
+unfoldable numberOf : Outcome ℕ → ℕ
+numberOf (answer n) = 0
+numberOf (refused number place) = number
+
+unfoldable placeOf : Outcome ℕ → ℕ
+placeOf (answer n) = 0
+placeOf (refused number place) = place
+
+-- an outcome that is not 24
+abbrev Not24 : Found → Type 0
+Not24 r = numberOf (r .outcome) ≡ 24 → ⊥
+
+not24-cond : (b : Bool) (x y : Found) → Not24 x → Not24 y → Not24 (cond b x y)
+not24-cond true x y p q = p
+not24-cond false x y p q = q
+
+not24-refused : (number : ℕ) (buffer : List ℕ) → (number ≡ 24 → ⊥) → Not24 (found (refused number 0) buffer)
+unfolding numberOf
+not24-refused number buffer d = d
+
+not24-wrote : (candidates : List Rule) (o : Option ℕ) (buffer : List ℕ) → Not24 (wrote candidates o buffer)
+unfolding wrote numberOf
+not24-wrote candidates none buffer = not24-refused 13 buffer (λ (e : _≡_ {A = ℕ} 13 24). absurd (omega arith))
+not24-wrote candidates (some m) buffer = λ (e : _≡_ {A = ℕ} 0 24). absurd (omega arith)
+
+-- finding among the candidates does not report it
+not24-among : (tests : List Test) (buffer : List ℕ) → Not24 (findAmong tests buffer)
+unfolding findAmong
+not24-among tests buffer =
+    not24-cond (ltb mostCandidates (length (candidatesOf tests))) _ _ (not24-refused 11 buffer (λ (e : 11 ≡ 24). absurd (omega arith)))
+    (not24-wrote (candidatesOf tests) (chosen tests (candidatesOf tests)) buffer)
+
+no-rules : (l : List Rule) → ltb 0 (length l) ≡ false → l ≡ []
+no-rules [] e = refl
+no-rules (r ∷ rs) e = let h = ltb-false 0 (length (r ∷ rs)) e in absurd (omega arith)
+
+long-member : (tests : List Test) → tooLong tests ≡ true → (t : Test) × List·Memᴰ t tests × (mostFound < length (t .main))
+unfolding tooLong
+long-member tests e =
+    let (t, m, l) = any-true (λ (t : Test). ltb mostFound (length (t .main))) tests e in
+    (t, m, ltb-true mostFound (length (t .main)) l)
+
+member-long : (tests : List Test) (t : Test) → List·Memᴰ t tests → mostFound < length (t .main) → tooLong tests ≡ true
+unfolding tooLong
+member-long tests t m l = any-intro (λ (t : Test). ltb mostFound (length (t .main))) m (lt-ltb mostFound (length (t .main)) l)
+
+long-file : (f : File) (buffer : List ℕ) (place : ℕ) → findIn (answer f) buffer .outcome ≡ refused 24 place → (place ≡ 0) × HasLongTest f
+unfolding findIn
+long-file f buffer place = go (ltb 0 (length (f .rules))) (tooLong (f .tests)) refl refl
+  where
+    rest : Found
+    rest = cond (ltb (length buffer) foundLength) (found (refused 12 0) buffer) (findAmong (f .tests) buffer)
+
+    other-rest : Not24 rest
+    other-rest = not24-cond (ltb (length buffer) foundLength) _ _ (not24-refused 12 buffer (λ (e : 12 ≡ 24). absurd (omega arith))) (not24-among (f .tests) buffer)
+
+    go : (a b : Bool) → ltb 0 (length (f .rules)) ≡ a → tooLong (f .tests) ≡ b
+        → cond a (found (refused 10 0) buffer) (cond b (found (refused 24 0) buffer) rest) .outcome ≡ refused 24 place → (place ≡ 0) × HasLongTest f
+    go true b p l q = absurd (not24-refused 10 buffer (λ (e : 10 ≡ 24). absurd (omega arith)) (unfold numberOf in ap numberOf q))
+    go false true p l q = let (t, m, h) = long-member (f .tests) l in (unfold placeOf in sym (ap placeOf q), (no-rules (f .rules) p, t, m, h))
+    go false false p l q = absurd (other-rest (unfold numberOf in ap numberOf q))
+
+file-long : (f : File) (buffer : List ℕ) → HasLongTest f → findIn (answer f) buffer .outcome ≡ refused 24 0
+unfolding findIn
+file-long f buffer (e, t, m, l) = rw (e, member-long (f .tests) t m l)
 
 -- ---- all files
 
@@ -118,6 +192,23 @@ wanting s buffer place = go (readOf s) refl
         let z : number ≡ 13 = unfold findIn valueOf in ap valueOf q in
         absurd (omega arith)
     go (answer f) e q = (f, refl, right-file f buffer .wanting place q)
+
+pub long-refused : LongRefused
+unfolding findOf
+long-refused s buffer place = (go (readOf s) refl, back (readOf s))
+  where
+    go : (o : Outcome File) → readOf s ≡ o → findIn o buffer .outcome ≡ refused 24 place → (place ≡ 0) × (f : File) × (o ≡ answer f) × HasLongTest f
+    go (refused number at) e q =
+        let h = refused-limits s number at e .1 in
+        let z : number ≡ 24 = unfold findIn numberOf in ap numberOf q in
+        absurd (omega arith)
+    go (answer f) e q = let (z, h) = long-file f buffer place q in (z, f, refl, h)
+
+    back : (o : Outcome File) → (place ≡ 0) × (f : File) × (o ≡ answer f) × HasLongTest f → findIn o buffer .outcome ≡ refused 24 place
+    back o (z, f, e, h) = rw (e, z) (file-long f buffer h)
+
+pub long-any-buffer : LongAnyBuffer
+long-any-buffer s buffer other place q = long-refused s other place .1 (long-refused s buffer place .0 q)
 
 pub refusal-leaves : RefusalLeaves
 unfolding findOf

@@ -1,17 +1,21 @@
 -- Finding rules for a file's tests.
 use Prim.Native.Nat.{ℕ, _+_, _*_}
-use mathlib.Core.Bool.{cond}
+use mathlib.Core.Bool.{Bool, cond}
 use mathlib.Core.List.{List, _++_}
 use mathlib.Core.Option.{Option, none, some}
 use lib.Dec.{ltb}
 use lib.ListN.{length, drop}
-use Rattle.model.specs.Limits.{mostCandidates}
+use Rattle.relation.specs.Lists.{anyBelow}
+use Rattle.model.specs.Limits.{mostFound, mostCandidates}
 use Rattle.model.specs.declared.Rule.{Rule}
 use Rattle.model.specs.Answer.{Outcome, answer, refused, coded}
 use Rattle.model.specs.Test.{Test, File}
 use Rattle.model.specs.Find.{candidatesOf, picked, chosen}
+use Rattle.file_format.specs.declared.Extent.{Extent}
 use Rattle.file_format.specs.Encode.{ruleFields}
 use Rattle.file_format.specs.File.{headLength, ruleLength, readOf}
+use Rattle.file_format.specs.Held.{extentOf}
+use Rattle.find_candidates.specs.Tests.{tooLong}
 
 -- the most bytes of a rule's field, and those that a buffer has to have: room for all candidates
 abbrev pub fieldLength : ℕ
@@ -45,17 +49,22 @@ findAmong tests buffer =
     let done = wrote candidates choice buffer in
     cond (ltb mostCandidates (length candidates)) (found (refused 11 0) buffer) done
 
--- 10 file has rules; 12 buffer without room for all candidates
+-- 10 file has rules; 24 (02, [8]) a test with more main writes than finding takes; 12 buffer without room for all candidates
 unfoldable pub findIn : Outcome File → List ℕ → Found
 findIn (refused number place) buffer = found (refused number place) buffer
 findIn (answer f) buffer =
     let done = findAmong (f .tests) buffer in
     cond (ltb 0 (length (f .rules))) (found (refused 10 0) buffer)
+    (cond (tooLong (f .tests)) (found (refused 24 0) buffer)
     (cond (ltb (length buffer) foundLength) (found (refused 12 0) buffer)
-    done)
+    done))
 
 unfoldable pub findOf : List ℕ → List ℕ → Found
 findOf s buffer = findIn (readOf s) buffer
+
+-- one of the tests at the first n extents of an array has more main writes than finding takes
+unfoldable pub longBelow : List Extent → ℕ → Bool
+longBelow extents n = anyBelow (λ i. ltb mostFound (extentOf extents i .main)) n
 
 -- what a call leaves, its outcome as one number
 pub record Coded : Type 0 where

@@ -1,11 +1,13 @@
 -- The theorems of the finder, about all files and buffers.
-use Prim.Native.Nat.{ℕ}
+use Prim.Native.Nat.{ℕ, _<_}
 use mathlib.Core.Path.{_≡_}
-use mathlib.Core.List.{List}
+use mathlib.Core.Logic.{_↔_}
+use mathlib.Core.List.{List, [], List·Memᴰ}
 use lib.ListN.{length}
+use Rattle.model.specs.Limits.{mostFound}
 use Rattle.model.specs.declared.Rule.{Rule}
 use Rattle.model.specs.Answer.{answer, refused}
-use Rattle.model.specs.Test.{File}
+use Rattle.model.specs.Test.{Test, File}
 use Rattle.model.specs.Find.{Candidates, NoneSuffices, Fewest, picked, Chosen}
 use Rattle.file_format.specs.Encode.{ruleFields}
 use Rattle.file_format.specs.File.{readOf}
@@ -30,6 +32,18 @@ FindsSmallest =
 -- 13 is reported only if no acyclic set of any rules makes all tests of the file hold
 abbrev pub Wanting : Type 0
 Wanting = (s buffer : List ℕ) (place : ℕ) → findOf s buffer .outcome ≡ refused 13 place → (f : File) × (readOf s ≡ answer f) × NoneSuffices (f .tests)
+
+-- a file without rules, one of whose tests has more main writes than finding takes
+abbrev pub HasLongTest : File → Type 0
+HasLongTest f = (f .rules ≡ []) × (t : Test) × List·Memᴰ t (f .tests) × (mostFound < length (t .main))
+
+-- 24 is reported exactly if such a file is read, and at place 0: neither the buffer nor the candidates are asked (02, [8])
+abbrev pub LongRefused : Type 0
+LongRefused = (s buffer : List ℕ) (place : ℕ) → findOf s buffer .outcome ≡ refused 24 place ↔ ((place ≡ 0) × (f : File) × (readOf s ≡ answer f) × HasLongTest f)
+
+-- so if it is reported with one buffer, then with every other
+abbrev pub LongAnyBuffer : Type 0
+LongAnyBuffer = (s buffer other : List ℕ) (place : ℕ) → findOf s buffer .outcome ≡ refused 24 place → findOf s other .outcome ≡ refused 24 place
 
 -- a refusal leaves the buffer
 abbrev pub RefusalLeaves : Type 0

@@ -4,27 +4,44 @@ use file_format::Scan;
 use model::Rule;
 use rule_match::Rules;
 ghost use mathlib.Core.Path.{_≡_};
+ghost use mathlib.Core.Bool.{false};
 ghost use Prim.Native.Nat.{_+_, _≤_};
 ghost use lib.ListN.{length};
-ghost use Rattle.model.specs.Limits.{mostCandidates};
+ghost use Rattle.model.specs.Limits.{mostTests, mostCandidates};
 ghost use Rattle.model.specs.Find.{chosen};
 ghost use Rattle.file_format.specs.Bytes.{ruleBytes};
 ghost use Rattle.file_format.specs.Encode.{fieldBytes, ruleFields};
 ghost use Rattle.file_format.specs.Held.{Placed};
 ghost use Rattle.file_writing.specs.Writing.{Wrote};
 ghost use Rattle.rule_match.specs.Held.{rulesOf};
-ghost use Rattle.find_candidates.specs.Tests.{testsIn};
+ghost use Rattle.find_candidates.specs.Tests.{testsIn, tooLong};
 ghost use Rattle.find_choice.specs.Choice.{choiceCode};
-ghost use Rattle.find_call.specs.Finder.{fieldLength, foundLength, over, findLeaves, foundCoded, findAmong, findOf};
+ghost use Rattle.find_call.specs.Finder.{fieldLength, foundLength, longBelow, over, findLeaves, foundCoded, findAmong, findOf};
 
 // The most bytes of a rule's field, and those that a buffer has to have.
 const FIELD_LENGTH: usize = file_format::HEAD_LENGTH + file_format::RULE_LENGTH;
 
 const FOUND_LENGTH: usize = model::MOST_CANDIDATES * FIELD_LENGTH;
 
-// The choice among the candidates of a file.
+// Whether one of the first n tests has more main writes than finding takes.
+fn too_long(tests: [Extent; model::MOST_TESTS], n: usize) -> bool
+    requires { ⌜ n ≤ mostTests ⌝ }
+    ensures { λ r. ⌜ r ≡ longBelow tests n ⌝ }
+{
+    let mut i: usize = 0;
+    while i < n {
+        let e = tests[i];
+        if model::MOST_FOUND < e.main {
+            return true;
+        }
+        i += 1;
+    }
+    false
+}
+
+// The choice among the candidates of a file, none of whose tests is too long.
 fn choice(cands: Rules, file: &[u8], tests: [Extent; model::MOST_TESTS], n: usize) -> u64
-    requires { ⌜ (cands .count ≤ mostCandidates) × Placed (now file) (testsIn (now file)) tests n ⌝ }
+    requires { ⌜ (cands .count ≤ mostCandidates) × (Placed (now file) (testsIn (now file)) tests n × (tooLong (testsIn (now file)) ≡ false)) ⌝ }
     ensures { λ r. ⌜ r ≡ choiceCode (chosen (testsIn (now (file .entry))) (rulesOf cands)) ⌝ }
 {
     let mut table = [0u64; find_table::SET_WORDS];
@@ -59,9 +76,10 @@ fn put_rules(buffer: &mut [u8], set: Rules)
     }
 }
 
-// Finds rules for the tests of a file without rules: 11, 13, or how many rules stand in the buffer.
+// Finds rules for the tests of a file without rules, none of which is too long: 11, 13, or how many
+// rules stand in the buffer.
 fn find_among(file: &[u8], tests: [Extent; model::MOST_TESTS], n: usize, buffer: &mut [u8]) -> u64
-    requires { ⌜ Placed (now file) (testsIn (now file)) tests n × (foundLength ≤ length (now buffer)) ⌝ }
+    requires { ⌜ (Placed (now file) (testsIn (now file)) tests n × (tooLong (testsIn (now file)) ≡ false)) × (foundLength ≤ length (now buffer)) ⌝ }
     ensures { λ r. ⌜ findLeaves r (now (buffer .exit)) ≡ foundCoded (findAmong (testsIn (now (file .entry))) (now (buffer .entry))) ⌝ }
 {
     let cands = find_candidates::collect(file, tests, n);
@@ -89,6 +107,9 @@ pub fn find(file: &[u8], buffer: &mut [u8]) -> u64
         Scan::Accepted { rules, tests: n } => {
             if 0 < rules {
                 return model::refuse(10, 0);
+            }
+            if too_long(tests, n) {
+                return model::refuse(24, 0);
             }
             if buffer.len() < FOUND_LENGTH {
                 return model::refuse(12, 0);

@@ -1,10 +1,12 @@
 -- The tests of a file, and the candidate of two writes.
 use Prim.Native.Nat.{ℕ}
-use mathlib.Core.Bool.{cond}
+use mathlib.Core.Bool.{Bool, cond}
 use mathlib.Core.Path.{_≡_}
 use mathlib.Core.List.{List, []}
-use lib.Dec.{eqb}
+use lib.Dec.{eqb, ltb}
 use lib.ListN.{length}
+use Rattle.relation.specs.Lists.{any}
+use Rattle.model.specs.Limits.{mostFound}
 use Rattle.model.specs.declared.Rule.{Rule}
 use Rattle.model.specs.declared.Write.{Write}
 use Rattle.model.specs.Answer.{Outcome, answer, refused}
@@ -35,3 +37,7 @@ testsOf (refused number place) = []
 
 unfoldable pub testsIn : List ℕ → List Test
 testsIn s = testsOf (readOf s)
+
+-- one of them has more main writes than finding takes (02, [8])
+unfoldable pub tooLong : List Test → Bool
+tooLong tests = any (λ t. ltb mostFound (length (t .main))) tests

@@ -64,14 +64,7 @@ module _ (n : ℕ) (h : n < mostFound) where
   pub half-most : 1 * 2 ^ n % 18446744073709551616 ≤ halfSchedules
   half-most = rw power-half (pow-mono {i = n} {j = mostFound - 1} (omega arith))
 
--- ---- with_if, matching
-
-module _ (b : Bool) (mask i : ℕ) where
-  pub with-yes : (r : ℕ) → b ≡ true → r ≡ withBit mask i → r ≡ cond b (withBit mask i) mask
-  with-yes r t q = rw t q
-
-  pub with-no : b ≡ false → mask ≡ cond b (withBit mask i) mask
-  with-no f = rw f
+-- ---- matching
 
 pub matching-none : (cs : List Rule) (l m : Label) → 0 ≡ matching cs l m 0
 unfolding matching maskOf

@@ -8,15 +8,15 @@ use native.Mathlib.Nat.{mod-lt, mul-zero, add-zero, zero-add, mul-suc, mul-comm,
 use native.Mathlib.Numerals.{add-one}
 use native.Mathlib.Omega.{arith}
 use lib.Bits.{bitAnd, bitOr}
-use lib.Dec.{eqb, lit<}
+use lib.Dec.{eqb, ltb, lit<}
 use lib.ListN.{length, getD, take, drop, set, length-set, replicate, getD-replicate, drop-of-length-le}
 use lib.Pow.{pow-lt, pow-mono, pow-add, pow-pos, split, shr-lt}
 use lib.Seq.{getD-set-same, getD-set-other, drop-cons, length-take-le}
-use borrow.Author.Tests.{eq-eqb, ne-eqb, eqb-true, eqb-false, lt-ltb}
+use borrow.Author.Tests.{eq-eqb, ne-eqb, eqb-true, eqb-false, lt-ltb, ltb-false}
 use Rattle.relation.specs.Bits.{bit, withBit, maskOf}
 use Rattle.relation.specs.Lists.{any}
 use Rattle.relation.proofs.BitLaws.{power-is, bit-zero, bit-or, bit-and, bit-with, bit-mask, bit-mod, bit-shift, with-below, with-most, parts-below}
-use Rattle.relation.proofs.ListLaws.{below-suc, bool-equal, or-cases, or-left, or-right, and-left, and-right, and-intro, anyBelow-true, anyBelow-intro}
+use Rattle.relation.proofs.ListLaws.{below-suc, bool-equal, or-cases, or-left, or-right, and-left, and-right, and-intro, anyBelow-true, anyBelow-intro, any-false, index-mem}
 use Rattle.model.specs.Limits.{mostRules, mostTests, mostCandidates, candidateSets, mostFound, foundSchedules}
 use Rattle.model.specs.declared.Rule.{Rule}
 use Rattle.model.specs.declared.Write.{Write}
@@ -34,7 +34,7 @@ use Rattle.judge_disks.proofs.DiskSteps.{stores-run, run-parts}
 use Rattle.judge_loading.specs.declared.Loaded.{Loaded}
 use Rattle.judge_loading.specs.Loaded.{LoadsTest, LoadsChecks}
 use Rattle.find_laws.specs.Hit.{allowed, marks, marked, spread}
-use Rattle.find_candidates.specs.Tests.{testsIn}
+use Rattle.find_candidates.specs.Tests.{testsIn, tooLong}
 use Rattle.find_table.specs.Table.{setWords, wordsOf, markAt, pairs, Forbids, Sets, Bounded, spoils, setOf, setAfter, Adds, Joins, Blank, Shows, lacking, Lowered, Spreads}
 use Rattle.find_table.proofs.ForbidLaws.{power, sets-made, sets-bounded, sets-are}
 
@@ -278,12 +278,12 @@ module _ (cands : Rules) (s : List ℕ) (e : Extent) (test : Loaded) (checks : L
         fails : (i : ℕ) → spoils (take (test .checks) checks) (heldFrom (test .stores) 0 (near + far)) (test .base) i ≡ not (consistent (t .checks) (run (t .main) i (initialDisk t)))
         fails i = rw (z, ← el .checks, ec, stores-run (test .stores) (t .main) (test .main) i (test .base) (el .stores) (el .main), el .base)
 
--- a test of a file has no more main writes than the finder takes
-pub test-few : (t : Test) (test : Loaded) → LoadsTest t test → test .main ≤ mostFound
-test-few t test l = l .main-most
+-- a test that is not too long, as it is loaded
+pub test-few : (t : Test) (test : Loaded) → LoadsTest t test → length (t .main) ≤ mostFound → test .main ≤ mostFound
+test-few t test l h = rw (← l .main) h
 
-pub halves-few : (t : Test) (test : Loaded) (n : ℕ) → LoadsTest t test → n ≡ test .main → n / 2 + (n - n / 2) ≤ mostFound
-halves-few t test n l e = let m = test-few t test l in omega arith
+pub halves-few : (t : Test) (test : Loaded) (n : ℕ) → LoadsTest t test → length (t .main) ≤ mostFound → n ≡ test .main → n / 2 + (n - n / 2) ≤ mostFound
+halves-few t test n l h e = let m = test-few t test l h in omega arith
 
 pub halves-are : (n : ℕ) → n / 2 + (n - n / 2) ≡ n
 halves-are n = omega arith
@@ -292,6 +292,15 @@ pub all-is : (n : ℕ) → n ≤ mostCandidates → 1 * 2 ^ n % 1844674407370955
 all-is n h = rw (power n h)
 
 -- ---- all tests
+
+-- where none is too long, test t is not
+pub test-short : (s : List ℕ) (extents : List Extent) (many t : ℕ) → Placed s (testsIn s) extents many → tooLong (testsIn s) ≡ false → t < many
+    → length (testAt s (extentOf extents t) .main) ≤ mostFound
+unfolding tooLong
+test-short s extents many t placed e h =
+    let m = placed .count in
+    let f = any-false (λ (t : Test). ltb mostFound (length (t .main))) e (getD (testsIn s) t noTest) (index-mem (testsIn s) t noTest (omega arith) refl) in
+    rw (← placed .each t h) (ltb-false mostFound (length (getD (testsIn s) t noTest .main)) f)
 
 -- the sets of the tests from t on are marked
 pub record Marking (cs : List Rule) (s : List ℕ) (t : ℕ) (l : List ℕ) : Type 0 where

@@ -4,7 +4,7 @@ use file_format::Extent;
 use model::Check;
 use rule_match::Rules;
 ghost use mathlib.Core.Path.{_≡_};
-ghost use mathlib.Core.Bool.{cond};
+ghost use mathlib.Core.Bool.{false, cond};
 ghost use Prim.Native.Nat.{_+_, _/_, _%_, _^_, _<_, _≤_};
 ghost use lib.ListN.{length, take, set, getD};
 ghost use Rattle.relation.specs.Bits.{withBit};
@@ -14,7 +14,7 @@ ghost use Rattle.file_format.specs.Held.{Inside, Placed};
 ghost use Rattle.rule_match.specs.Held.{rulesOf};
 ghost use Rattle.judge_disks.specs.Packed.{labelled, heldFrom};
 ghost use Rattle.find_laws.specs.Hit.{marks, marked};
-ghost use Rattle.find_candidates.specs.Tests.{testsIn};
+ghost use Rattle.find_candidates.specs.Tests.{testsIn, tooLong};
 ghost use Rattle.find_table.specs.Table.{setWords, matching, pairs, Facing, Widened, Forbids, Bounded, spoils, setOf, setAfter, Adds, Joins, Blank, Shows, lacking, Lowered, Spreads};
 
 // The words of a table with a bit for each set.
@@ -22,17 +22,6 @@ pub const SET_WORDS: usize = model::CANDIDATE_SETS / 64;
 
 // The most schedules of all writes of a test but the last.
 const HALF_SCHEDULES: usize = model::FOUND_SCHEDULES / 2;
-
-// mask, with bit i set if asked for.
-fn with_if(mask: u64, i: usize, on: bool) -> u64
-    requires { ⌜ i < 64 ⌝ }
-    ensures { λ r. ⌜ r ≡ cond on (withBit mask i) mask ⌝ }
-{
-    if on {
-        return relation::with_bit(mask, i);
-    }
-    mask
-}
 
 // The candidates that match two labels.
 fn matching(cands: Rules, one: u64, other: u64) -> u64
@@ -46,7 +35,7 @@ fn matching(cands: Rules, one: u64, other: u64) -> u64
     let mut mask: u64 = 0;
     let mut c: usize = 0;
     while c < cands.count {
-        mask = with_if(mask, c, rule_match::matches(cands.items[c], n, t, m, u));
+        mask = relation::with_if(mask, c, rule_match::matches(cands.items[c], n, t, m, u));
         c += 1;
     }
     mask
@@ -194,7 +183,7 @@ fn mark_by(
 
 // Marks the sets of all inconsistent schedules of a test.
 fn mark_test(table: &mut [u64], cands: Rules, file: &[u8], e: Extent)
-    requires { ⌜ (length (now table) ≡ setWords) × ((cands .count ≤ mostCandidates) × Inside (now file) e) ⌝ }
+    requires { ⌜ (length (now table) ≡ setWords) × ((cands .count ≤ mostCandidates) × (Inside (now file) e × (length (testAt (now file) e .main) ≤ mostFound))) ⌝ }
     ensures { λ _. ⌜ Joins (marks (rulesOf cands) (testAt (now (file .entry)) e)) (now (table .entry)) (now (table .exit)) ⌝ }
 {
     let test = judge_loading::load_test(file, e);
@@ -220,7 +209,7 @@ fn mark_test(table: &mut [u64], cands: Rules, file: &[u8], e: Extent)
     );
 }
 
-// Marks the sets of all inconsistent schedules of all tests.
+// Marks the sets of all inconsistent schedules of all tests, none of which is too long.
 pub fn mark_all(
     table: &mut [u64],
     cands: Rules,
@@ -228,7 +217,7 @@ pub fn mark_all(
     tests: [Extent; model::MOST_TESTS],
     n: usize,
 )
-    requires { ⌜ (length (now table) ≡ setWords) × ((cands .count ≤ mostCandidates) × (Placed (now file) (testsIn (now file)) tests n × Blank (now table))) ⌝ }
+    requires { ⌜ (length (now table) ≡ setWords) × ((cands .count ≤ mostCandidates) × (Placed (now file) (testsIn (now file)) tests n × ((tooLong (testsIn (now file)) ≡ false) × Blank (now table)))) ⌝ }
     ensures { λ _. ⌜ Shows (marked (rulesOf cands) (testsIn (now (file .entry)))) (now (table .exit)) candidateSets ⌝ }
 {
     let mut t: usize = n;

@@ -7,8 +7,8 @@ use Rattle.model.specs.declared.Refusal.{Refusal}
 use Rattle.model.specs.Limits.{words, mostSchedules}
 use Rattle.model.specs.Answer.{Outcome, answer, refused, refusal}
 use Rattle.judge_counting.specs.declared.Judgement.{Judgement}
-use Rattle.judge_counting.specs.declared.Verdict.{Verdict}
-use Rattle.judge_counting.specs.declared.Verdict.the-variants.{Holds, Fails}
+use Rattle.judge_search.specs.declared.Verdict.{Verdict}
+use Rattle.judge_search.specs.declared.Verdict.the-variants.{Holds, Fails}
 use Rattle.judge_cases.specs.declared.Judged.{Judged}
 use Rattle.judge_cases.specs.declared.Judged.the-variants.{Counts}
 use Rattle.judge_cases.specs.declared.Judged.the-variants as Judged

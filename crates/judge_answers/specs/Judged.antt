@@ -3,8 +3,8 @@ use Prim.Native.Nat.{ℕ, _+_, _*_}
 use mathlib.Core.Path.{_≡_}
 use Rattle.model.specs.Answer.{Outcome, answer, refused, refusal}
 use Rattle.judge_counting.specs.declared.Judgement.{Judgement}
-use Rattle.judge_counting.specs.declared.Verdict.{Verdict}
-use Rattle.judge_counting.specs.declared.Verdict.the-variants.{Holds, Fails}
+use Rattle.judge_search.specs.declared.Verdict.{Verdict}
+use Rattle.judge_search.specs.declared.Verdict.the-variants.{Holds, Fails}
 use Rattle.judge_cases.specs.Judge.{Case, Judges, Decides}
 
 -- the count of valid schedules, from bit 21 on that of bad ones, from bit 42 on a bad one

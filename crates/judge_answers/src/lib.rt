@@ -1,7 +1,7 @@
 // The answers of judge and verdict in one number each.
 use judge_cases::Decided;
 use judge_counting::Judgement;
-use judge_counting::Verdict;
+use judge_search::Verdict;
 ghost use mathlib.Core.Path.{_≡_};
 ghost use Rattle.judge_cases.specs.Judge.{FewNumbers, FewDecided};
 ghost use Rattle.judge_answers.specs.Judged.{judgementCode, verdictCode};

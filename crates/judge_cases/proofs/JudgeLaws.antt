@@ -7,15 +7,19 @@ use native.Mathlib.Decide.{ℕ-discrete}
 use native.Mathlib.Omega.{arith}
 use lib.Pow.{pow-mono}
 use lib.Dec.{leb}
-use lib.ListN.{length, take}
+use lib.ListN.{length, getD, take}
+use lib.Seq.{getD-take}
 use borrow.Author.Needs.{needs}
 use borrow.Author.Tests.{not-true, not-false}
-use Rattle.relation.proofs.ListLaws.{allBelow-intro}
+use Rattle.relation.specs.Bits.{maskOf}
+use Rattle.relation.proofs.BitLaws.{mask-below}
+use Rattle.relation.proofs.ListLaws.{allBelow-intro, getD-tabulate}
 use Rattle.model.specs.declared.Rule.{Rule}
 use Rattle.model.specs.declared.Check.{Check}
 use Rattle.model.specs.declared.Refusal.{Refusal}
 use Rattle.model.specs.Limits.{mostRules, mostTests, mostMain, mostSchedules}
 use Rattle.model.specs.Answer.{Outcome, answer, refused}
+use Rattle.model.specs.Rules.{dependsOn}
 use Rattle.model.specs.Cyclic.{cyclic}
 use Rattle.model.specs.Schedule.{valid}
 use Rattle.model.specs.Test.{Test, File, bad, testHolds, Bad, countBelow, validCount, badCount}
@@ -29,18 +33,20 @@ use Rattle.file_format.specs.Held.{Fields, Inside, extentOf, testOf, Placed, Sc
 use Rattle.file_reader.proofs.CallerLaws.{refused-read, refused-most, accepted-rules, accepted-fields, accepted-file, accepted-read, accepted-at, accepted-placed, listed-below}
 use Rattle.rule_match.specs.declared.Rules.{Rules}
 use Rattle.rule_match.specs.Held.{rulesOf}
-use Rattle.judge_disks.specs.Packed.{heldFrom}
+use Rattle.judge_disks.specs.Packed.{labelled, heldFrom}
 use Rattle.judge_disks.proofs.DiskSteps.{stores-run}
 use Rattle.judge_loading.specs.declared.Loaded.{Loaded}
 use Rattle.judge_loading.specs.Loaded.{LoadsTest, LoadsChecks}
 use Rattle.file_loading.proofs.LoadSteps.{fields-length}
 use Rattle.judge_schedules.specs.Halves.{validRows, badRows}
-use Rattle.judge_rows.specs.Rows.{rowsFrom}
+use Rattle.judge_closed.specs.Closed.{Narrow}
+use Rattle.judge_rows.specs.Rows.{rowOf, rowsFrom}
 use Rattle.judge_rows.proofs.RowLaws.{valid-rows}
 use Rattle.judge_counting.specs.declared.Judgement.{Judgement}
-use Rattle.judge_counting.specs.declared.Verdict.{Verdict}
-use Rattle.judge_counting.specs.declared.Verdict.the-variants.{Holds, Fails}
-use Rattle.judge_counting.specs.Tally.{Finds, Tallies}
+use Rattle.judge_search.specs.declared.Verdict.{Verdict}
+use Rattle.judge_search.specs.declared.Verdict.the-variants.{Holds, Fails}
+use Rattle.judge_counting.specs.Tally.{Tallies}
+use Rattle.judge_search.specs.Search.{Finds}
 use Rattle.judge_cases.specs.declared.Cases.{Cases}
 use Rattle.judge_cases.specs.declared.Cases.the-variants.{Tests}
 use Rattle.judge_cases.specs.declared.Cases.the-variants as Cases
@@ -51,6 +57,15 @@ use Rattle.judge_cases.specs.declared.Judged.the-variants as Judged
 use Rattle.judge_cases.specs.declared.Decided.the-variants.{As}
 use Rattle.judge_cases.specs.declared.Decided.the-variants as Decided
 use Rattle.judge_cases.specs.Judge.{Case, caseOf, caseIn, caseAt, Judges, Decides, SmallRefusal, judgedFile, OpensTo, SelectsTo, Judging, Deciding, FewNumbers, Few, FewDecided}
+
+-- ---- the rows
+
+-- a row names none but the test's main writes
+pub narrow-rows : (rules : List Rule) (column rows : List ℕ) (n : ℕ) → take n rows ≡ rowsFrom rules column n n → Narrow rows n
+unfolding Narrow rowsFrom rowOf
+narrow-rows rules column rows n e i h =
+    rw (← getD-take n rows i 0 h, e, getD-tabulate (λ i. maskOf (λ j. dependsOn rules (labelled (getD column i 0)) (labelled (getD column j 0))) n) n i 0 h)
+    (mask-below (λ j. dependsOn rules (labelled (getD column i 0)) (labelled (getD column j 0))) n)
 
 -- ---- a loaded test
 
@@ -126,7 +141,7 @@ pub loaded-few : (rules : List Rule) (s : List ℕ) (e : Extent) (test : Loaded)
     → Tallies (validRows rows (test .main)) (badRows rows (test .main) (test .base) (heldFrom (test .stores) 0 (test .main)) (take (test .checks) cs)) (2 ^ test .main) j → FewNumbers j
 loaded-few rules s e test rows cs j i el er ec t = judges-few rules s e i j (judges-all rules s e test rows cs el er ec j t)
 
-pub ruleset loops = (needs, judges-all, decides-all, loaded-few)
+pub ruleset loops = (needs, narrow-rows, judges-all, decides-all, loaded-few)
 
 -- ---- a file opened
 

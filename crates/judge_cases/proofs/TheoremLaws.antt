@@ -17,8 +17,8 @@ use Rattle.rule_cyclelaws.proofs.CyclicLaws.{cyclic-exactly}
 use Rattle.file_format.specs.File.{readOf}
 use Rattle.file_reader.proofs.CallerLaws.{refused-limits, holding-limits}
 use Rattle.judge_counting.specs.declared.Judgement.{Judgement}
-use Rattle.judge_counting.specs.declared.Verdict.{Verdict}
-use Rattle.judge_counting.specs.declared.Verdict.the-variants.{Holds, Fails}
+use Rattle.judge_search.specs.declared.Verdict.{Verdict}
+use Rattle.judge_search.specs.declared.Verdict.the-variants.{Holds, Fails}
 use Rattle.judge_cases.specs.Judge.{Case, caseOf, caseIn, Judges, Decides}
 use Rattle.judge_cases.specs.Theorem.{NoSuchTest, caseOfTest, CaseFor, NumbersSay, VerdictSays, JudgedAsMeant}
 

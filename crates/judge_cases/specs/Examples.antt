@@ -10,7 +10,7 @@ use Rattle.model.specs.Cyclic.{Cyclic}
 use Rattle.model.specs.Test.{Test, test, File, file, TestHolds}
 use Rattle.rule_cyclelaws.specs.Examples.{rule}
 use Rattle.file_format.specs.File.{readOf}
-use Rattle.judge_counting.specs.declared.Verdict.the-variants.{Fails}
+use Rattle.judge_search.specs.declared.Verdict.the-variants.{Fails}
 use Rattle.judge_cases.specs.Judge.{caseIn, Judges, Decides}
 use Rattle.judge_cases.specs.Theorem.{caseOfTest}
 

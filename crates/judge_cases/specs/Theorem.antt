@@ -13,8 +13,8 @@ use Rattle.model.specs.Test.{File, schedules, TestHolds, Bad, countBelow}
 use Rattle.file_format.specs.File.{readOf}
 use Rattle.file_format.specs.Held.{testOf}
 use Rattle.judge_counting.specs.declared.Judgement.{Judgement}
-use Rattle.judge_counting.specs.declared.Verdict.{Verdict}
-use Rattle.judge_counting.specs.declared.Verdict.the-variants.{Holds, Fails}
+use Rattle.judge_search.specs.declared.Verdict.{Verdict}
+use Rattle.judge_search.specs.declared.Verdict.the-variants.{Holds, Fails}
 use Rattle.judge_cases.specs.Judge.{Case, caseIn, Judges, Decides}
 
 -- no such test: tests count from 1

@@ -3,7 +3,7 @@
 use file_format::Extent;
 use file_format::Scan;
 use judge_counting::Judgement;
-use judge_counting::Verdict;
+use judge_search::Verdict;
 use model::Refusal;
 use rule_match::Rules;
 ghost use Prim.Native.Nat.{_≤_};
@@ -77,7 +77,7 @@ fn decide_test(file: &[u8], rules: Rules, e: Extent) -> Verdict
     let labels = test.labels;
     let mut rows = [0u64; 64];
     judge_rows::fill(&mut rows, rules, &labels, test.main);
-    judge_counting::first_bad(&rows, base, &stores, test.main, checks, test.checks)
+    judge_search::first_bad(&rows, base, &stores, test.main, checks, test.checks)
 }
 
 // A file that was read, by its rules: 8 if these are cyclic.

@@ -1,3 +1,1 @@
-pub mod CountLaws
-pub mod GridLaws
-pub mod SearchLaws
+pub mod WalkLaws

@@ -1,31 +1,22 @@
--- The loops over schedules: the counts so far, and the search for a bad one.
-use Prim.Native.Nat.{ℕ, _+_, _*_, _^_, _<_}
+-- The counts over schedules.
+use Prim.Native.Nat.{ℕ, _+_, _^_, _≤_, _<_}
 use mathlib.Core.Path.{_≡_}
 use mathlib.Core.Logic.{_⊎_}
-use mathlib.Core.Bool.{Bool, true, false, cond, not, _&&_}
+use mathlib.Core.Bool.{Bool, true, not, _&&_}
 use mathlib.Core.List.{List}
-use lib.ListN.{getD}
-use Rattle.model.specs.declared.Write.{Write}
 use Rattle.model.specs.declared.Check.{Check}
-use Rattle.model.specs.Schedule.{run}
-use Rattle.model.specs.Check.{consistent}
+use Rattle.model.specs.Limits.{mostSchedules}
 use Rattle.model.specs.Test.{countBelow}
-use Rattle.judge_schedules.specs.Halves.{validBy}
+use Rattle.judge_closed.specs.Closed.{validBetween}
+use Rattle.judge_settled.specs.Settled.{allHold}
 use Rattle.judge_counting.specs.declared.Judgement.{Judgement}
-use Rattle.judge_counting.specs.declared.Verdict.{Verdict}
-use Rattle.judge_counting.specs.declared.Verdict.the-variants.{Holds, Fails}
 
--- a verdict on the numbers below n: none is bad, or a bad one
-unfoldable pub Finds : (ℕ → Bool) → ℕ → Verdict → Type 0
-Finds p n Holds = (s : ℕ) → s < n → p s ≡ false
-Finds p n (Fails s) = (s < n) × (p s ≡ true)
+-- more valid schedules in the counts, that leave consistent disks; more, that are all bad, and s one of them
+unfoldable pub withGood : Judgement → ℕ → Judgement
+withGood j many = record { valid = j .valid + many; bad = j .bad; shown = j .shown }
 
--- one more valid schedule in the counts, which leaves a consistent disk or not
-unfoldable pub tallied : Judgement → ℕ → Bool → Judgement
-tallied j s c =
-    cond c
-    (record { valid = j .valid + 1; bad = j .bad; shown = j .shown })
-    (record { valid = j .valid + 1; bad = j .bad + 1; shown = s })
+unfoldable pub withBad : Judgement → ℕ → ℕ → Judgement
+withBad j many s = record { valid = j .valid + many; bad = j .bad + many; shown = s }
 
 -- the counts over the schedules below n
 pub record Tallies (v b : ℕ → Bool) (n : ℕ) (j : Judgement) : Type 0 where
@@ -34,31 +25,20 @@ pub record Tallies (v b : ℕ → Bool) (n : ℕ) (j : Judgement) : Type 0 where
   pub shown : (j .bad ≡ 0 → ⊥) → (j .shown < n) × (b (j .shown) ≡ true)
   pub none : j .bad ≡ 0 → j .shown ≡ 0
 
--- a schedule is bad, by a test of which are valid
-unfoldable pub badBy : (ℕ → Bool) → List ℕ → List Write → List Check → ℕ → Bool
-badBy v base ws checks s = v s && not (consistent checks (run ws s base))
+-- ---- between two sets
 
--- ---- one beginning
+-- a schedule between two sets is bad: valid, and some check fails of its disk
+unfoldable pub badBetween : List ℕ → List ℕ → ℕ → List Check → List ℕ → ℕ → ℕ → ℕ → Bool
+badBetween column base n checks flags chosen free s = not (allHold column base n checks s) && validBetween flags n chosen free s
 
--- a test of the schedule that begins with x, of the writes that have `rows` schedules, and ends with y
-unfoldable pub after : (ℕ → Bool) → ℕ → ℕ → ℕ → Bool
-after p x rows y = p (x + rows * y)
+-- there is room in the counts for all valid ones
+pub record Room (flags : List ℕ) (n chosen free : ℕ) (j : Judgement) : Type 0 where
+  pub valid : j .valid + countBelow (validBetween flags n chosen free) (2 ^ n) ≤ mostSchedules
+  pub bad : j .bad + countBelow (validBetween flags n chosen free) (2 ^ n) ≤ mostSchedules
 
--- an end of a beginning x makes a valid schedule, by tables of unions, and a bad one: mid is the disk that x leaves, ws are the writes behind
-abbrev pub validEnd : List ℕ → List ℕ → ℕ → ℕ → ℕ → Bool
-validEnd low high near x = after (validBy low high near) x (2 ^ near)
-
-abbrev pub badEnd : List ℕ → List ℕ → ℕ → ℕ → List ℕ → List Write → List Check → ℕ → Bool
-badEnd low high near x mid ws checks = badBy (validEnd low high near x) mid ws checks
-
--- a test of the end at place k of a list
-unfoldable pub listed : List ℕ → (ℕ → Bool) → ℕ → Bool
-listed ends p k = p (getD ends k 0)
-
--- the counts with the schedules in them that begin with x and end with one of the first n of a list
-pub record Gains (v b : ℕ → Bool) (x rows : ℕ) (ends : List ℕ) (n : ℕ) (old new : Judgement) : Type 0 where
-  pub valid : new .valid ≡ old .valid + countBelow (listed ends v) n
-  pub bad : new .bad ≡ old .bad + countBelow (listed ends b) n
-  pub shown : (new .bad ≡ 0 → ⊥)
-      → ((old .bad ≡ 0 → ⊥) × (new .shown ≡ old .shown)) ⊎ ((k : ℕ) × (k < n) × (listed ends b k ≡ true) × (new .shown ≡ x + rows * getD ends k 0))
+-- the counts with the schedules below n in them that pass one test, and another if they are bad
+pub record Gains (v b : ℕ → Bool) (n : ℕ) (old new : Judgement) : Type 0 where
+  pub valid : new .valid ≡ old .valid + countBelow v n
+  pub bad : new .bad ≡ old .bad + countBelow b n
+  pub shown : (new .bad ≡ 0 → ⊥) → ((old .bad ≡ 0 → ⊥) × (new .shown ≡ old .shown)) ⊎ ((new .shown < n) × (b (new .shown) ≡ true))
   pub none : (old .bad ≡ 0 → old .shown ≡ 0) → new .bad ≡ 0 → new .shown ≡ 0

@@ -1,17 +1,18 @@
-// All schedules of a test counted, and the search for a bad one. Both go by halves: for each set of
-// flags that a valid schedule can begin with the disk of the first half is made once, and the ends
-// that one can have are listed once.
-use judge_schedules::HALF_SETS;
+// All schedules of a test counted. Not one by one: where what is chosen settles all checks, the valid
+// schedules between what is chosen and what may be are counted at once.
+use judge_settled::Answer;
 use model::Check;
 use model::DISK_BLOCKS;
 use model::MOST_CHECKS;
 ghost use mathlib.Core.Path.{_≡_};
-ghost use Prim.Native.Nat.{_+_, _*_, _^_, _<_, _≤_};
-ghost use lib.ListN.{length, take};
-ghost use Rattle.model.specs.Limits.{diskBlocks, mostMain, mostChecks, mostSchedules};
+ghost use Prim.Native.Nat.{_+_, _^_, _≤_};
+ghost use lib.ListN.{take};
+ghost use Rattle.model.specs.Limits.{mostMain, mostChecks, mostSchedules};
 ghost use Rattle.judge_disks.specs.Packed.{heldFrom};
-ghost use Rattle.judge_schedules.specs.Halves.{validRows, badRows, mostHalf, halfSets, validBy, mayEnd, Lists};
-ghost use Rattle.judge_counting.specs.Tally.{Finds, tallied, Tallies, badBy, validEnd, badEnd, Gains};
+ghost use Rattle.judge_schedules.specs.Halves.{validRows, badRows};
+ghost use Rattle.judge_closed.specs.Closed.{Narrow, Order, validBetween, Choice};
+ghost use Rattle.judge_settled.specs.Settled.{Says, allHold, Ready};
+ghost use Rattle.judge_counting.specs.Tally.{Tallies, withGood, withBad, badBetween, Room, Gains};
 
 // The judge's three numbers: valid schedules, bad ones, and one of these, or 0 where there is none.
 pub struct Judgement {
@@ -20,134 +21,64 @@ pub struct Judgement {
     pub shown: u64,
 }
 
-// The verdict alone.
-pub enum Verdict {
-    Holds,
-    Fails(u64),
+// More valid schedules in the counts, all of which leave consistent disks.
+fn add_good(j: Judgement, many: u64) -> Judgement
+    requires { ⌜ j .valid + many ≤ mostSchedules ⌝ }
+    ensures { λ r. ⌜ r ≡ withGood j many ⌝ }
+{
+    Judgement {
+        valid: j.valid + many,
+        bad: j.bad,
+        shown: j.shown,
+    }
 }
 
-// One more valid schedule in the counts, which leaves a consistent disk or not.
-fn tally(j: Judgement, s: u64, consistent: bool) -> Judgement
-    requires { ⌜ (j .valid < mostSchedules) × (j .bad < mostSchedules) ⌝ }
-    ensures { λ r. ⌜ r ≡ tallied j s consistent ⌝ }
+// More valid schedules in the counts, all of which are bad, and s is one of them.
+fn add_bad(j: Judgement, many: u64, s: u64) -> Judgement
+    requires { ⌜ (j .valid + many ≤ mostSchedules) × (j .bad + many ≤ mostSchedules) ⌝ }
+    ensures { λ r. ⌜ r ≡ withBad j many s ⌝ }
 {
-    if consistent {
-        return Judgement {
-            valid: j.valid + 1,
-            bad: j.bad,
-            shown: j.shown,
-        };
-    }
     Judgement {
-        valid: j.valid + 1,
-        bad: j.bad + 1,
+        valid: j.valid + many,
+        bad: j.bad + many,
         shown: s,
     }
 }
 
-// The schedule that begins with x, of the writes before place `near`, and ends with y.
-fn joined(x: u64, near: usize, y: u64) -> u64
-    requires { ⌜ (x < 2 ^ near) × ((near ≤ mostHalf) × (y < halfSets)) ⌝ }
-    ensures { λ r. ⌜ r ≡ x + 2 ^ near * y ⌝ }
-{
-    x | (y << near)
-}
-
-// The schedules that begin with x in the counts: mid is the disk that x leaves, and the `far` writes
-// behind place `near` are flagged in the ways that are listed.
-fn count_after(
+// The valid schedules in the counts that have what is chosen and, beyond it, only what is free. The first k
+// checks hold of all of them. Where a check hangs on a free write, first those without it, then those with it.
+fn walk(
     j: Judgement,
-    x: u64,
-    low: &[u64; HALF_SETS],
-    high: &[u64; HALF_SETS],
-    ends: &[u64; HALF_SETS],
-    many: usize,
-    mid: &[u32; DISK_BLOCKS],
-    stores: &[u64; model::MOST_INITIAL],
-    near: usize,
-    far: usize,
-    checks: [Check; MOST_CHECKS],
-    m: usize,
-) -> Judgement
-    requires { ⌜ ((j .valid + many ≤ mostSchedules) × (j .bad + many ≤ mostSchedules)) × (((x < 2 ^ near) × (near ≤ mostHalf)) × (((far ≤ mostHalf) × (m ≤ mostChecks)) × ((length (now mid) ≡ diskBlocks) × Lists (mayEnd (now high) near) (2 ^ far) (now ends) many))) ⌝ }
-    ensures { λ r. ⌜ Gains (validEnd (now (low .entry)) (now (high .entry)) near x) (badEnd (now (low .entry)) (now (high .entry)) near x (now (mid .entry)) (heldFrom (now (stores .entry)) near far) (take m checks)) x (2 ^ near) (now (ends .entry)) many j r ⌝ }
-{
-    let mut counts = j;
-    let mut disk = *mid;
-    let mut k: usize = 0;
-    'schedules: while k < many {
-        let y = ends[k];
-        let s = joined(x, near, y);
-        if !judge_schedules::is_valid(low, high, near, s) {
-            k += 1;
-            continue 'schedules;
-        }
-        judge_disks::apply(&mut disk, stores, near, far, y);
-        let mut i: usize = 0;
-        while i < m {
-            let c = checks[i];
-            if !judge_checks::check_holds(&disk, c) {
-                break;
-            }
-            i += 1;
-        }
-        counts = tally(counts, s, i == m);
-        judge_disks::restore(&mut disk, mid, stores, near, far);
-        k += 1;
-    }
-    counts
-}
-
-// The counts over all schedules of near + far writes.
-fn count_by(
-    low: &[u64; HALF_SETS],
-    high: &[u64; HALF_SETS],
-    ends: &[u64; HALF_SETS],
-    many: usize,
     base: &[u32; DISK_BLOCKS],
     stores: &[u64; model::MOST_INITIAL],
-    near: usize,
-    far: usize,
+    writers: &[u64; DISK_BLOCKS],
+    flags: &[u64; 64],
+    bars: &[u64; 64],
+    n: usize,
     checks: [Check; MOST_CHECKS],
     m: usize,
+    k: usize,
+    chosen: u64,
+    free: u64,
 ) -> Judgement
-    requires { ⌜ ((near ≤ mostHalf) × ((far ≤ mostHalf) × (near + far ≤ mostMain))) × ((m ≤ mostChecks) × ((length (now base) ≡ diskBlocks) × Lists (mayEnd (now high) near) (2 ^ far) (now ends) many)) ⌝ }
-    ensures { λ r. ⌜ Tallies (validBy (now (low .entry)) (now (high .entry)) near) (badBy (validBy (now (low .entry)) (now (high .entry)) near) (now (base .entry)) (heldFrom (now (stores .entry)) 0 (near + far)) (take m checks)) (2 ^ (near + far)) r ⌝ }
+    requires { ⌜ (Ready (now stores) (now base) n (now writers) × (Order n (now flags) (now bars) × Choice (now flags) n chosen free)) × (((k ≤ m) × (m ≤ mostChecks)) × (Says (allHold (now stores) (now base) n (take k checks)) chosen free Answer.Yes × Room (now flags) n chosen free j)) ⌝ }
+    ensures { λ r. ⌜ Gains (validBetween (now (flags .entry)) n chosen free) (badBetween (now (stores .entry)) (now (base .entry)) n (take m checks) (now (flags .entry)) chosen free) (2 ^ n) j r ⌝ }
 {
-    let rows = 1u64 << near;
-    let mut j = Judgement {
-        valid: 0,
-        bad: 0,
-        shown: 0,
-    };
-    let mut mid = *base;
-    let mut x: u64 = 0;
-    // Not x < rows: see judge_schedules::list_ends.
-    'beginnings: while x != rows {
-        if !judge_schedules::may_begin(low, near, x) {
-            x += 1;
-            continue 'beginnings;
-        }
-        judge_disks::apply(&mut mid, stores, 0, near, x);
-        let next = count_after(
-            j,
-            x,
-            low,
-            high,
-            ends,
-            many,
-            &mid,
-            stores,
-            near,
-            far,
-            checks,
-            m,
-        );
-        judge_disks::restore(&mut mid, base, stores, 0, near);
-        j = next;
-        x += 1;
+    let asked = judge_settled::ask_checks(base, stores, writers, n, chosen, free, checks, m, k);
+    let from = asked.from;
+    let answer = asked.answer;
+    if judge_settled::is_yes(answer) {
+        return add_good(j, judge_closed::count_between(flags, bars, n, chosen, free));
     }
-    j
+    if judge_settled::is_no(answer) {
+        return add_bad(j, judge_closed::count_between(flags, bars, n, chosen, free), chosen);
+    }
+    let h = judge_settled::open_at(answer);
+    let with = flags[h];
+    let out = relation::without(free, bars[h]);
+    let first = walk(j, base, stores, writers, flags, bars, n, checks, m, from, chosen, out);
+    let rest = relation::without(free, with);
+    walk(first, base, stores, writers, flags, bars, n, checks, m, from, chosen | with, rest)
 }
 
 // The counts over all schedules of the first n writes of a table of stores, by a table of rows.
@@ -159,115 +90,18 @@ pub fn count_all(
     checks: [Check; MOST_CHECKS],
     m: usize,
 ) -> Judgement
-    requires { ⌜ (n ≤ mostMain) × (m ≤ mostChecks) ⌝ }
+    requires { ⌜ (n ≤ mostMain) × ((m ≤ mostChecks) × Narrow (now rows) n) ⌝ }
     ensures { λ r. ⌜ Tallies (validRows (now (rows .entry)) n) (badRows (now (rows .entry)) n base (heldFrom (now (stores .entry)) 0 n) (take m checks)) (2 ^ n) r ⌝ }
 {
-    let near = judge_schedules::first_half(n);
-    let far = n - near;
-    let mut low = [0u64; HALF_SETS];
-    let mut high = [0u64; HALF_SETS];
-    judge_schedules::prepare(&mut low, &mut high, rows, n);
-    let mut ends = [0u64; HALF_SETS];
-    let many = judge_schedules::list_ends(&mut ends, &high, near, far);
-    count_by(
-        &low,
-        &high,
-        &ends,
-        many,
-        &base,
-        stores,
-        near,
-        far,
-        checks,
-        m,
-    )
-}
-
-// The search through all schedules of near + far writes, by beginnings and ends, and through the checks:
-// all its loops are left at the first bad schedule.
-fn search_by(
-    low: &[u64; HALF_SETS],
-    high: &[u64; HALF_SETS],
-    ends: &[u64; HALF_SETS],
-    many: usize,
-    base: &[u32; DISK_BLOCKS],
-    stores: &[u64; model::MOST_INITIAL],
-    near: usize,
-    far: usize,
-    checks: [Check; MOST_CHECKS],
-    m: usize,
-) -> Verdict
-    requires { ⌜ ((near ≤ mostHalf) × ((far ≤ mostHalf) × (near + far ≤ mostMain))) × ((m ≤ mostChecks) × ((length (now base) ≡ diskBlocks) × Lists (mayEnd (now high) near) (2 ^ far) (now ends) many)) ⌝ }
-    ensures { λ r. ⌜ Finds (badBy (validBy (now (low .entry)) (now (high .entry)) near) (now (base .entry)) (heldFrom (now (stores .entry)) 0 (near + far)) (take m checks)) (2 ^ (near + far)) r ⌝ }
-{
-    let rows = 1u64 << near;
-    let mut mid = *base;
-    let mut verdict = Verdict::Holds;
-    let mut x: u64 = 0;
-    // Not x < rows: see judge_schedules::list_ends.
-    'search: while x != rows {
-        if !judge_schedules::may_begin(low, near, x) {
-            x += 1;
-            continue 'search;
-        }
-        judge_disks::apply(&mut mid, stores, 0, near, x);
-        let mut disk = mid;
-        let mut k: usize = 0;
-        'ends: while k < many {
-            let y = ends[k];
-            let s = joined(x, near, y);
-            if !judge_schedules::is_valid(low, high, near, s) {
-                k += 1;
-                continue 'ends;
-            }
-            judge_disks::apply(&mut disk, stores, near, far, y);
-            let mut i: usize = 0;
-            while i < m {
-                let c = checks[i];
-                if !judge_checks::check_holds(&disk, c) {
-                    verdict = Verdict::Fails(s);
-                    break 'search;
-                }
-                i += 1;
-            }
-            judge_disks::restore(&mut disk, &mid, stores, near, far);
-            k += 1;
-        }
-        judge_disks::restore(&mut mid, base, stores, 0, near);
-        x += 1;
-    }
-    verdict
-}
-
-// A bad schedule of the first n writes of a table of stores, by a table of rows, if there is one.
-pub fn first_bad(
-    rows: &[u64; 64],
-    base: [u32; DISK_BLOCKS],
-    stores: &[u64; model::MOST_INITIAL],
-    n: usize,
-    checks: [Check; MOST_CHECKS],
-    m: usize,
-) -> Verdict
-    requires { ⌜ (n ≤ mostMain) × (m ≤ mostChecks) ⌝ }
-    ensures { λ r. ⌜ Finds (badRows (now (rows .entry)) n base (heldFrom (now (stores .entry)) 0 n) (take m checks)) (2 ^ n) r ⌝ }
-{
-    let near = judge_schedules::first_half(n);
-    let far = n - near;
-    let mut low = [0u64; HALF_SETS];
-    let mut high = [0u64; HALF_SETS];
-    judge_schedules::prepare(&mut low, &mut high, rows, n);
-    let mut ends = [0u64; HALF_SETS];
-    let many = judge_schedules::list_ends(&mut ends, &high, near, far);
-    search_by(
-        &low,
-        &high,
-        &ends,
-        many,
-        &base,
-        stores,
-        near,
-        far,
-        checks,
-        m,
-    )
+    let mut flags = [0u64; 64];
+    let mut bars = [0u64; 64];
+    judge_closed::order(&mut flags, &mut bars, rows, n);
+    let mut writers = [0u64; DISK_BLOCKS];
+    judge_settled::fill_writers(&mut writers, stores, n);
+    let none = Judgement {
+        valid: 0,
+        bad: 0,
+        shown: 0,
+    };
+    walk(none, &base, stores, &writers, &flags, &bars, n, checks, m, 0, 0, (1 << n) - 1)
 }

@@ -36,9 +36,13 @@ pub epoch-is : (p : ℕ) → p % words ≡ labelled p .epoch
 unfolding labelled
 epoch-is p = refl
 
-pub stored-yes : (on : Bool) (p a : ℕ) (d : List ℕ) → on ≡ true → a ≡ unpacked p .address → set d a (p % words) ≡ cond on (store (unpacked p) d) d
+pub block-is : (p : ℕ) → p % words ≡ unpacked p .block
+unfolding unpacked
+block-is p = refl
+
+pub stored-yes : (on : Bool) (p a b : ℕ) (d : List ℕ) → on ≡ true → a ≡ unpacked p .address → b ≡ unpacked p .block → set d a b ≡ cond on (store (unpacked p) d) d
 unfolding store unpacked
-stored-yes on p a d h e = rw (h, e)
+stored-yes on p a b d h e q = rw (h, e, q)
 
 pub stored-no : (on : Bool) (p : ℕ) (d : List ℕ) → on ≡ false → d ≡ cond on (store (unpacked p) d) d
 stored-no on p d h = rw h
@@ -78,7 +82,7 @@ unfolding run heldFrom
 apply-none t i zero n d h = refl
 apply-none t i (suc left) n d h = absurd (omega arith)
 
-pub ruleset steps = (needs, pack-is, label-is, name-is, epoch-is, stored-yes, stored-no, apply-more, apply-none)
+pub ruleset steps = (needs, pack-is, label-is, name-is, epoch-is, block-is, stored-yes, stored-no, apply-more, apply-none)
 
 -- ---- the disk of a schedule in two parts
 

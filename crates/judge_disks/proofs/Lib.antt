@@ -1,2 +1,3 @@
 pub mod DiskSteps
 pub mod RestoreLaws
+pub mod LastLaws

@@ -38,11 +38,17 @@ pub fn epoch_of(label: u64) -> u32
     (label % model::WORDS) as u32
 }
 
-// The address of a packed write.
-fn address_of(write: u64) -> usize
+// The address and the block of a packed write.
+pub fn address_of(write: u64) -> usize
     ensures { λ r. ⌜ (r ≡ unpacked write .address) × (r < diskBlocks) ⌝ }
 {
     (write / model::WORDS % model::DISK_BLOCKS as u64) as usize
+}
+
+pub fn block_of(write: u64) -> u32
+    ensures { λ r. ⌜ r ≡ unpacked write .block ⌝ }
+{
+    (write % model::WORDS) as u32
 }
 
 // One packed write, if its flag is set.
@@ -50,7 +56,7 @@ fn store_if(disk: &mut [u32; model::DISK_BLOCKS], on: bool, write: u64)
     ensures { λ _. ⌜ now (disk .exit) ≡ cond on (store (unpacked write) (now (disk .entry))) (now (disk .entry)) ⌝ }
 {
     if on {
-        disk[address_of(write)] = (write % model::WORDS) as u32;
+        disk[address_of(write)] = block_of(write);
     }
 }
 

@@ -2,23 +2,29 @@
 use mathlib.Core.Path.{_≡_}
 use mathlib.Core.Bool.{cond}
 use mathlib.Core.List.{List, [], _∷_}
-use Prim.Native.Nat.{ℕ, _+_, _-_, _≤_, _<_}
+use Prim.Native.Nat.{ℕ, suc, _+_, _-_, _≤_}
 use native.Mathlib.Omega.{arith}
 use lib.Dec.{eqb}
 use lib.ListN.{length}
 use borrow.Author.Needs.{needs}
 use borrow.Author.Tests.{eq-eqb, ne-eqb}
-use Rattle.judge_text.specs.Decimal.{decimal}
+use Rattle.judge_text.specs.Decimal.{decimal, Digits}
 use Rattle.file_writing.specs.Writing.{Wrote}
-use Rattle.judge_text.specs.Lines.{blank, lineFeed, refusedLine, testLine, refusedText, holdsText, failsText, mostDigits, numbers}
+use Rattle.judge_text.specs.Lines.{blank, lineFeed, refusedLine, testLine, refusedText, holdsText, failsText}
 use Rattle.file_writing.proofs.WroteLaws.{wrote-then}
 use Rattle.judge_text.proofs.WriteLaws.{decimal-most}
 
-pub number-fits : (n at size : ℕ) → n < numbers → at + mostDigits ≤ size → at + length (decimal n) ≤ size
-number-fits n at size h l = let m = decimal-most (mostDigits - 1) n h in omega arith
+pub number-most : (n digits : ℕ) → Digits digits n → length (decimal n) ≤ digits
+unfolding Digits
+number-most n digits (some, few) =
+    let z : digits ≡ suc (digits - 1) = omega arith in
+    rw z (decimal-most (digits - 1) n (rw z at few))
 
-pub number-ends : (n at : ℕ) (l l₁ : List ℕ) (r : ℕ) → n < numbers → Wrote l at (decimal n) l₁ r → r ≤ at + mostDigits
-number-ends n at l l₁ r h w = let m = decimal-most (mostDigits - 1) n h in let p = w .place in omega arith
+pub number-fits : (n digits at size : ℕ) → Digits digits n → at + digits ≤ size → at + length (decimal n) ≤ size
+number-fits n digits at size h l = let m = number-most n digits h in omega arith
+
+pub number-ends : (n digits at : ℕ) (l l₁ : List ℕ) (r : ℕ) → Digits digits n → Wrote l at (decimal n) l₁ r → r ≤ at + digits
+number-ends n digits at l l₁ r h w = let m = number-most n digits h in let p = w .place in omega arith
 
 module _ (l : List ℕ) (at : ℕ) (l₁ l₂ l₃ l₄ l₅ l₆ : List ℕ) (r₁ r₂ r₃ r₄ r₅ r₆ : ℕ) where
   pub refused-wrote : (number place : ℕ) → Wrote l at refusedText l₁ r₁ → Wrote l₁ r₁ (blank ∷ []) l₂ r₂ → Wrote l₂ r₂ (decimal number) l₃ r₃

@@ -25,7 +25,8 @@ use Rattle.judge_cases.specs.declared.Cases.the-variants.{Tests}
 use Rattle.judge_cases.specs.declared.Cases.the-variants as Cases
 use Rattle.judge_cases.specs.Judge.{caseAt, Judges, SmallRefusal, judgedFile, OpensTo, FewNumbers}
 use Rattle.file_writing.specs.Writing.{Wrote}
-use Rattle.judge_text.specs.Lines.{refusedLine, testLine, lines, textOf, programText, caseLines, numbers}
+use Rattle.judge_text.specs.Decimal.{Digits}
+use Rattle.judge_text.specs.Lines.{refusedLine, testLine, lines, textOf, programText, caseLines, testDigits, countDigits, refusalDigits, placeDigits}
 use Rattle.file_writing.proofs.WroteLaws.{wrote-then, wrote-none}
 
 -- ---- one test
@@ -34,15 +35,19 @@ pub case-line : (rules : List Rule) (s : List ℕ) (e : Extent) (j : Judgement) 
     → Wrote l at (testLine k (j .valid) (j .bad)) l₁ r → Wrote l at (testLine k (validCount rules (testAt s e)) (badCount rules (testAt s e))) l₁ r
 case-line rules s e j k at l l₁ r h w = rw (← h .valid, ← h .bad) w
 
-pub few-valid : (j : Judgement) → FewNumbers j → j .valid < numbers
-unfolding FewNumbers
-few-valid j f = let a = f .0 in omega arith
+pub few-valid : (j : Judgement) → FewNumbers j → Digits countDigits (j .valid)
+unfolding FewNumbers Digits
+few-valid j f = let a = f .0 in (omega arith, omega arith)
 
-pub few-bad : (j : Judgement) → FewNumbers j → j .bad < numbers
-unfolding FewNumbers
-few-bad j f = let a = f .1 in omega arith
+pub few-bad : (j : Judgement) → FewNumbers j → Digits countDigits (j .bad)
+unfolding FewNumbers Digits
+few-bad j f = let a = f .1 in (omega arith, omega arith)
 
 -- ---- the first tests
+
+pub test-digits : (i n : ℕ) → i < n → n ≤ mostTests → Digits testDigits (i + 1)
+unfolding Digits
+test-digits i n h l = (omega arith, omega arith)
 
 module _ (rules : List Rule) (s : List ℕ) (tests : List Extent) (l : List ℕ) where
   pub cases-none : Wrote l 0 (caseLines rules s tests 0) l 0
@@ -100,11 +105,13 @@ module _ (s : List ℕ) (rules : Rules) (ts : List Extent) (x : Cases) (o : Open
     unfolding programText
     text-refused l l₁ r w = rw (text-unjudged (readOf s) (why .number) (why .place) (turned-down .0)) w
 
-    pub number-few : why .number < numbers
-    number-few = let h = turned-down .1 .0 in omega arith
+    pub number-few : Digits refusalDigits (why .number)
+    unfolding Digits
+    number-few = let h = turned-down .1 .0 in (omega arith, omega arith)
 
-    pub place-few : why .place < numbers
-    place-few = let h = turned-down .1 .1 in omega arith
+    pub place-few : Digits placeDigits (why .place)
+    unfolding Digits
+    place-few = let h = turned-down .1 .1 in (omega arith, omega arith)
 
   module _ (n : ℕ) (e : x ≡ Tests n) where
     found : (f : File) × (judgedFile (readOf s) ≡ answer f) × (rulesOf rules ≡ f .rules) × (rules .count ≤ mostRules) × Placed s (f .tests) ts n
@@ -129,4 +136,4 @@ module _ (s : List ℕ) (rules : Rules) (ts : List Extent) (x : Cases) (o : Open
         = lines-ext _ _ n (λ i h. rw (found .2, found .4 .each i h)) in
         rw (text-judged (readOf s) f (found .1), found .4 .count, ← same) w
 
-pub ruleset texts = (needs, case-line, few-valid, few-bad, cases-none, cases-more, cases-all, text-refused, number-few, place-few, tests-few, rules-few, tests-inside, text-tests)
+pub ruleset texts = (needs, case-line, few-valid, few-bad, cases-none, test-digits, cases-more, cases-all, text-refused, number-few, place-few, tests-few, rules-few, tests-inside, text-tests)

@@ -1,5 +1,5 @@
 -- Decimal numbers in ASCII.
-use Prim.Native.Nat.{ℕ, zero, suc, _+_, _/_, _%_}
+use Prim.Native.Nat.{ℕ, zero, suc, _+_, _/_, _%_, _^_, _≤_, _<_}
 use mathlib.Core.Bool.{cond}
 use mathlib.Core.List.{List, [], _∷_, _++_}
 use lib.Dec.{ltb}
@@ -13,3 +13,7 @@ decimalWith (suc f) n =
 
 unfoldable pub decimal : ℕ → List ℕ
 decimal n = decimalWith (suc n) n
+
+-- a number of at most d digits
+unfoldable pub Digits : ℕ → ℕ → Type 0
+Digits d n = (1 ≤ d) × (n < 10 ^ d)

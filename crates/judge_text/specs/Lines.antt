@@ -1,5 +1,5 @@
 -- What the judging program prints for a file.
-use Prim.Native.Nat.{ℕ, zero, suc, _+_, _*_, _^_}
+use Prim.Native.Nat.{ℕ, zero, suc, _+_, _*_}
 use mathlib.Core.Bool.{cond}
 use mathlib.Core.List.{List, [], _∷_, _++_}
 use lib.Dec.{eqb}
@@ -66,22 +66,28 @@ caseLines rules s tests n =
 
 -- ---- how long a text is at most
 
--- the digits of a number, and the numbers that have no more
-abbrev pub mostDigits : ℕ
-mostDigits = 5
+-- the digits of a test's number, of a count of schedules, of a refusal's number and of its place
+abbrev pub testDigits : ℕ
+testDigits = 2
 
-abbrev pub numbers : ℕ
-numbers = 10 ^ mostDigits
+abbrev pub countDigits : ℕ
+countDigits = 7
+
+abbrev pub refusalDigits : ℕ
+refusalDigits = 2
+
+abbrev pub placeDigits : ℕ
+placeDigits = 5
 
 -- `holds`, `fails`; a test's line, a refusal's line; a file's text
 abbrev pub verdictLength : ℕ
 verdictLength = 5
 
 abbrev pub testLength : ℕ
-testLength = 3 * (mostDigits + 1) + verdictLength + 1
+testLength = testDigits + 1 + 2 * (countDigits + 1) + verdictLength + 1
 
 abbrev pub refusedLength : ℕ
-refusedLength = 8 + mostDigits + 1 + mostDigits + 1
+refusedLength = 8 + refusalDigits + 1 + placeDigits + 1
 
 abbrev pub textLength : ℕ
 textLength = 400

@@ -4,7 +4,7 @@ use judge_cases::Cases;
 use rule_match::Rules;
 ghost use mathlib.Core.Path.{_≡_};
 ghost use mathlib.Core.Bool.{cond};
-ghost use Prim.Native.Nat.{_+_, _<_, _≤_};
+ghost use Prim.Native.Nat.{_+_, _≤_};
 ghost use lib.Dec.{eqb};
 ghost use lib.ListN.{length};
 ghost use Rattle.model.specs.Limits.{mostRules, mostTests};
@@ -13,13 +13,22 @@ ghost use Rattle.file_format.specs.Scan.{testAt};
 ghost use Rattle.file_format.specs.Held.{Inside, AllInside};
 ghost use Rattle.rule_match.specs.Held.{rulesOf};
 ghost use Rattle.file_writing.specs.Writing.{Wrote};
-ghost use Rattle.judge_text.specs.Decimal.{decimal};
-ghost use Rattle.judge_text.specs.Lines.{refusedLine, testLine, caseLines, programText, holdsText, failsText, mostDigits, numbers, verdictLength, testLength, refusedLength, textLength};
+ghost use Rattle.judge_text.specs.Decimal.{decimal, Digits};
+ghost use Rattle.judge_text.specs.Lines.{refusedLine, testLine, caseLines, programText, holdsText, failsText, testDigits, countDigits, refusalDigits, placeDigits, verdictLength, testLength, refusedLength, textLength};
 
 // A blank, and a line feed.
 const BLANK: u8 = 32;
 
 const LINE_FEED: u8 = 10;
+
+// The most digits of a test's number, of a count of schedules, of a refusal's number and of its place.
+const TEST_DIGITS: usize = 2;
+
+const COUNT_DIGITS: usize = 7;
+
+const REFUSAL_DIGITS: usize = 2;
+
+const PLACE_DIGITS: usize = 5;
 
 // The bytes that any file's text has room in.
 pub const TEXT_LENGTH: usize = 400;
@@ -48,24 +57,24 @@ fn put_text(out: &mut [u8], at: usize, text: &[u8]) -> usize
     at + i
 }
 
-// A number of a line.
-fn put_number(out: &mut [u8], at: usize, n: u64) -> usize
-    requires { ⌜ (n < numbers) × (at + mostDigits ≤ length (now out)) ⌝ }
-    ensures { λ r. ⌜ Wrote (now (out .entry)) at (decimal n) (now (out .exit)) r × (r ≤ at + mostDigits) ⌝ }
+// A number of a line, which has so many digits at most.
+fn put_number(out: &mut [u8], at: usize, n: u64, digits: usize) -> usize
+    requires { ⌜ Digits digits n × (at + digits ≤ length (now out)) ⌝ }
+    ensures { λ r. ⌜ Wrote (now (out .entry)) at (decimal n) (now (out .exit)) r × (r ≤ at + digits) ⌝ }
 {
     put_decimal(out, at, n)
 }
 
 // `refused`, number, place.
 fn put_refused(out: &mut [u8], at: usize, number: u64, place: u64) -> usize
-    requires { ⌜ (at + refusedLength ≤ length (now out)) × ((number < numbers) × (place < numbers)) ⌝ }
+    requires { ⌜ (at + refusedLength ≤ length (now out)) × (Digits refusalDigits number × Digits placeDigits place) ⌝ }
     ensures { λ r. ⌜ Wrote (now (out .entry)) at (refusedLine number place) (now (out .exit)) r × (r ≤ at + refusedLength) ⌝ }
 {
     let a = put_text(out, at, b"refused");
     let b = file_writing::put(out, a, BLANK);
-    let c = put_number(out, b, number);
+    let c = put_number(out, b, number, REFUSAL_DIGITS);
     let d = file_writing::put(out, c, BLANK);
-    let e = put_number(out, d, place);
+    let e = put_number(out, d, place, PLACE_DIGITS);
     file_writing::put(out, e, LINE_FEED)
 }
 
@@ -81,14 +90,14 @@ fn put_verdict(out: &mut [u8], at: usize, bad: u64) -> usize
 
 // Number, valid, bad, holds or fails.
 fn put_line(out: &mut [u8], at: usize, k: u64, valid: u64, bad: u64) -> usize
-    requires { ⌜ (at + testLength ≤ length (now out)) × ((k < numbers) × ((valid < numbers) × (bad < numbers))) ⌝ }
+    requires { ⌜ (at + testLength ≤ length (now out)) × (Digits testDigits k × (Digits countDigits valid × Digits countDigits bad)) ⌝ }
     ensures { λ r. ⌜ Wrote (now (out .entry)) at (testLine k valid bad) (now (out .exit)) r × (r ≤ at + testLength) ⌝ }
 {
-    let a = put_number(out, at, k);
+    let a = put_number(out, at, k, TEST_DIGITS);
     let b = file_writing::put(out, a, BLANK);
-    let c = put_number(out, b, valid);
+    let c = put_number(out, b, valid, COUNT_DIGITS);
     let d = file_writing::put(out, c, BLANK);
-    let e = put_number(out, d, bad);
+    let e = put_number(out, d, bad, COUNT_DIGITS);
     let f = file_writing::put(out, e, BLANK);
     let g = put_verdict(out, f, bad);
     file_writing::put(out, g, LINE_FEED)
@@ -96,7 +105,7 @@ fn put_line(out: &mut [u8], at: usize, k: u64, valid: u64, bad: u64) -> usize
 
 // The line of test k, which stands at an extent.
 fn put_case(out: &mut [u8], at: usize, file: &[u8], rules: Rules, e: Extent, k: u64) -> usize
-    requires { ⌜ ((at + testLength ≤ length (now out)) × (k < numbers)) × ((rules .count ≤ mostRules) × Inside (now file) e) ⌝ }
+    requires { ⌜ ((at + testLength ≤ length (now out)) × Digits testDigits k) × ((rules .count ≤ mostRules) × Inside (now file) e) ⌝ }
     ensures { λ r. ⌜ Wrote (now (out .entry)) at (testLine k (validCount (rulesOf rules) (testAt (now (file .entry)) e)) (badCount (rulesOf rules) (testAt (now (file .entry)) e))) (now (out .exit)) r × (r ≤ at + testLength) ⌝ }
 {
     let j = judge_cases::judge_test(file, rules, e);

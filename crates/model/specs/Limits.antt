@@ -1,4 +1,4 @@
--- The limits of document 01, each by its name.
+-- The limits of documents 01 and 02, each by its name.
 use Prim.Native.Nat.{ℕ, _-_, _/_, _^_}
 
 -- the names of structures, and the numbers of four bytes: a write's epoch, its block
@@ -27,7 +27,7 @@ abbrev pub mostInitial : ℕ
 mostInitial = 64
 
 abbrev pub mostMain : ℕ
-mostMain = 12
+mostMain = 20
 
 abbrev pub mostChecks : ℕ
 mostChecks = 16

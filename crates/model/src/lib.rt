@@ -4,7 +4,7 @@ ghost use Prim.Native.Nat.{_<_};
 ghost use Rattle.model.specs.Limits.{words};
 ghost use Rattle.model.specs.Answer.{refusal};
 
-// The limits of document 01, each by its name (specs/Limits.antt says what they are of).
+// The limits of documents 01 and 02, each by its name (specs/Limits.antt says what they are of).
 pub const NAMES: u64 = 256;
 
 pub const WORDS: u64 = 4294967296;
@@ -19,7 +19,7 @@ pub const MOST_TESTS: usize = 16;
 
 pub const MOST_INITIAL: usize = 64;
 
-pub const MOST_MAIN: usize = 12;
+pub const MOST_MAIN: usize = 20;
 
 pub const MOST_CHECKS: usize = 16;
 

@@ -7,3 +7,4 @@ pub mod Cases
 pub mod MaskLaws
 pub mod UnionLaws
 pub mod WithoutLaws
+pub mod SetLaws

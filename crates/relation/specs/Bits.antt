@@ -1,6 +1,7 @@
 -- Numbers as sets of small numbers: i is in the set exactly if bit i is set.
-use Prim.Native.Nat.{ℕ, zero, suc, _+_, _/_, _%_, _^_}
-use mathlib.Core.Bool.{Bool, cond}
+use Prim.Native.Nat.{ℕ, zero, suc, _+_, _/_, _%_, _^_, _<_}
+use mathlib.Core.Path.{_≡_}
+use mathlib.Core.Bool.{Bool, true, false, cond, not, _&&_}
 use lib.Dec.{eqb}
 
 -- bit i of n
@@ -15,3 +16,11 @@ withBit n i = cond (bit n i) n (n + 2 ^ i)
 unfoldable pub maskOf : (ℕ → Bool) → ℕ → ℕ
 maskOf p zero = 0
 maskOf p (suc n) = cond (p n) (withBit (maskOf p n) n) (maskOf p n)
+
+-- the members of a mask that another has not
+unfoldable pub without : ℕ → ℕ → ℕ
+without a b = maskOf (λ j. bit a j && not (bit b j)) 64
+
+-- h is the highest member of m
+unfoldable pub Highest : ℕ → ℕ → Type 0
+Highest m h = (bit m h ≡ true) × ((j : ℕ) → h < j → bit m j ≡ false)

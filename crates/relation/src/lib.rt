@@ -1,8 +1,9 @@
 // Sets of numbers below 64 as masks, and relations on such numbers as tables of 64 rows.
 ghost use mathlib.Core.Path.{_≡_};
+ghost use mathlib.Core.Bool.{cond};
 ghost use Prim.Native.Nat.{_+_, _^_, _<_, _≤_};
 ghost use lib.ListN.{length};
-ghost use Rattle.relation.specs.Bits.{bit, withBit};
+ghost use Rattle.relation.specs.Bits.{bit, withBit, without, Highest};
 ghost use Rattle.relation.specs.Finite.{joined, round, closed, loops};
 ghost use Rattle.relation.specs.Union.{Unites, Doubled};
 
@@ -20,6 +21,32 @@ pub fn with_bit(mask: u64, i: usize) -> u64
     ensures { λ r. ⌜ r ≡ withBit mask i ⌝ }
 {
     mask | (1 << i)
+}
+
+// mask, with bit i set if asked for.
+pub fn with_if(mask: u64, i: usize, on: bool) -> u64
+    requires { ⌜ i < 64 ⌝ }
+    ensures { λ r. ⌜ r ≡ cond on (withBit mask i) mask ⌝ }
+{
+    if on {
+        return with_bit(mask, i);
+    }
+    mask
+}
+
+// The members of mask that are not in other.
+pub fn without(mask: u64, other: u64) -> u64
+    ensures { λ r. ⌜ r ≡ without mask other ⌝ }
+{
+    mask & !other
+}
+
+// The highest member of mask.
+pub fn highest(mask: u64) -> usize
+    requires { ⌜ 0 < mask ⌝ }
+    ensures { λ r. ⌜ Highest mask r × (r < 64) ⌝ }
+{
+    63 - u64::leading_zeros(mask) as usize
 }
 
 // row, with what k reaches where row reaches k.

@@ -72,7 +72,7 @@ pub extern "C" fn pelzhondy_judge_lines(file: &[u8], out: &mut [u8]) -> u64
 }
 
 // The smallest rule set under which all tests of a file hold: its rules as fields at the front of
-// `buffer`, and how many. Refused by reading, 10, 12, 11, 13.
+// `buffer`, and how many. Refused by reading, 10, 24, 12, 11, 13.
 #[no_mangle]
 pub extern "C" fn pelzhondy_find(file: &[u8], buffer: &mut [u8]) -> u64
     ensures { λ r. ⌜ findLeaves r (now (buffer .exit)) ≡ foundCoded (findOf (now (file .entry)) (now (buffer .entry))) ⌝ }

@@ -2,6 +2,7 @@
 
 use reference::cache::{self, DISK, STATE};
 use reference::checks::Check;
+use reference::counts;
 use reference::crashes;
 use reference::file::{File, Test, LONGEST, MOST_CHECKS, MOST_INITIAL, MOST_MAIN, MOST_TESTS};
 use reference::generate::{self, Values};
@@ -11,8 +12,8 @@ use reference::random::Random;
 use reference::samples::{log_rules, test_k};
 use reference::writes::{block, rule, write, Block, Predicate, Rule, Write};
 
-/// The main writes of a test, but for the longest file: as many as finding takes.
-const MAIN: usize = 12;
+/// The main writes of a test, but for those of 20 and the longest file: as many as finding takes.
+pub const MAIN: usize = 12;
 
 fn file_of(rules: &[Rule], tests: Vec<Test>) -> Vec<u8> {
     let rules = rules.to_vec();
@@ -26,11 +27,16 @@ pub fn k_file(rules: &[Rule]) -> Vec<u8> {
 
 /// A log of six puts, after one that is there.
 pub fn log_file(rules: &[Rule]) -> Vec<u8> {
-    file_of(rules, vec![log_test()])
+    file_of(rules, vec![log_test(6)])
 }
 
-fn log_test() -> Test {
-    let puts: Vec<Block> = (1..=6).map(|key| block(key, 80 + key)).collect();
+/// A log of ten puts: 20 writes.
+pub fn long_log_file(rules: &[Rule]) -> Vec<u8> {
+    file_of(rules, vec![log_test(10)])
+}
+
+fn log_test(puts: u16) -> Test {
+    let puts: Vec<Block> = (1..=puts).map(|key| block(key, 80 + key)).collect();
     log::test_of(&[block(0, 42)], &puts)
 }
 
@@ -80,20 +86,69 @@ pub fn settings_file(rules: u8) -> Vec<u8> {
     file_of(&rules, vec![settings_test()])
 }
 
-/// 12 main writes and 16 checks that every schedule keeps, without rules: each write ends a list by
-/// a block that points to itself, where there was none, and four ranges are filled from the start.
-pub fn holding_file() -> Vec<u8> {
+/// The names of a mark and of its settings.
+const FIRST: u8 = 1;
+const SECOND: u8 = 2;
+const THIRD: u8 = 3;
+const MARK: u8 = 4;
+
+/// Five marks, each for three settings: 15 settings are written, then the marks, where there were
+/// none. A mark is a range of its first setting, which is not there before; with a mark the others
+/// are new. A pointer of the first mark is never broken.
+fn marks_test() -> Test {
+    let (old, new) = (block(1, 1), block(2, 2));
+    let setting = |k: u8, name: u8| SETTINGS + 3 * k + name - FIRST;
+    let range = |k: u8| {
+        let first = setting(k, FIRST) as u16;
+        block(first, first + 1)
+    };
+    let settings = || (0..5).flat_map(|k| [FIRST, SECOND, THIRD].map(|name| (k, name)));
+    let is_new = |(k, name): (u8, u8)| Check::Pair {
+        a: MARKS + k,
+        v: range(k),
+        b: setting(k, name),
+        w: new,
+    };
+    let mut checks = vec![Check::Pointer { at: MARKS }];
+    checks.extend((0..5).map(|k| Check::Range { at: MARKS + k }));
+    checks.extend(settings().filter(|&(_, name)| name != FIRST).map(is_new));
+    Test {
+        initial: settings()
+            .filter(|&(_, name)| name != FIRST)
+            .map(|(k, name)| write(setting(k, name), name, 0, old))
+            .collect(),
+        main: settings()
+            .map(|(k, name)| write(setting(k, name), name, k as u32, new))
+            .chain((0..5).map(|k| write(MARKS + k, MARK, k as u32, range(k))))
+            .collect(),
+        checks,
+    }
+}
+
+/// 20 main writes and 16 checks under the first so many of three rules: a mark after its first and
+/// its second setting, the third setting after the second.
+pub fn marks_file(rules: usize, tests: usize) -> Vec<u8> {
+    let all = [(MARK, FIRST), (MARK, SECOND), (THIRD, SECOND)];
+    let rules: Vec<Rule> = all[..rules]
+        .iter()
+        .map(|&(name, second)| rule(name, Predicate::Equal, second))
+        .collect();
+    file_of(&rules, vec![marks_test(); tests])
+}
+
+/// So many main writes and 16 checks that every schedule keeps, without rules: each write ends a list
+/// by a block that points to itself, where there was none, and four ranges are filled from the start.
+pub fn holding_file(main: usize) -> Vec<u8> {
     let filled = |i: u8| write(SETTINGS + i, 1, 0, block(1, 1));
     let range = |k: u8| {
         let head = SETTINGS as u16;
         write(RANGES + k, 2, 0, block(head, head + 4))
     };
     let end = |i: u8| write(100 + i, 3, 0, block(i as u16, 100 + i as u16));
-    let ends = || 0..MAIN as u8;
     let test = Test {
         initial: (0..4).map(filled).chain((0..4).map(range)).collect(),
-        main: ends().map(end).collect(),
-        checks: ends()
+        main: (0..main as u8).map(end).collect(),
+        checks: (0..12)
             .map(|i| Check::Pointer { at: 100 + i })
             .chain((0..4).map(|k| Check::Range { at: RANGES + k }))
             .collect(),
@@ -102,25 +157,28 @@ pub fn holding_file() -> Vec<u8> {
 }
 
 /// The longest file that reading accepts, with rules that are not cyclic; in some of its tests the
-/// rules leave hundreds of schedules valid, some hold and some fail.
+/// rules leave hundreds of schedules valid, some hold and some fail. Every fourth test asks of what a
+/// write leaves that it is that, and holds.
 pub fn longest_file() -> Vec<u8> {
     let longest = |seed| {
         let mut random = Random::new(seed);
         let values = Values::small(&mut random);
         let few = crashes::acyclic_rules(&mut random, &values, 8);
         let rules = crashes::padded(&mut random, &values, &few);
-        let mut test = || {
+        let mut test = |k: usize| {
             let mut test = generate::test_of(&mut random, &values, MOST_INITIAL, MOST_MAIN, 0);
             while test.checks.len() < MOST_CHECKS {
-                let (one, two) = (random.pick(&test.main), random.pick(&test.main));
+                let (one, other) = (random.pick(&test.main), random.pick(&test.main));
+                let two = if k % 4 == 0 { one } else { other };
                 let (a, v) = (one.address, one.block);
                 let (b, w) = (two.address, two.block);
                 test.checks.push(Check::Pair { a, v, b, w });
             }
             test
         };
-        let tests: Vec<Test> = (0..MOST_TESTS).map(|_| test()).collect();
-        let judged: Vec<_> = tests.iter().map(|test| judge_test(&rules, test)).collect();
+        let tests: Vec<Test> = (0..MOST_TESTS).map(&mut test).collect();
+        let judged = |test| counts::judge_test(&rules, test);
+        let judged: Vec<_> = tests.iter().map(judged).collect();
         let valid: u64 = judged.iter().map(|judgement| judgement.valid).sum();
         let hold = judged.iter().filter(|judgement| judgement.bad == 0).count();
         let bytes = file_of(&rules, tests);
@@ -209,7 +267,7 @@ fn tied(names: &[u8], ties: &[(usize, usize)]) -> Test {
 /// 13 logs, which have ten candidates, and three writes that ask for each other, which have six: no
 /// acyclic set does.
 pub fn logs_and_impossible_file() -> Vec<u8> {
-    let mut tests = vec![log_test(); 13];
+    let mut tests = vec![log_test(6); 13];
     tests.push(tied(&[11, 12, 13], &[(0, 1), (1, 2), (2, 0)]));
     file_of(&[], tests)
 }

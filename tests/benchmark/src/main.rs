@@ -47,7 +47,11 @@ fn routines() {
     println!(
         "median of {ROUNDS} rounds. The judge in Rust takes one schedule at a time or, in rows of"
     );
-    println!("their own, 64; its verdict, the program's text and find take 64.");
+    println!(
+        "their own, 64 at a time, or by open checks: it chooses only writes that one hangs on."
+    );
+    println!("The verdict takes 64 at a time or, in rows of its own, goes by open checks; so does");
+    println!("the program's text, and find takes 64 at a time.");
     println!();
     println!("| routine | input | Rattle | Rust | Rattle/Rust |");
     println!("|---|---|---:|---:|---:|");
@@ -65,7 +69,7 @@ fn routines() {
 }
 
 fn print_row(mut row: rows::Row) {
-    let (routine, input) = (row.routine, row.input);
+    let (routine, input) = (row.routine, &row.input);
     assert_eq!((row.proved)(), (row.rust)(), "{routine}, {input}");
     let times = medians([&mut row.proved, &mut row.rust]);
     let [proved, rust] = times.map(|time| time / row.calls as f64);

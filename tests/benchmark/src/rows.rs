@@ -1,5 +1,6 @@
 // The rows of the table: a proved routine and its counterpart, ready to be called again and again.
 
+use reference::file::LONGEST;
 use reference::samples::log_rules;
 use reference::writes::Write;
 
@@ -8,7 +9,7 @@ use crate::measure::Call;
 
 pub struct Row {
     pub routine: &'static str,
-    pub input: &'static str,
+    pub input: String,
     /// How often a call of each side calls its routine.
     pub calls: u32,
     pub proved: Call,
@@ -51,11 +52,11 @@ fn on_tests(
     rust: fn(&[u8], u64) -> u64,
     compared: fn(u64) -> u64,
 ) -> Vec<Row> {
-    let row = |input, file: Vec<u8>| {
+    let row = |input: &str, file: Vec<u8>| {
         let same = file.clone();
         Row {
             routine,
-            input,
+            input: input.to_string(),
             calls: 1,
             proved: Box::new(move || compared(unsafe { proved(file.as_ptr(), file.len(), 1) })),
             rust: Box::new(move || compared(rust(&same, 1))),
@@ -67,33 +68,44 @@ fn on_tests(
         row("12 writes, 16 checks, many rules", inputs::dense_file()),
         row("12 writes, 16 checks, no rules", inputs::settings_file(0)),
         row("12 writes, 16 checks, 3 rules", inputs::settings_file(3)),
-        row("12 writes, 16 checks, all hold", inputs::holding_file()),
+        row("12 writes, 16 checks, all hold", inputs::holding_file(12)),
+        row(
+            "log of 10 puts, its rules",
+            inputs::long_log_file(&log_rules()),
+        ),
+        row("log of 10 puts, no rules", inputs::long_log_file(&[])),
+        row("20 writes, 16 checks, no rules", inputs::marks_file(0, 1)),
+        row("20 writes, 16 checks, 3 rules", inputs::marks_file(3, 1)),
+        row("20 writes, 16 checks, all hold", inputs::holding_file(20)),
     ]
 }
 
 fn judge(proved: OnTest) -> Vec<Row> {
     // Which bad schedule is shown is left free.
     let counts = |answer| answer % (1 << 42);
-    let mut rows = on_tests("judge", proved, fast::judge::judge, counts);
-    rows.extend(on_tests(
-        "judge, Rust 64 at a time",
-        proved,
-        fast::judge::judge_by_words,
-        counts,
-    ));
-    rows
+    let ways: [(&'static str, fn(&[u8], u64) -> u64); 3] = [
+        ("judge", fast::judge::judge),
+        ("judge, Rust 64 at a time", fast::judge::judge_by_words),
+        ("judge, Rust by open checks", fast::judge::judge_settled),
+    ];
+    let rows = ways.map(|(routine, rust)| on_tests(routine, proved, rust, counts));
+    rows.into_iter().flatten().collect()
 }
 
 fn verdict(proved: OnTest) -> Vec<Row> {
-    on_tests("verdict", proved, fast::judge::verdict, |answer| {
-        answer.min(1)
-    })
+    let ways: [(&'static str, fn(&[u8], u64) -> u64); 2] = [
+        ("verdict", fast::judge::verdict),
+        ("verdict, Rust by open checks", fast::judge::verdict_settled),
+    ];
+    let fails = |answer: u64| answer.min(1);
+    let rows = ways.map(|(routine, rust)| on_tests(routine, proved, rust, fails));
+    rows.into_iter().flatten().collect()
 }
 
 /// A row of a routine that writes to a buffer.
 fn on_file(
     routine: &'static str,
-    input: &'static str,
+    input: &str,
     file: Vec<u8>,
     proved: OnFile,
     rust: fn(&[u8], &mut [u8]) -> u64,
@@ -102,7 +114,7 @@ fn on_file(
     let mut buffer = [0; 400];
     Row {
         routine,
-        input,
+        input: input.to_string(),
         calls: 1,
         proved: Box::new(move || unsafe {
             proved(file.as_ptr(), file.len(), buffer.as_mut_ptr(), buffer.len())
@@ -111,14 +123,22 @@ fn on_file(
     }
 }
 
+/// The longest file in words, with its length as the tables write numbers.
+fn longest_in_words() -> String {
+    let (thousands, rest) = (LONGEST / 1000, LONGEST % 1000);
+    format!("longest file, {thousands},{rest:03} bytes, 16 tests")
+}
+
 fn lines(proved: OnFile) -> Vec<Row> {
-    vec![on_file(
-        "program's text",
-        "longest file, 19,376 bytes, 16 tests",
-        inputs::longest_file(),
-        proved,
-        fast::program::judge_lines,
-    )]
+    let text = fast::program::judge_lines;
+    let row = |input: &str, file| on_file("program's text", input, file, proved, text);
+    vec![
+        row(&longest_in_words(), inputs::longest_file()),
+        row(
+            "16 tests of 20 writes, 16 checks, no rules",
+            inputs::marks_file(0, 16),
+        ),
+    ]
 }
 
 fn read(proved: Read) -> Vec<Row> {
@@ -126,7 +146,7 @@ fn read(proved: Read) -> Vec<Row> {
     let same = file.clone();
     vec![Row {
         routine: "reading",
-        input: "longest file, 19,376 bytes, 16 tests",
+        input: longest_in_words(),
         calls: 1,
         proved: Box::new(move || unsafe { proved(file.as_ptr(), file.len()) }),
         rust: Box::new(move || fast::file::read(&same)),
@@ -134,7 +154,7 @@ fn read(proved: Read) -> Vec<Row> {
 }
 
 fn find(proved: OnFile) -> Vec<Row> {
-    let row = |input, file| on_file("find", input, file, proved, fast::find::find);
+    let row = |input: &str, file| on_file("find", input, file, proved, fast::find::find);
     vec![
         row(
             "16 candidates, 16 tests of 12 writes, none does",
@@ -182,7 +202,7 @@ fn on_states<const N: usize>(
     };
     let row = |(input, state): (&'static str, Vec<u8>)| Row {
         routine,
-        input,
+        input: input.to_string(),
         calls,
         proved: on_state(&state, again(calls, proved)),
         rust: on_state(&state, again(calls, rust)),
@@ -255,7 +275,7 @@ fn drain(proved: OnState) -> Vec<Row> {
 }
 
 fn hand_in(proved: HandIn) -> Vec<Row> {
-    let row = |input, load: &Load| {
+    let row = |input: &str, load: &Load| {
         let state = inputs::state_of(load, 63, 0);
         let Write {
             address,
@@ -265,7 +285,7 @@ fn hand_in(proved: HandIn) -> Vec<Row> {
         } = load.writes[63];
         Row {
             routine: "hand-in",
-            input,
+            input: input.to_string(),
             calls: 1,
             proved: on_state(&state, move |state, _| unsafe {
                 let (first, second) = (block.first, block.second);
@@ -301,7 +321,7 @@ fn get(proved: Get) -> Vec<Row> {
     let same = disk.clone();
     vec![Row {
         routine: "get",
-        input: "log of 255 blocks, another key",
+        input: "log of 255 blocks, another key".to_string(),
         calls: 1,
         proved: Box::new(move || unsafe { proved(disk.as_ptr(), disk.len(), KEY) }),
         rust: Box::new(move || fast::log::get(&same, KEY)),

@@ -417,8 +417,10 @@ mod tests {
     /// Each test of these files, with what its main writes depend on.
     fn for_each_test(mut look: impl FnMut(&[Rule], &Test, &[Vec<usize>])) {
         for file in many_files() {
-            for test in &file.tests {
-                look(&file.rules, test, &dependencies(&file.rules, &test.main));
+            for mut test in file.tests {
+                // With more writes there are too many schedules to note them all.
+                test.main.truncate(inputs::MAIN);
+                look(&file.rules, &test, &dependencies(&file.rules, &test.main));
             }
         }
     }

@@ -1,10 +1,11 @@
 // The proved verdict beside that of an SMT solver: the rows of the second table, and a comparison
 // of the solver with the reference on many tests, so that the question asked is the right one.
 
+use reference::counts;
 use reference::crashes;
 use reference::file::{self, File};
 use reference::generate::{self, Values};
-use reference::judge::{judge_test, readable};
+use reference::judge::readable;
 use reference::random::Random;
 use reference::samples::log_rules;
 
@@ -44,6 +45,12 @@ pub fn rows(verdict: Verdict) -> Vec<Row> {
         row("log of 6 puts, its rules", inputs::log_file(&log_rules())),
         row("log of 6 puts, no rules", inputs::log_file(&[])),
         row("12 writes, 16 checks, many rules", inputs::dense_file()),
+        row(
+            "log of 10 puts, its rules",
+            inputs::long_log_file(&log_rules()),
+        ),
+        row("log of 10 puts, no rules", inputs::long_log_file(&[])),
+        row("20 writes, 16 checks, no rules", inputs::marks_file(0, 1)),
     ]
 }
 
@@ -62,7 +69,7 @@ pub fn compare_with_reference(files: u64) {
         let file = random_file(seed);
         for test in &file.tests {
             let script = smt::script(&file.rules, test);
-            let fails = judge_test(&file.rules, test).bad != 0;
+            let fails = counts::expected(&file.rules, test).bad != 0;
             assert_eq!(solver.satisfiable(&script), fails, "seed {seed}\n{script}");
             counts[fails as usize] += 1;
         }

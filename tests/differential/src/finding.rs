@@ -6,9 +6,9 @@ use std::collections::BTreeMap;
 use reference::checks::Check;
 use reference::crashes;
 use reference::damage;
-use reference::file::{bytes_of, Field, File, Test, MOST_CHECKS, MOST_MAIN, MOST_TESTS};
+use reference::file::{bytes_of, Field, File, Test, MOST_CHECKS, MOST_TESTS};
 use reference::find::{all_do, candidates, find, members, sets_that_do};
-use reference::find::{LEAST_BUFFER, MOST_CANDIDATES};
+use reference::find::{LEAST_BUFFER, MOST_CANDIDATES, MOST_MAIN};
 use reference::generate::{self, Values};
 use reference::random::Random;
 use reference::refusal::{self, NO_SET_DOES};
@@ -17,6 +17,7 @@ use reference::schedule::disk_of;
 use reference::writes::{Block, Write};
 
 use crate::answer;
+use crate::around::{file_with, AROUND};
 use crate::calls;
 use crate::harness::{require, same_answer_on, Failure, Outcome, Run, Suite};
 use crate::lent::Lent;
@@ -33,6 +34,8 @@ pub fn suites() -> Vec<Suite> {
         suite("find: many rules", many_rules),
         suite("find: 11, around 16 candidates", around_16),
         suite("find: 10, files with rules", files_with_rules),
+        suite("find: 24, over 12 main writes", over_12),
+        suite("find: 24 or 6, 12 to 21 main writes anywhere", around_20),
         suite("find: damaged files", damaged_files),
         suite("find: 12, buffers around 96 bytes", buffers),
     ]
@@ -201,8 +204,9 @@ fn without_rules(
     answers.include(run, keys)
 }
 
+/// Those of more than six puts have too many main writes.
 fn logs(run: &mut Run) -> Outcome {
-    without_rules(run, 25, crashes::log_file, &["2 rules"])
+    without_rules(run, 40, crashes::log_file, &["2 rules", "refused 24"])
 }
 
 fn heads_around_tails(run: &mut Run) -> Outcome {
@@ -485,6 +489,68 @@ fn files_with_rules(run: &mut Run) -> Outcome {
         same_rules(&mut random, &file.to_bytes(), length, of_reference)?;
     }
     Ok(())
+}
+
+/// A test of one name, for which no rules are needed, of 12, 13 and 20 main writes.
+fn over_12(run: &mut Run) -> Outcome {
+    let one_name = |random: &mut Random, main: usize| {
+        let values = Values {
+            names: vec![random.byte()],
+            ..Values::small(random)
+        };
+        let initial = random.below(4);
+        generate::test_of(random, &values, initial, main, 0)
+    };
+    for main in [MOST_MAIN, MOST_MAIN + 1, 20] {
+        for place in 0..3 {
+            for length in [LEAST_BUFFER, LEAST_BUFFER + 40, LEAST_BUFFER - 1, 0] {
+                let mut random = run.next_case();
+                let mut tests: Vec<Test> = (0..2).map(|_| one_name(&mut random, 2)).collect();
+                tests.insert(place, one_name(&mut random, main));
+                let file = File {
+                    rules: vec![],
+                    tests,
+                };
+                let known = if main > MOST_MAIN {
+                    Err(refusal::plain(refusal::TOO_MANY_TO_FIND))
+                } else if length < LEAST_BUFFER {
+                    Err(refusal::plain(refusal::BUFFER_TOO_SHORT))
+                } else {
+                    Ok(0)
+                };
+                let got = same_rules(&mut random, &file.to_bytes(), length, of_reference)?;
+                same_answer_on("find", &[], answer::of(known), got)?;
+            }
+        }
+    }
+    Ok(())
+}
+
+/// By fast, since some have 16 tests and many candidates.
+fn around_20(run: &mut Run) -> Outcome {
+    let mut answers = Answers::default();
+    for main in AROUND {
+        for _ in 0..run.times(60) {
+            let mut random = run.next_case();
+            let (mut file, _) = file_with(&mut random, main);
+            if !random.one_in(4) {
+                file.rules.clear();
+            }
+            let length = random.pick(&[0, 95, 96, 200]);
+            let bytes = file.to_bytes();
+            answers.count(same_rules(&mut random, &bytes, length, fast::find::find)?);
+        }
+    }
+    answers.include(
+        run,
+        &[
+            "refused 6",
+            "refused 10",
+            "refused 11",
+            "refused 12",
+            "refused 24",
+        ],
+    )
 }
 
 fn damaged_files(run: &mut Run) -> Outcome {

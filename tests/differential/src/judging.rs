@@ -1,17 +1,20 @@
 // Judging a test: the counts of its schedules, a bad one of them, and the verdict.
 
 use reference::checks::Check;
+use reference::counts::{self, expected, FEW};
 use reference::crashes;
 use reference::damage::{self, LIMITS};
 use reference::file::{File, Test, MOST_CHECKS, MOST_INITIAL, MOST_MAIN, MOST_RULES, MOST_TESTS};
 use reference::generate::{self, Values};
 use reference::judge::{is_bad, judge_test, numbered, readable, schedules, Judgement};
+use reference::log::{self, MOST_MAIN_PUTS};
 use reference::random::Random;
 use reference::refusal::Refusal;
 use reference::samples;
 use reference::writes::{Block, Rule, Write, PREDICATES};
 
 use crate::answer;
+use crate::around::{file_with, AROUND};
 use crate::calls;
 use crate::harness::{fail, require, same_answer, Outcome, Run, Suite};
 use crate::lent::Lent;
@@ -31,7 +34,16 @@ pub fn suites() -> Vec<Suite> {
         ),
         suite("judge: bad from the start", bad_from_the_start),
         suite("judge: every rule on every two labels", every_two_labels),
-        suite("judge: 12 main writes", most_main_writes),
+        suite("judge: 12 main writes", twelve_main_writes),
+        suite("judge: 13 to 19 main writes", up_to_19_main_writes),
+        suite("judge: 20 main writes", most_main_writes),
+        suite(
+            "judge: 13 to 20 main writes, schedule by schedule",
+            schedule_by_schedule,
+        ),
+        suite("judge: logs of 9 and 10 puts", long_logs),
+        suite("judge: traces as long as the paper's", as_in_the_paper),
+        suite("judge: 12, 13, 19, 20 and 21 main writes", around_20),
         suite("judge: the schedules shown", schedules_shown),
         suite("judge: 32 rules", most_rules),
         suite("judge: full files", full_files),
@@ -52,8 +64,13 @@ fn judgement_of(answer: u64) -> Judgement {
 }
 
 /// The counts are the expected ones, and the schedule shown is bad, or 0 where none is.
-fn same_judgement(file: &[u8], rules: &[Rule], test: &Test, number: u64, got: u64) -> Outcome {
-    let expected = judge_test(rules, test);
+fn same_judgement(
+    file: &[u8],
+    (rules, test): (&[Rule], &Test),
+    number: u64,
+    expected: &Judgement,
+    got: u64,
+) -> Outcome {
     let found = judgement_of(got);
     let counts = found.valid == expected.valid && found.bad == expected.bad;
     let shown = match expected.bad {
@@ -72,8 +89,13 @@ fn same_judgement(file: &[u8], rules: &[Rule], test: &Test, number: u64, got: u6
 }
 
 /// 0 if no schedule is bad, else 1 + the number of one that is.
-fn same_verdict(file: &[u8], rules: &[Rule], test: &Test, number: u64, got: u64) -> Outcome {
-    let expected = judge_test(rules, test);
+fn same_verdict(
+    file: &[u8],
+    (rules, test): (&[Rule], &Test),
+    number: u64,
+    expected: &Judgement,
+    got: u64,
+) -> Outcome {
     let right = match got {
         0 => expected.bad == 0,
         _ => is_bad(rules, test, got - 1),
@@ -99,8 +121,9 @@ fn same_on(lent: &Lent, file: &Result<File, Refusal>, number: u64) -> Outcome {
         .and_then(|file| Ok((&file.rules, numbered(file, number)?)));
     match test {
         Ok((rules, test)) => {
-            same_judgement(bytes, rules, test, number, judged)?;
-            same_verdict(bytes, rules, test, number, verdict)?;
+            let known = expected(rules, test);
+            same_judgement(bytes, (rules, test), number, &known, judged)?;
+            same_verdict(bytes, (rules, test), number, &known, verdict)?;
         }
         Err(refusal) => {
             let refused = answer::of(Err(refusal));
@@ -209,7 +232,7 @@ struct Kinds {
 impl Kinds {
     fn count(&mut self, file: &File) {
         for test in &file.tests {
-            let judgement = judge_test(&file.rules, test);
+            let judgement = expected(&file.rules, test);
             self.all += 1;
             self.holds += u64::from(judgement.bad == 0);
             self.some_bad += u64::from(0 < judgement.bad && judgement.bad < judgement.valid);
@@ -368,7 +391,7 @@ fn bad_from_the_start(run: &mut Run) -> Outcome {
             rules: crashes::acyclic_rules(&mut random, &values, 6),
             tests: vec![test],
         };
-        only += u64::from(judge_test(&file.rules, &file.tests[0]).bad == 1);
+        only += u64::from(expected(&file.rules, &file.tests[0]).bad == 1);
         same_on_file(&mut random, &file)?;
     }
     run.note(format!("in {only} nothing else is bad"));
@@ -432,19 +455,118 @@ fn two_writes(one: (u8, u32), two: (u8, u32)) -> Test {
     }
 }
 
-fn most_main_writes(run: &mut Run) -> Outcome {
+fn twelve_main_writes(run: &mut Run) -> Outcome {
     let mut kinds = Kinds::default();
     for _ in 0..run.times(800) {
         let mut random = run.next_case();
         let values = Values::small(&mut random);
         let file = File {
             rules: crashes::acyclic_rules(&mut random, &values, 12),
-            tests: vec![crashes::test(&mut random, &values, MOST_MAIN)],
+            tests: vec![crashes::test(&mut random, &values, 12)],
         };
         kinds.count(&file);
         same_on_each(&mut random, &file.to_bytes(), &[1])?;
     }
     kinds.spread(run)
+}
+
+/// Tests of all kinds with these numbers of main writes in turn, by diagrams.
+fn of_every_kind(run: &mut Run, cases: u64, mains: &[usize]) -> Outcome {
+    let mut kinds = Kinds::default();
+    for _ in 0..run.times(cases) {
+        for &main in mains {
+            let mut random = run.next_case();
+            let file = crashes::file_of(&mut random, main);
+            kinds.count(&file);
+            same_on_each(&mut random, &file.to_bytes(), &[1])?;
+        }
+    }
+    kinds.spread(run)
+}
+
+fn up_to_19_main_writes(run: &mut Run) -> Outcome {
+    of_every_kind(run, 150, &[13, 14, 15, 16, 17, 18, 19])
+}
+
+fn most_main_writes(run: &mut Run) -> Outcome {
+    of_every_kind(run, 1_200, &[MOST_MAIN])
+}
+
+/// A few tests by going through all their schedules, up to 1,048,576; the diagrams, by which there are
+/// many more, say the same.
+fn schedule_by_schedule(run: &mut Run) -> Outcome {
+    for (main, cases) in [(13, 4), (16, 2), (19, 2), (MOST_MAIN, 10)] {
+        for _ in 0..run.times(cases) {
+            let mut random = run.next_case();
+            let file = crashes::file_of(&mut random, main);
+            let (rules, test) = (&file.rules[..], &file.tests[0]);
+            let known = judge_test(rules, test);
+            let by_diagrams = counts::judge_test(rules, test);
+            let same = known == by_diagrams;
+            require(same, &format!("{known:?}"), format!("{by_diagrams:?}"))?;
+            let lent = Lent::new(&mut random, &file.to_bytes());
+            let (judged, verdict) = (calls::judge(&lent, 1), calls::verdict(&lent, 1));
+            same_judgement(lent.content(), (rules, test), 1, &known, judged)?;
+            same_verdict(lent.content(), (rules, test), 1, &known, verdict)?;
+            lent.unchanged("file")?;
+        }
+    }
+    Ok(())
+}
+
+/// Under its rules a log's schedules are: up to some superblock all, and behind it any log blocks.
+/// Without rules those are good that have all log blocks up to the last superblock.
+fn long_logs(run: &mut Run) -> Outcome {
+    for puts in [9, MOST_MAIN_PUTS] {
+        for before in 0..=32 {
+            let mut random = run.next_case();
+            let initial = generate::puts(&mut random, before);
+            let main = generate::puts(&mut random, puts);
+            let all = 1u64 << (2 * puts);
+            let good = (1u64 << puts) + puts as u64 * (1 << (puts - 1));
+            for (rules, valid, bad) in [
+                (&samples::log_rules()[..], (2 << puts) - 1, 0),
+                (&[], all, all - good),
+            ] {
+                let file = File {
+                    rules: rules.to_vec(),
+                    tests: vec![log::test_of(&initial, &main)],
+                };
+                let lent = Lent::new(&mut random, &file.to_bytes());
+                let found = judgement_of(calls::judge(&lent, 1));
+                require(
+                    (found.valid, found.bad) == (valid, bad),
+                    &format!("{valid} valid and {bad} bad schedules of {puts} puts"),
+                    format!("{found:?}"),
+                )?;
+                same_on_each(&mut random, &file.to_bytes(), &[1])?;
+            }
+        }
+    }
+    Ok(())
+}
+
+/// The writes of the paper's litmus tests: those of Table 1, their mean and the most that there were.
+fn as_in_the_paper(run: &mut Run) -> Outcome {
+    of_every_kind(run, 60, &[2, 6, 1, 7, 7, 5, 5, 5, 6, 9, 7, MOST_MAIN])
+}
+
+/// Judged up to 20, and by reading refused beyond, wherever in the file the test is.
+fn around_20(run: &mut Run) -> Outcome {
+    for main in AROUND {
+        for _ in 0..run.times(60) {
+            let mut random = run.next_case();
+            let (file, refusal) = file_with(&mut random, main);
+            if let Some(refusal) = refusal {
+                let lent = Lent::new(&mut random, &file.to_bytes());
+                let (known, bytes) = (answer::of(Err(refusal)), lent.content());
+                same_answer("judge test 1", bytes, known, calls::judge(&lent, 1))?;
+                same_answer("verdict on test 1", bytes, known, calls::verdict(&lent, 1))?;
+            }
+            same_on_file(&mut random, &file)?;
+        }
+    }
+    Ok(())
 }
 
 /// The bad schedule shown, which document 01 leaves free: judge and verdict go through the schedules
@@ -458,7 +580,7 @@ fn schedules_shown(run: &mut Run) -> Outcome {
         let most = random.pick(&[0, 2, 12]);
         let file = File {
             rules: crashes::acyclic_rules(&mut random, &values, most),
-            tests: vec![crashes::test(&mut random, &values, MOST_MAIN)],
+            tests: vec![crashes::test(&mut random, &values, FEW)],
         };
         let test = &file.tests[0];
         let bad: Vec<u64> = schedules(test)

@@ -8,6 +8,7 @@ use reference::random::Random;
 use reference::refusal::Refusal;
 
 use crate::answer;
+use crate::around::{file_with, AROUND};
 use crate::calls;
 use crate::harness::{same_answer, Outcome, Run, Suite};
 use crate::lent::Lent;
@@ -17,6 +18,7 @@ pub fn suites() -> Vec<Suite> {
     vec![
         suite("locate: every test of random files", random_files),
         suite("locate: files at the limits", files_at_limits),
+        suite("locate: 12, 13, 19, 20 and 21 main writes", around_20),
         suite("locate: damaged files", damaged_files),
     ]
 }
@@ -78,6 +80,17 @@ fn files_at_limits(run: &mut Run) -> Outcome {
         let mut random = run.next_case();
         let bytes = generate::full_file(&mut random, pairs_only).to_bytes();
         same_places(run, &mut random, &bytes)?;
+    }
+    Ok(())
+}
+
+fn around_20(run: &mut Run) -> Outcome {
+    for main in AROUND {
+        for _ in 0..run.times(60) {
+            let mut random = run.next_case();
+            let (file, _) = file_with(&mut random, main);
+            same_places(run, &mut random, &file.to_bytes())?;
+        }
     }
     Ok(())
 }

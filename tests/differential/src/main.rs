@@ -2,6 +2,7 @@
 // them; PELZHONDY_SEED is the base seed, PELZHONDY_CASES multiplies the number of cases.
 
 mod answer;
+mod around;
 mod calls;
 mod child;
 mod cyclic;

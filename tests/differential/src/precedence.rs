@@ -6,7 +6,7 @@ use reference::checks::Check;
 use reference::damage;
 use reference::file::{File, Test, MOST_CHECKS, MOST_INITIAL, MOST_MAIN, MOST_RULES, MOST_TESTS};
 use reference::file::{END, INITIAL, MAIN, RANGE, RULE};
-use reference::find::{self, LEAST_BUFFER};
+use reference::find::{self, LEAST_BUFFER, MOST_MAIN as MOST_TO_FIND};
 use reference::judge;
 use reference::log::{self, MOST_INITIAL_PUTS, MOST_MAIN_PUTS, PUT};
 use reference::random::Random;
@@ -28,7 +28,7 @@ pub fn suites() -> Vec<Suite> {
             "precedence: 12, reading, 8 of lines; reading of cyclic",
             lines,
         ),
-        suite("precedence: reading, 10, 12, 11, 13 of find", finding),
+        suite("precedence: reading, 10, 24, 12, 11, 13 of find", finding),
         suite("precedence: 14, reading, 22, 8 of open", opening),
         suite("precedence: 14, 15, 16, 17, 18 of hand-in", handing_in),
         suite("precedence: 14, 15 of step and drain", storing),
@@ -328,10 +328,15 @@ fn lines(run: &mut Run) -> Outcome {
 }
 
 fn finding(run: &mut Run) -> Outcome {
-    for [ruled, short, many, hopeless] in combinations() {
-        // Names of their own for all writes: over 16 candidates, or 2.
-        let count = if many { MOST_MAIN } else { 2 };
-        let main: Vec<Write> = (0..count as u8).map(|i| write(i, i, 0)).collect();
+    for [ruled, large, short, many, hopeless] in combinations() {
+        // Names of their own for all writes: over 16 candidates, or with two names 4.
+        let count = match (large, many) {
+            (true, _) => MOST_TO_FIND + 1,
+            (false, true) => MOST_TO_FIND,
+            (false, false) => 2,
+        };
+        let name = |i: u8| if many { i } else { i % 2 };
+        let main: Vec<Write> = (0..count as u8).map(|i| write(i, name(i), 0)).collect();
         // Each of two writes only with the other: rules would have to be cyclic.
         let both = |a, b| Check::Pair {
             a,
@@ -368,6 +373,7 @@ fn finding(run: &mut Run) -> Outcome {
                     let known = unread.or_else(|| {
                         first(&[
                             (ruled, refusal::FILE_HAS_RULES),
+                            (large, refusal::TOO_MANY_TO_FIND),
                             (short, refusal::BUFFER_TOO_SHORT),
                             (many, refusal::TOO_MANY_CANDIDATES),
                             (hopeless, refusal::NO_SET_DOES),

@@ -15,6 +15,7 @@ use reference::random::Random;
 use reference::samples;
 use reference::writes::Rule;
 
+use crate::around::{file_with, AROUND};
 use crate::child::{self, Ended, Input};
 use crate::harness::{fail, hexadecimal, require, Outcome, Run, Suite};
 use crate::paths;
@@ -28,6 +29,7 @@ pub fn suites() -> Vec<Suite> {
         suite("program: the samples", sample_files),
         suite("program: writes that meet, rules that match", telling_files),
         suite("program: random files", random_files),
+        suite("program: 12, 13, 19, 20 and 21 main writes", around_20),
         suite("program: damaged and cyclic files", refused_files),
         suite(
             "program: the longest file, and longer by a few bytes",
@@ -142,6 +144,17 @@ fn telling_files(run: &mut Run) -> Outcome {
 
 fn random_files(run: &mut Run) -> Outcome {
     each(run, 150, |random| generate::file(random).to_bytes())
+}
+
+fn around_20(run: &mut Run) -> Outcome {
+    for main in AROUND {
+        for _ in 0..run.times(20) {
+            let mut random = run.next_case();
+            let (file, _) = file_with(&mut random, main);
+            same_output(&file.to_bytes())?;
+        }
+    }
+    Ok(())
 }
 
 fn refused_files(run: &mut Run) -> Outcome {

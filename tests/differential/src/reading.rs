@@ -7,6 +7,7 @@ use reference::random::Random;
 use reference::refusal::Refusal;
 
 use crate::answer;
+use crate::around::{file_with, AROUND};
 use crate::calls;
 use crate::harness::{require, same_answer, Outcome, Run, Suite};
 use crate::lent::Lent;
@@ -24,6 +25,7 @@ pub fn suites() -> Vec<Suite> {
         suite("reading: 6, one over a limit", over_limit),
         suite("reading: 7, test not ended", not_ended),
         suite("reading: limits reached exactly", at_limit),
+        suite("reading: 12, 13, 19, 20 and 21 main writes", around_20),
         suite("reading: cut at every length", cut_at_every_length),
         suite(
             "reading: longest file cut at every length",
@@ -154,6 +156,31 @@ fn at_limit(run: &mut Run) -> Outcome {
         }
     }
     Ok(())
+}
+
+/// Accepted up to 20, and the 21st refused where it stands, whatever is before and behind.
+fn around_20(run: &mut Run) -> Outcome {
+    for main in AROUND {
+        for _ in 0..run.times(200) {
+            let mut random = run.next_case();
+            let (file, refusal) = file_with(&mut random, main);
+            let bytes = file.to_bytes();
+            match refusal {
+                Some(refusal) => same_refusal(&mut random, &bytes, refusal)?,
+                None => {
+                    let known = counts(&file);
+                    let of_reference = expected_reading(&bytes);
+                    same_answer("read, of the reference", &bytes, known, of_reference)?;
+                    same_reading(&mut random, &bytes)?;
+                }
+            }
+        }
+    }
+    require(
+        LONGEST == 21_040,
+        "the longest file has 21,040 bytes",
+        LONGEST.to_string(),
+    )
 }
 
 /// The first `length` bytes, with the rest of the file behind them.

@@ -1,7 +1,10 @@
 // Traces of the reading log: the test of two programs of puts, written to a buffer.
 
-use reference::log::{trace, MOST_INITIAL_PUTS, MOST_MAIN_PUTS, PUT};
+use reference::file::bytes_of;
+use reference::log::{test_of, trace, MOST_INITIAL_PUTS, MOST_MAIN_PUTS, PUT};
 use reference::random::Random;
+use reference::refusal;
+use reference::writes::Block;
 
 use crate::answer;
 use crate::calls;
@@ -13,6 +16,7 @@ pub fn suites() -> Vec<Suite> {
     vec![
         suite("trace: the bench sheet's lines", bench_sheet),
         suite("trace: every number of puts", every_number),
+        suite("trace: 9, 10 and 11 main puts", around_10),
         suite("trace: any programs", any_programs),
         suite("trace: 12, every buffer around a trace", buffers),
     ]
@@ -112,6 +116,39 @@ fn every_number(run: &mut Run) -> Outcome {
     Ok(())
 }
 
+/// Up to 10 are accepted; the answers are known, and the bytes are those of the test.
+fn around_10(run: &mut Run) -> Outcome {
+    for main in [9, 10, 11] {
+        for initial in [0, 1, 31, 32] {
+            for room in [0, 1, 300] {
+                let mut random = run.next_case();
+                let (one, two) = (program(&mut random, initial), program(&mut random, main));
+                let needed = trace_length(initial + main);
+                let expected = match main {
+                    11 => Err(refusal::plain(refusal::OVER_LIMIT)),
+                    _ => Ok(needed as u64),
+                };
+                let lent = (Lent::new(&mut random, &one), Lent::new(&mut random, &two));
+                let mut after = random.bytes(needed + room);
+                let mut buffer = Lent::new(&mut random, &after);
+                let got = calls::trace(&lent.0, &lent.1, &mut buffer);
+                let inputs = [("initial", &one[..]), ("main", &two[..])];
+                same_answer_on("trace", &inputs, answer::of(expected), got)?;
+                if expected.is_ok() {
+                    let puts = |program: &[u8]| -> Vec<Block> {
+                        program.chunks(PUT).map(Block::from_bytes).collect()
+                    };
+                    let test = test_of(&puts(&one), &puts(&two));
+                    after[..needed].copy_from_slice(&bytes_of(&test.fields()));
+                }
+                buffer.became("buffer", &after)?;
+                same_trace(&mut random, &one, &two, needed + room)?;
+            }
+        }
+    }
+    Ok(())
+}
+
 /// Programs of any length, with puts of (0,0) among them: each refusal, and several at once.
 fn any_programs(run: &mut Run) -> Outcome {
     for _ in 0..run.times(5_000) {
@@ -144,7 +181,7 @@ fn any_programs(run: &mut Run) -> Outcome {
 }
 
 fn buffers(run: &mut Run) -> Outcome {
-    for (initial, main) in [(0, 0), (1, 2), (5, 0), (0, 6)] {
+    for (initial, main) in [(0, 0), (1, 2), (5, 0), (0, 10), (32, 10)] {
         let mut random = run.next_case();
         let (one, two) = (program(&mut random, initial), program(&mut random, main));
         for length in 0..trace_length(initial + main) + 3 {

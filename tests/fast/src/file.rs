@@ -6,7 +6,7 @@ use crate::rules::Rules;
 
 pub const MOST_RULES: usize = 32;
 pub const MOST_TESTS: usize = 16;
-pub const MOST_MAIN: usize = 12;
+pub const MOST_MAIN: usize = 20;
 pub const MOST_CHECKS: usize = 16;
 const MOST_INITIAL: usize = 64;
 
@@ -58,6 +58,14 @@ pub struct Scan {
     pub rules: usize,
     pub tests: usize,
     pub places: [Place; MOST_TESTS],
+}
+
+impl Scan {
+    /// The most main writes of a test.
+    pub fn most_main(&self) -> usize {
+        let counts = self.places[..self.tests].iter().map(|place| place.main);
+        counts.max().unwrap_or(0) as usize
+    }
 }
 
 /// The main writes of a test, in columns.

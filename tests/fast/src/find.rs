@@ -262,6 +262,9 @@ fn found(file: &[u8], buffer: usize) -> Result<(Candidates, Set), u64> {
     if scan.rules > 0 {
         return Err(refused(10, 0));
     }
+    if scan.most_main() > MOST_MAIN {
+        return Err(refused(24, 0));
+    }
     if buffer < LEAST_BUFFER {
         return Err(refused(12, 0));
     }
@@ -276,7 +279,9 @@ fn found(file: &[u8], buffer: usize) -> Result<(Candidates, Set), u64> {
         test.fill(file, place);
         objections.fill(&test.main, &candidates);
         each_word(&test, &Order::of_no_rules(), |from, _, bad| {
-            let of = &objections.of[from as usize..];
+            let of: &[Set; 1 << LOW] = objections.of[from as usize..][..1 << LOW]
+                .try_into()
+                .expect("as many as a word has bits");
             members(bad).for_each(|k| within.add(of[k]));
             true
         });

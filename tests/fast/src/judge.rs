@@ -1,9 +1,11 @@
-// Judging: of valid schedules only, one at a time or 64 at a time.
+// Judging: of valid schedules only, one at a time or 64 at a time, or only of those that a check hangs
+// on, with the others counted.
 
 use crate::file::{scan, Test};
 use crate::order::Order;
 use crate::refused;
 use crate::rules::Rules;
+use crate::settled::{each_failing, Closed};
 use crate::sources::Sources;
 use crate::words::each_word;
 
@@ -50,6 +52,27 @@ pub fn verdict(file: &[u8], number: u64) -> u64 {
     })
 }
 
+/// The judgement without going through what is settled.
+#[inline(never)]
+pub fn judge_settled(file: &[u8], number: u64) -> u64 {
+    on_test(file, number, |rules, test| settled(rules, test).answer())
+}
+
+/// 0 if the test holds, else 1 + some bad schedule's number. Likewise.
+#[inline(never)]
+pub fn verdict_settled(file: &[u8], number: u64) -> u64 {
+    on_test(file, number, |rules, test| {
+        let mut sources = Sources::NONE;
+        sources.fill(test);
+        let mut found = 0;
+        each_failing(&sources, &Order::of(rules, &test.main), |chosen, _| {
+            found = 1 + chosen;
+            false
+        });
+        found
+    })
+}
+
 /// The answer for a file's rules and the test of that number, or the refusal.
 #[inline(always)]
 fn on_test(file: &[u8], number: u64, answer: impl FnOnce(&Rules, &Test) -> u64) -> u64 {
@@ -70,7 +93,7 @@ fn on_test(file: &[u8], number: u64, answer: impl FnOnce(&Rules, &Test) -> u64) 
 }
 
 /// A test's judgement, 64 schedules at a time.
-pub fn by_words(rules: &Rules, test: &Test) -> Judgement {
+fn by_words(rules: &Rules, test: &Test) -> Judgement {
     let mut judged = Judgement::default();
     each_word(test, &Order::of(rules, &test.main), |from, valid, bad| {
         judged.valid += valid.count_ones() as u64;
@@ -83,6 +106,22 @@ pub fn by_words(rules: &Rules, test: &Test) -> Judgement {
     judged
 }
 
+/// A test's judgement without going through what is settled.
+pub fn settled(rules: &Rules, test: &Test) -> Judgement {
+    let mut sources = Sources::NONE;
+    sources.fill(test);
+    let order = Order::of(rules, &test.main);
+    let closed = Closed::new(test, &order);
+    let (mut bad, mut shown) = (0, 0);
+    each_failing(&sources, &order, |chosen, free| {
+        bad += closed.count(free);
+        shown = chosen;
+        true
+    });
+    let valid = closed.count((1 << test.main.count) - 1);
+    Judgement { valid, bad, shown }
+}
+
 /// A test's judgement, one schedule at a time.
 fn one_by_one(test: &Test, order: &Order) -> Judgement {
     let mut sources = Sources::NONE;
@@ -92,7 +131,10 @@ fn one_by_one(test: &Test, order: &Order) -> Judgement {
         sources: &sources,
         judged: Judgement::default(),
     };
-    visits.go_on(0, 0, 0, sources.start);
+    match sources.main_count {
+        0 => visits.visit(0, sources.start),
+        _ => visits.go_on(0, 0, 0, sources.start),
+    }
     visits.judged
 }
 
@@ -107,7 +149,8 @@ impl Visits<'_> {
     /// `i` on. Both choices for a write that is neither lead to valid ones: flagging it flags all
     /// that it depends on, and leaving it out leaves out all that depends on it.
     fn go_on(&mut self, mut i: usize, mut flagged: u64, barred: u64, mut disk: u64) {
-        while i < self.sources.main_count {
+        let last = self.sources.main_count - 1;
+        while i < last {
             if barred >> i & 1 == 0 {
                 if flagged >> i & 1 == 0 {
                     self.go_on(i + 1, flagged, barred | self.order.bars[i], disk);
@@ -116,6 +159,13 @@ impl Visits<'_> {
                 disk = disk & !self.sources.at[i] | 1 << i;
             }
             i += 1;
+        }
+        if barred >> last & 1 == 0 {
+            if flagged >> last & 1 == 0 {
+                self.visit(flagged, disk);
+                flagged |= self.order.flags[last];
+            }
+            disk = disk & !self.sources.at[last] | 1 << last;
         }
         self.visit(flagged, disk);
     }

@@ -2,8 +2,9 @@
 // and disks as masks, tables computed once per test or state, no allocation. Each function takes and
 // answers what its proved counterpart does, refusals too; the tests hold it to the reference.
 //
-// The judge visits one schedule after another, as its proved counterpart does; the judge by words, the
-// verdict, the program's text and find take 64 at a time.
+// The judge visits one schedule after another; the judge by words, the verdict and find take 64 at a
+// time; the settled judge and verdict and the program's text choose only the writes that an open check
+// hangs on, and count what is left.
 
 pub mod cache;
 pub mod file;
@@ -13,6 +14,7 @@ pub mod log;
 mod order;
 pub mod program;
 mod rules;
+mod settled;
 mod sources;
 mod words;
 

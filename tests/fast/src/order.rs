@@ -25,7 +25,7 @@ impl Order {
             close(&mut flags[..count]);
         }
         let mut bars = [0; MOST_MAIN];
-        for (i, row) in flags.iter_mut().enumerate() {
+        for (i, row) in flags[..count].iter_mut().enumerate() {
             *row |= 1 << i;
             members(*row).for_each(|j| bars[j] |= 1 << i);
         }

@@ -1,7 +1,7 @@
 // What the judging program prints for a file: the file is scanned once, and each test decoded once.
 
 use crate::file::{scan, Test};
-use crate::judge::by_words;
+use crate::judge::settled;
 use crate::refused;
 use crate::rules::Rules;
 
@@ -63,7 +63,7 @@ fn put_lines(file: &[u8], text: &mut Text) -> Result<(), u64> {
     for (number, place) in (1..).zip(&scan.places[..scan.tests]) {
         let mut test = Test::NONE;
         test.fill(file, place);
-        let judged = by_words(&rules, &test);
+        let judged = settled(&rules, &test);
         for figure in [number, judged.valid, judged.bad] {
             text.put_number(figure);
             text.put(b" ");

@@ -9,7 +9,8 @@ use crate::file::{Check, Main, Test, MOST_CHECKS, MOST_MAIN};
 /// Main write i is source i; the initial block at its address, where no earlier one goes, is source
 /// `MOST_MAIN` + i. The last source is in every disk: it stands for all that main writes leave alone.
 pub const SOURCES: usize = 2 * MOST_MAIN + 1;
-pub const ALWAYS: u64 = 1 << (SOURCES - 1);
+const LAST: usize = SOURCES - 1;
+pub const ALWAYS: u64 = 1 << LAST;
 
 /// Broken if one of the premise is seen and none of the conclusion is.
 #[derive(Clone, Copy)]
@@ -19,7 +20,7 @@ pub struct Pair {
 }
 
 impl Pair {
-    const NONE: Pair = Pair {
+    pub const NONE: Pair = Pair {
         premise: 0,
         conclusion: 0,
     };
@@ -30,15 +31,24 @@ impl Pair {
 #[derive(Clone, Copy)]
 pub struct Filled {
     pub at: u64,
-    pub holes: [u64; SOURCES],
+    /// Where the holes of source 0 stand, or would.
+    holes_from: usize,
 }
 
 impl Filled {
     const NONE: Filled = Filled {
         at: 0,
-        holes: [0; SOURCES],
+        holes_from: 0,
     };
 }
+
+/// Where the holes of ranges' sources stand, those of pointers' sources, and those of checks at
+/// addresses that no main write changes, one for each.
+const OF_RANGES: usize = 0;
+const OF_POINTERS: usize = OF_RANGES + LAST;
+const OF_CHECKS: usize = OF_POINTERS + LAST;
+/// A power of 2, so that places need not be compared with it.
+const HOLES: usize = (OF_CHECKS + MOST_CHECKS).next_power_of_two();
 
 pub struct Sources {
     pub main_count: usize,
@@ -50,6 +60,7 @@ pub struct Sources {
     pair_count: usize,
     filled: [Filled; MOST_CHECKS],
     filled_count: usize,
+    holes: [u64; HOLES],
 }
 
 /// The members of a mask, rising.
@@ -72,6 +83,7 @@ impl Sources {
         pair_count: 0,
         filled: [Filled::NONE; MOST_CHECKS],
         filled_count: 0,
+        holes: [0; HOLES],
     };
 
     pub fn fill(&mut self, test: &Test) {
@@ -86,11 +98,11 @@ impl Sources {
             match *check {
                 Check::Pair { a, v, b, w } => self.add_pair(blocks.equal(a, v), blocks.equal(b, w)),
                 Check::Range { at } => {
-                    self.add_filled(&blocks, at, |block| blocks.holes_of_range(block))
+                    self.add_filled(&blocks, at, OF_RANGES, |block| blocks.holes_of_range(block))
                 }
-                Check::Pointer { at } => {
-                    self.add_filled(&blocks, at, |block| blocks.holes_of_pointer(block))
-                }
+                Check::Pointer { at } => self.add_filled(&blocks, at, OF_POINTERS, |block| {
+                    blocks.holes_of_pointer(block)
+                }),
             }
         }
     }
@@ -106,23 +118,57 @@ impl Sources {
         }
     }
 
-    fn add_filled(&mut self, blocks: &Blocks, address: u8, holes_of: impl Fn(u32) -> u64) {
+    fn add_filled(
+        &mut self,
+        blocks: &Blocks,
+        address: u8,
+        of_kind: usize,
+        holes_of: impl Fn(u32) -> u64,
+    ) {
         let filled = &mut self.filled[self.filled_count];
         let mut all_holes = 0;
-        filled.at = match blocks.at(address as usize) {
-            0 => ALWAYS,
-            at => at,
-        };
-        for source in members(filled.at) {
-            let block = match filled.at {
-                ALWAYS => blocks.test.disk[address as usize],
-                _ => blocks.of_source[source],
-            };
-            filled.holes[source] = holes_of(block);
-            all_holes |= filled.holes[source];
+        match blocks.at(address as usize) {
+            0 => {
+                all_holes = holes_of(blocks.test.disk[address as usize]);
+                filled.at = ALWAYS;
+                filled.holes_from = OF_CHECKS + self.filled_count - LAST;
+                self.holes[OF_CHECKS + self.filled_count] = all_holes;
+            }
+            at => {
+                filled.at = at;
+                filled.holes_from = of_kind;
+                for source in members(at) {
+                    // With it no other one is seen at its own address.
+                    let holes = holes_of(blocks.of_source[source]) & !at;
+                    self.holes[of_kind + source] = holes;
+                    all_holes |= holes;
+                }
+            }
         }
         // One that no disk breaks is left out here too.
         self.filled_count += (all_holes != 0) as usize;
+    }
+
+    /// The holes of a check's source.
+    #[inline(always)]
+    pub fn holes(&self, filled: &Filled, source: usize) -> u64 {
+        self.holes[(filled.holes_from + source) % HOLES]
+    }
+
+    /// The sources at a source's address; the last source is by itself.
+    #[inline(always)]
+    pub fn at_of(&self, source: usize) -> u64 {
+        match source {
+            LAST => ALWAYS,
+            _ => self.at[source % MOST_MAIN],
+        }
+    }
+
+    /// The sources at the addresses that a range or a pointer can look at.
+    pub fn seen_by(&self, filled: &Filled) -> u64 {
+        let holes = members(filled.at).fold(0, |all, source| all | self.holes(filled, source));
+        let holes = members(holes & !ALWAYS);
+        holes.fold(filled.at, |all, source| all | self.at_of(source))
     }
 
     pub fn pairs(&self) -> &[Pair] {
@@ -144,7 +190,7 @@ impl Sources {
         }
         for filled in self.filled() {
             let seen = (disk & filled.at).trailing_zeros() as usize;
-            broken |= disk & filled.holes[seen];
+            broken |= disk & self.holes(filled, seen);
         }
         broken == 0
     }

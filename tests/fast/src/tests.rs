@@ -1,11 +1,13 @@
 // Each routine against the reference, on random inputs.
 
 use reference::checks::Check;
+use reference::counts;
 use reference::crashes;
 use reference::damage;
 use reference::file::{File, Test, MOST_MAIN};
+use reference::find::MOST_MAIN as MOST_TO_FIND;
 use reference::generate::{self, Values};
-use reference::judge::{is_bad, judge_test, numbered, readable};
+use reference::judge::{is_bad, numbered, readable};
 use reference::random::Random;
 use reference::refusal::{self, Refusal};
 use reference::states;
@@ -85,31 +87,37 @@ fn reading_beginnings() {
     }
 }
 
-/// Both judges and the verdict on tests of a file.
+/// All judges and verdicts on tests of a file.
 fn same_judgements(bytes: &[u8], numbers: impl IntoIterator<Item = u64>, seed: u64) {
     let file = readable(bytes);
     for number in numbers {
-        let verdict = judge::verdict(bytes, number);
-        for judged in [
-            judge::judge(bytes, number),
-            judge::judge_by_words(bytes, number),
-        ] {
-            let test = file.as_ref().map_err(|refusal| *refusal);
-            match test.and_then(|file| Ok((&file.rules, numbered(file, number)?))) {
-                Err(refusal) => {
-                    assert_eq!(judged, answer(Err(refusal)), "seed {seed}");
-                    assert_eq!(verdict, judged, "seed {seed}");
-                }
-                Ok((rules, test)) => {
-                    let expected = judge_test(rules, test);
+        let judgements = [judge::judge, judge::judge_by_words, judge::judge_settled]
+            .map(|judge| judge(bytes, number));
+        let verdicts = [judge::verdict, judge::verdict_settled].map(|v| v(bytes, number));
+        let test = file.as_ref().map_err(|refusal| *refusal);
+        match test.and_then(|file| Ok((&file.rules, numbered(file, number)?))) {
+            Err(refusal) => {
+                let refused = answer(Err(refusal));
+                assert_eq!(judgements, [refused; 3], "seed {seed}");
+                assert_eq!(verdicts, [refused; 2], "seed {seed}");
+            }
+            Ok((rules, test)) => {
+                let expected = counts::expected(rules, test);
+                for judged in judgements {
                     let counts = (judged & 0x1F_FFFF, judged >> 21 & 0x1F_FFFF);
                     assert_eq!(counts, (expected.valid, expected.bad), "seed {seed}");
-                    if expected.bad == 0 {
-                        assert_eq!((judged >> 42, verdict), (0, 0), "seed {seed}");
-                    } else {
-                        assert!(is_bad(rules, test, judged >> 42), "seed {seed}");
-                        assert_eq!(verdict, 1 + expected.shown, "seed {seed}");
-                    }
+                    let right = match expected.bad {
+                        0 => judged >> 42 == 0,
+                        _ => is_bad(rules, test, judged >> 42),
+                    };
+                    assert!(right, "seed {seed}");
+                }
+                if expected.bad == 0 {
+                    assert_eq!(verdicts, [0, 0], "seed {seed}");
+                } else {
+                    // The one by words is the lowest.
+                    assert_eq!(verdicts[0], 1 + expected.shown, "seed {seed}");
+                    assert!(is_bad(rules, test, verdicts[1] - 1), "seed {seed}");
                 }
             }
         }
@@ -150,6 +158,27 @@ fn judging_up_to_the_limit() {
     }
 }
 
+/// Each number of main writes, of all kinds of tests.
+#[test]
+fn judging_of_every_kind() {
+    let (mut hold, mut fail) = (0, 0);
+    for seed in 0..3000 {
+        let mut random = Random::new(seed);
+        // One at a time a test of 20 writes takes long.
+        let main = match seed % 20 {
+            0 => random.between(13, MOST_MAIN),
+            _ => random.below(13),
+        };
+        let file = crashes::file_of(&mut random, main);
+        match counts::expected(&file.rules, &file.tests[0]).bad {
+            0 => hold += 1,
+            _ => fail += 1,
+        }
+        same_judgements(&file.to_bytes(), [1], seed);
+    }
+    assert!(hold > 500 && fail > 500, "{hold} {fail}");
+}
+
 #[test]
 fn printing() {
     for seed in 0..2000 {
@@ -158,21 +187,18 @@ fn printing() {
             0 => odd_file(&mut random),
             _ => any_file(&mut random),
         };
-        // A whole test of 12 writes takes the reference long.
+        // Tests of 12 writes and more take the reference long.
         let is_long = reference::file::read(&bytes).map_or(false, |file| {
-            file.tests
-                .iter()
-                .map(|test| 1 << test.main.len())
-                .sum::<usize>()
-                > 10_000
+            let long = file.tests.iter().filter(|test| test.main.len() >= 12);
+            long.count() > 2
         });
         if is_long && !random.one_in(20) {
             continue;
         }
+        let text = reference::program::output(&bytes);
         for length in [0, 399, 400, 1000] {
             let mut got = random.bytes(length);
             let mut expected = got.clone();
-            let text = reference::program::output(&bytes);
             let length = if length < 400 {
                 Err(refusal::plain(refusal::BUFFER_TOO_SHORT))
             } else {
@@ -184,6 +210,39 @@ fn printing() {
             assert_eq!(got, expected, "seed {seed}");
         }
     }
+}
+
+/// 16 tests of which every schedule of 20 writes is bad: the initial disk has a block that no write
+/// changes, and with it one that nothing leaves anywhere is asked for.
+#[test]
+fn printing_the_longest_text() {
+    let mut random = Random::new(1);
+    let values = Values {
+        addresses: vec![1, 2, 3],
+        ..Values::small(&mut random)
+    };
+    let mut test = generate::test_of(&mut random, &values, 64, MOST_MAIN, 0);
+    let block = |number| Block {
+        first: number,
+        second: number,
+    };
+    test.checks = vec![Check::Pair {
+        a: 77,
+        v: block(0),
+        b: 1,
+        w: block(9),
+    }];
+    let file = File {
+        rules: vec![],
+        tests: vec![test; 16],
+    };
+    let text: String = (1..=16)
+        .map(|number| format!("{number} 1048576 1048576 fails\n"))
+        .collect();
+    let mut buffer = [0xEE; 400];
+    assert_eq!(program::judge_lines(&file.to_bytes(), &mut buffer), 391);
+    assert_eq!(&buffer[..391], text.as_bytes());
+    assert_eq!(buffer[391..], [0xEE; 9]);
 }
 
 #[test]
@@ -232,7 +291,7 @@ fn finding_up_to_the_limit() {
             epochs: (0..epochs).collect(),
             ..Values::small(&mut random)
         };
-        let most = random.pick(&[5, 7, 9, MOST_MAIN]);
+        let most = random.pick(&[5, 7, 9, MOST_TO_FIND]);
         let test = |random: &mut Random| {
             let main = random.between(2, most);
             if random.one_in(4) {
@@ -263,6 +322,49 @@ fn finding_up_to_the_limit() {
     }
     assert!(rules[..5].iter().all(|&count| count > 0), "{rules:?}");
     assert!(refusals[11] > 0 && refusals[13] > 0, "{refusals:?}");
+}
+
+/// Around the most main writes that finding takes, with each refusal that could come before or after.
+#[test]
+fn finding_beyond_the_limit() {
+    let mut refusals = [0; 29];
+    for seed in 0..500 {
+        let mut random = Random::new(seed);
+        let main = random.pick(&[11, 12, 13, 16, 20, 21]);
+        let values = match random.below(2) {
+            0 => Values::wide(&mut random),
+            _ => Values {
+                names: vec![1],
+                ..Values::small(&mut random)
+            },
+        };
+        let mut file = File {
+            rules: vec![],
+            tests: vec![generate::test_of(&mut random, &values, 0, main, 2)],
+        };
+        if random.one_in(2) {
+            let small = generate::test_of(&mut random, &values, 0, 2, 1);
+            file.tests.insert(random.below(2), small);
+        }
+        if random.one_in(4) {
+            file.rules = generate::rules_of(&mut random, &values, 1);
+        }
+        let bytes = file.to_bytes();
+        let length = random.pick(&[0, 95, 96, 100]);
+        let (mut one, mut two) = (vec![0xEE; length], vec![0xEE; length]);
+        let expected = reference::find::find(&bytes, &mut one).map(|count| count as u64);
+        if let Err(refusal) = expected {
+            refusals[refusal.number as usize] += 1;
+        }
+        assert_eq!(
+            find::find(&bytes, &mut two),
+            answer(expected),
+            "seed {seed}"
+        );
+        assert_eq!(one, two, "seed {seed}");
+    }
+    let often = [6, 10, 12, 11, 24].map(|number| refusals[number]);
+    assert!(often.iter().all(|&count| count > 10), "{refusals:?}");
 }
 
 /// 16 candidates of 16 names: tests of two writes, of which most ask for a rule of their own.

@@ -11,6 +11,8 @@ pub const LOW: usize = 6;
 const LOW_WRITES: u64 = (1 << LOW) - 1;
 /// The main writes that are none of these.
 const LATER_WRITES: u64 = ((1 << MOST_MAIN) - 1) & !LOW_WRITES;
+/// The initial blocks at addresses that only these go to.
+const UNDER_LATER: u64 = LATER_WRITES << MOST_MAIN;
 
 /// For each of the first six writes the schedules that flag it.
 pub const FLAGGED: [u64; LOW] = [
@@ -86,9 +88,9 @@ impl Low {
         count: 0,
     };
 
-    fn fill(&mut self, filled: &Filled, words: &[u64; SOURCES]) {
+    fn fill(&mut self, filled: &Filled, sources: &Sources, words: &[u64; SOURCES]) {
         for source in members(filled.at & !LATER_WRITES & !ALWAYS) {
-            match filled.holes[source] {
+            match sources.holes(filled, source) {
                 0 => {}
                 holes if holes & ALWAYS != 0 => self.broken |= words[source],
                 holes => self.add(words[source], holes),
@@ -145,7 +147,7 @@ impl Tables {
             either.1 = Either::of(pair.conclusion, &self.words);
         }
         for (low, filled) in self.low.iter_mut().zip(sources.filled()) {
-            low.fill(filled, &self.words);
+            low.fill(filled, sources, &self.words);
         }
     }
 }
@@ -154,10 +156,11 @@ impl Words<'_> {
     /// The schedules in which one of these holes is seen.
     #[inline(always)]
     fn seen(&self, holes: u64, later: Later) -> u64 {
-        if holes & later.seen != 0 {
+        let unhidden = holes & !later.hidden;
+        if holes & later.seen | unhidden & UNDER_LATER != 0 {
             return u64::MAX;
         }
-        members(holes & !later.hidden).fold(0, |all, source| all | self.tables.words[source])
+        members(unhidden).fold(0, |all, source| all | self.tables.words[source])
     }
 
     /// The schedules that break a check, as far as they are among these.
@@ -166,6 +169,9 @@ impl Words<'_> {
         let mut broken = 0;
         for (premise, conclusion) in &self.tables.pairs[..self.sources.pairs().len()] {
             broken |= premise.seen(later) & !conclusion.seen(later);
+            if schedules & !broken == 0 {
+                return broken;
+            }
         }
         for (filled, low) in self.sources.filled().iter().zip(&self.tables.low) {
             if schedules & !broken == 0 {
@@ -173,7 +179,8 @@ impl Words<'_> {
             }
             let top = later.seen & filled.at;
             if top != 0 {
-                broken |= self.seen(filled.holes[top.trailing_zeros() as usize], later);
+                let holes = self.sources.holes(filled, top.trailing_zeros() as usize);
+                broken |= self.seen(holes, later);
                 continue;
             }
             broken |= low.broken;

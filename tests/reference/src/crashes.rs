@@ -112,9 +112,44 @@ pub fn file(random: &mut Random) -> File {
     File { rules, tests }
 }
 
+/// A file of one test with this many main writes, of any kind: few values or many, a rule for each
+/// write or none, all writes to one or two addresses or each to its own, logs, ranges, and checks
+/// that ask for what rules guarantee.
+pub fn file_of(random: &mut Random, main: usize) -> File {
+    let mut values = match random.below(3) {
+        0 => Values::wide(random),
+        _ => Values::small(random),
+    };
+    match random.below(6) {
+        0 => values.addresses.truncate(random.between(1, 2)),
+        1 => values.addresses = random.bytes(40),
+        2 => values.epochs = (0..random.between(1, 20) as u32).collect(),
+        _ => {}
+    }
+    let most = random.pick(&[0, 2, 4, 12, 32]);
+    let rules = acyclic_rules(random, &values, most);
+    let guarding = random.between(1, 8);
+    let test = match random.below(6) {
+        0 if main > 0 => guarded_test(random, &values, main, guarding),
+        1 => return range_file_of(random, main),
+        2 if main > 0 && main % 2 == 0 => return log_file_of(random, main / 2),
+        _ => test(random, &values, main),
+    };
+    File {
+        rules,
+        tests: vec![test],
+    }
+}
+
 /// A log under its rules, some of them, or these and another one.
 pub fn log_file(random: &mut Random) -> File {
-    let (before, after) = (random.below(4), random.between(1, log::MOST_MAIN_PUTS));
+    let after = random.between(1, log::MOST_MAIN_PUTS);
+    log_file_of(random, after)
+}
+
+/// Likewise, with so many main puts.
+pub fn log_file_of(random: &mut Random, after: usize) -> File {
+    let before = random.below(4);
     let initial = generate::puts(random, before);
     let main = generate::puts(random, after);
     let mut rules = log_rules().to_vec();
@@ -141,6 +176,12 @@ pub fn log_file(random: &mut Random) -> File {
 /// Rules that are not cyclic and a test of a range: main writes leave heads and tails that are equal
 /// or one apart where a range check looks, and fill blocks between them, or empty them.
 pub fn range_file(random: &mut Random) -> File {
+    let main = random.between(1, 5);
+    range_file_of(random, main)
+}
+
+/// Likewise, with this many main writes.
+pub fn range_file_of(random: &mut Random, main: usize) -> File {
     const NEAR: [u8; 9] = [1, 2, 3, 4, 5, 252, 253, 254, 255];
     let at = random.pick(&[0, 7, 255]);
     let names: Vec<u8> = (1..4).collect();
@@ -166,7 +207,7 @@ pub fn range_file(random: &mut Random) -> File {
             });
         }
     }
-    let main = (0..random.between(1, 5))
+    let main = (0..main)
         .map(|_| {
             let write = generate::write(random, &values);
             match random.below(3) {

@@ -18,7 +18,7 @@ pub const HEADER: usize = 3;
 pub const MOST_RULES: usize = 32;
 pub const MOST_TESTS: usize = 16;
 pub const MOST_INITIAL: usize = 64;
-pub const MOST_MAIN: usize = 12;
+pub const MOST_MAIN: usize = 20;
 pub const MOST_CHECKS: usize = 16;
 
 /// The length of the longest file that reading accepts.

@@ -11,12 +11,17 @@ use crate::writes::{Rule, PREDICATES};
 
 pub const MOST_CANDIDATES: usize = 16;
 pub const LEAST_BUFFER: usize = 96;
+/// The most main writes of a test that finding takes; reading takes more.
+pub const MOST_MAIN: usize = 12;
 
 /// Writes the found rules' fields to the buffer, and answers how many there are.
 pub fn find(file: &[u8], buffer: &mut [u8]) -> Result<usize, Refusal> {
     let file = read(file)?;
     if !file.rules.is_empty() {
         return Err(refusal::plain(refusal::FILE_HAS_RULES));
+    }
+    if file.tests.iter().any(|test| test.main.len() > MOST_MAIN) {
+        return Err(refusal::plain(refusal::TOO_MANY_TO_FIND));
     }
     if buffer.len() < LEAST_BUFFER {
         return Err(refusal::plain(refusal::BUFFER_TOO_SHORT));

@@ -5,6 +5,7 @@
 pub mod book;
 pub mod cache;
 pub mod checks;
+pub mod counts;
 pub mod crashes;
 pub mod cyclic;
 pub mod damage;

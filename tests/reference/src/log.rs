@@ -11,7 +11,7 @@ pub const SUPERBLOCK: u8 = 2;
 
 pub const PUT: usize = 4;
 pub const MOST_INITIAL_PUTS: usize = 32;
-pub const MOST_MAIN_PUTS: usize = 6;
+pub const MOST_MAIN_PUTS: usize = 10;
 
 struct Log {
     head: u16,

@@ -8,7 +8,7 @@ slice-aggregate-mark-all : tie.Need-slice-aggregate-mark-all
 slice-aggregate-mark-all c = search choosing
 
 mark-all-requires : tie.Need-mark-all-requires
-mark-all-requires c κs = (search choosing, (search choosing, (search choosing, blank-made)))
+mark-all-requires c κs = (search choosing, (search choosing, (search choosing, (search choosing, blank-made))))
 
 slice-aggregate-lower-all : tie.Need-slice-aggregate-lower-all
 slice-aggregate-lower-all c = search choosing

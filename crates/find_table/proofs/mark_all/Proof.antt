@@ -6,7 +6,7 @@ use Prim.Native.Nat.{_≤_}
 use lib.ListN.{length}
 use Rattle.rule_match.specs.Held.{rulesOf}
 use Rattle.find_table.specs.Table.{setWords}
-use Rattle.find_table.proofs.MarkLaws.{Marking, marking-more}
+use Rattle.find_table.proofs.MarkLaws.{Marking, test-short, marking-more}
 use Rattle.find_table.proofs.TableSteps.{marking}
 use Rattle.find_table.proofs.mark_all.Statement.{statement}
 use Rattle.find_table.proofs.mark_all.Tie as tie
@@ -32,7 +32,7 @@ array-copy-out-mark-test c = search marking
 mark-test-requires : tie.Need-mark-test-requires Inv-loop μ-loop
 mark-test-requires c κs =
     let p = c .before .before .before .before .before .before .pre in
-    (search marking, (p .1 .0, p .1 .1 .0 .inside _ (search needs)))
+    (search marking, (p .1 .0, (p .1 .1 .0 .inside _ (search needs), test-short _ _ _ _ (p .1 .1 .0) (p .1 .1 .1 .0) (search needs))))
 
 loop-less : tie.Need-loop-less Inv-loop μ-loop
 loop-less c = search marking

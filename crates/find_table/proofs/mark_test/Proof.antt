@@ -16,7 +16,7 @@ slice-aggregate-forbid : tie.Need-slice-aggregate-forbid
 slice-aggregate-forbid c = search marking
 
 forbid-requires : tie.Need-forbid-requires
-forbid-requires c κs = (search marking, (search marking, let t = c .before .before .before .before .before .before .load-test in test-few _ (t .result) (t .ensures)))
+forbid-requires c κs = (search marking, (search marking, let t = c .before .before .before .before .before .before .load-test in test-few _ (t .result) (t .ensures) (c .before .before .before .before .before .before .before .before .before .pre .1 .1 .1)))
 
 shl-all : tie.Need-shl-all
 shl-all c = search marking
@@ -32,7 +32,7 @@ mark-by-requires c κs =
     let t = c .before .before .before .before .before .before .before .before .before .before .before .before .load-test in
     let k = c .before .before .before .before .before .before .before .before .before .before .before .load-checks in
     let p = c .before .before .before .before .before .before .before .before .before .before .before .before .before .before .before .pre in
-    ((search marking, search marking), (halves-few _ (t .result) _ (t .ensures) refl, (t .ensures .checks-most, test-bounded (c .before .before .before .before .before .before .before .before .before .before .before .before .before .before .before .args .cands) _ _ (t .result) (k .result) _ _ (t .ensures) (k .ensures) (c .before .before .before .before .before .forbid .ensures) (all-is _ (p .1 .0)) (p .1 .0) _ _ (halves-are _))))
+    ((search marking, search marking), (halves-few _ (t .result) _ (t .ensures) (p .1 .1 .1) refl, (t .ensures .checks-most, test-bounded (c .before .before .before .before .before .before .before .before .before .before .before .before .before .before .before .args .cands) _ _ (t .result) (k .result) _ _ (t .ensures) (k .ensures) (c .before .before .before .before .before .forbid .ensures) (all-is _ (p .1 .0)) (p .1 .0) _ _ (halves-are _))))
 
 same-length : tie.Need-same-length
 same-length c = search marking

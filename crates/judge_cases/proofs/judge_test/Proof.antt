@@ -16,7 +16,7 @@ fill-requires : tie.Need-fill-requires
 fill-requires c κs = search loops
 
 count-all-requires : tie.Need-count-all-requires
-count-all-requires c κs = search loops
+count-all-requires c κs = (search loops, (search loops, search loops))
 
 returns : tie.Need-returns
 returns c = (search loops, search loops)

@@ -1,45 +1,43 @@
--- `judge_counting::count_all` meets its contract: the tables decide what the rows do.
-use Rattle.judge_counting.proofs.GridLaws.{grids, tallies-rows}
+-- `judge_counting::count_all` meets its contract. It walks from nothing chosen and all free.
+use mathlib.Core.Path.{refl}
+use Rattle.judge_settled.proofs.AnswerLaws.{blank-made}
+use Rattle.judge_counting.proofs.WalkLaws.{start-choice, start-says, start-room, walking}
 use Rattle.judge_counting.proofs.count_all.Statement.{statement}
 use Rattle.judge_counting.proofs.count_all.Tie as tie
 
-first-half-requires : tie.Need-first-half-requires
-first-half-requires c κs = search (grids, tallies-rows)
+order-requires : tie.Need-order-requires
+order-requires c κs = search walking
 
-sub-far : tie.Need-sub-far
-sub-far c = search (grids, tallies-rows)
+slice-aggregate-fill-writers : tie.Need-slice-aggregate-fill-writers
+slice-aggregate-fill-writers c = search walking
 
-slice-aggregate-prepare : tie.Need-slice-aggregate-prepare
-slice-aggregate-prepare c = search (grids, tallies-rows)
+fill-writers-requires : tie.Need-fill-writers-requires
+fill-writers-requires c κs = (search walking, (search walking, blank-made))
 
-slice-aggregate-prepare-2 : tie.Need-slice-aggregate-prepare-2
-slice-aggregate-prepare-2 c = search (grids, tallies-rows)
+shl-walk : tie.Need-shl-walk
+shl-walk c = search walking
 
-prepare-requires : tie.Need-prepare-requires
-prepare-requires c κs = search (grids, tallies-rows)
+sub-walk : tie.Need-sub-walk
+sub-walk c = search walking
 
-slice-aggregate-list-ends : tie.Need-slice-aggregate-list-ends
-slice-aggregate-list-ends c = search (grids, tallies-rows)
-
-list-ends-requires : tie.Need-list-ends-requires
-list-ends-requires c κs = search (grids, tallies-rows)
-
-count-by-requires : tie.Need-count-by-requires
-count-by-requires c κs = search (grids, tallies-rows)
+walk-requires : tie.Need-walk-requires
+walk-requires c κs =
+    let p = c .before .before .before .before .before .before .before .before .before .before .pre in
+    let o = c .before .before .before .before .before .before .before .order .ensures in
+    ((record { few = p .0; size = search walking; at = c .before .before .before .before .before .fill-writers .ensures }, (o .order, start-choice _ _ _ _ (p .0) o)),
+    ((search walking, p .1 .0), (start-says _ _ _ _ (p .0) o _ _ (c .before .before .before .before .before .before .before .before .before .before .args .checks) _ _, start-room _ _ _ _ (p .0) o _ refl refl)))
 
 returns : tie.Need-returns
-returns c = search (grids, tallies-rows)
+returns c = search walking
 
 pub count-all-spec : {M : Type 1} → statement M
 count-all-spec =
     tie.close
     (tie.spec
-    first-half-requires
-    sub-far
-    slice-aggregate-prepare
-    slice-aggregate-prepare-2
-    prepare-requires
-    slice-aggregate-list-ends
-    list-ends-requires
-    count-by-requires
+    order-requires
+    slice-aggregate-fill-writers
+    fill-writers-requires
+    shl-walk
+    sub-walk
+    walk-requires
     returns)

@@ -3,8 +3,8 @@ use Rattle.judge_disks.proofs.DiskSteps.{steps}
 use Rattle.judge_disks.proofs.store_if.Statement.{statement}
 use Rattle.judge_disks.proofs.store_if.Tie as tie
 
-cast-disk : tie.Need-cast-disk
-cast-disk c = search steps
+block-of-requires : tie.Need-block-of-requires
+block-of-requires c κs = search steps
 
 address-of-requires : tie.Need-address-of-requires
 address-of-requires c κs = search steps
@@ -24,4 +24,4 @@ returns-2 c = search steps
 pub store-if-spec : {M : Type 1} → statement M
 store-if-spec =
     tie.close
-    (tie.spec cast-disk address-of-requires mul-disk element-write-disk returns returns-2)
+    (tie.spec block-of-requires address-of-requires mul-disk element-write-disk returns returns-2)

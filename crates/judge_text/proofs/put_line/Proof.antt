@@ -25,8 +25,11 @@ put-requires-3 c κs = search line-steps
 put-verdict-requires : tie.Need-put-verdict-requires
 put-verdict-requires c κs = search line-steps
 
+-- so deep `omega` no longer reaches what the beginning tells: it is handed over
 put-requires-4 : tie.Need-put-requires-4
-put-requires-4 c κs = search line-steps
+put-requires-4 c κs =
+    let k = c .before .before .before .before .before .before .before .before .before .before .before .before .before .before .before .before .before .before .before .before .before .before .before .before .before .before .before .put-number .ensures in
+    omega (arith, c .before .before .before .before .before .before .before .before .before .before .before .before .before .before .before .before .before .before .before .before .before .before .before .before .before .before .before .before .before .before .pre .0, k .0 .size, k .1)
 
 same-length : tie.Need-same-length
 same-length c = search line-steps

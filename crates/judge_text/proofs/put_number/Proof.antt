@@ -1,4 +1,4 @@
--- `judge_text::put_number` meets its contract: a number below 100,000 has at most five digits.
+-- `judge_text::put_number` meets its contract: a number below 10 to the power k has at most k digits.
 use Rattle.judge_text.proofs.LineLaws.{line-steps}
 use Rattle.judge_text.proofs.put_number.Statement.{statement}
 use Rattle.judge_text.proofs.put_number.Tie as tie

@@ -12,6 +12,7 @@ use reference::states;
 
 use super::OTHER_LENGTHS;
 use crate::answer;
+use crate::around::{file_with, AROUND};
 use crate::calls;
 use crate::harness::{require, same_answer_on, Outcome, Run, Suite};
 use crate::lent::Lent;
@@ -22,6 +23,7 @@ pub fn suites() -> Vec<Suite> {
         suite("open: rules", rules),
         suite("open: 8, cyclic rules", cyclic_rules),
         suite("open: 22, files with tests", files_with_tests),
+        suite("open: 22 up to 20 main writes, 6 for 21", around_20),
         suite("open: damaged files", damaged_files),
         suite("open: 14, other lengths", other_lengths),
     ]
@@ -107,6 +109,29 @@ fn files_with_tests(run: &mut Run) -> Outcome {
         file.tests.truncate(random.between(0, 2));
         file.to_bytes()
     })
+}
+
+/// A test of 13 main writes is one; before 20 was the limit it was refused by 6.
+fn around_20(run: &mut Run) -> Outcome {
+    for main in AROUND {
+        for _ in 0..run.times(60) {
+            let mut random = run.next_case();
+            let (file, refused) = file_with(&mut random, main);
+            let bytes = file.to_bytes();
+            let known = refused.unwrap_or(refusal::plain(refusal::FILE_HAS_TESTS));
+            let before = any_state(&mut random);
+            let (mut state, lent) = (
+                Lent::new(&mut random, &before),
+                Lent::new(&mut random, &bytes),
+            );
+            let got = calls::open(&mut state, &lent);
+            let inputs = [("state", &before[..]), ("file", &bytes[..])];
+            same_answer_on("open", &inputs, answer::of(Err(known)), got)?;
+            state.unchanged("state")?;
+            same_opening(&mut random, &before, &bytes)?;
+        }
+    }
+    Ok(())
 }
 
 fn damaged_files(run: &mut Run) -> Outcome {

@@ -162,3 +162,49 @@ fn refusals_of_finding() {
     assert_eq!(find(&file.to_bytes(), &mut []), Err(plain(10)));
     assert_eq!(find(&[], &mut [0; 96]), Ok(0));
 }
+
+/// 24 is asked of all tests, after 10 and before 12, 11 and 13.
+#[test]
+fn finding_keeps_its_twelve() {
+    let mut random = Random::new(6);
+    let one_name = Values {
+        names: vec![1],
+        epochs: vec![0],
+        ..Values::small(&mut random)
+    };
+    let wide = Values::wide(&mut random);
+    for main in 13..=20 {
+        for values in [&one_name, &wide] {
+            let large = generate::test_of(&mut random, values, 2, main, 3);
+            let small = generate::test_of(&mut random, values, 0, 2, 1);
+            for tests in [
+                vec![large.clone()],
+                vec![small.clone(), large.clone()],
+                vec![large.clone(), small.clone(), small.clone()],
+                vec![large.clone(), large],
+            ] {
+                let mut file = File {
+                    rules: vec![],
+                    tests,
+                };
+                for length in [0, 95, 96, 200] {
+                    let mut buffer = vec![0xEE; length];
+                    let refused = find(&file.to_bytes(), &mut buffer);
+                    assert_eq!(refused, Err(plain(24)), "{main} main writes");
+                    assert_eq!(buffer, vec![0xEE; length]);
+                }
+                file.rules = generate::rules_of(&mut random, values, 1);
+                assert_eq!(find(&file.to_bytes(), &mut []), Err(plain(10)));
+            }
+        }
+    }
+    // One of 12 is taken, and one of 21 is not even read.
+    let mut file = File {
+        rules: vec![],
+        tests: vec![generate::test_of(&mut random, &one_name, 0, 12, 0)],
+    };
+    assert_eq!(find(&file.to_bytes(), &mut [0; 96]), Ok(0));
+    file.tests = vec![generate::test_of(&mut random, &one_name, 0, 21, 0)];
+    let read = find(&file.to_bytes(), &mut [0; 96]).unwrap_err();
+    assert_eq!((read.number, read.place), (6, 20 * 13));
+}

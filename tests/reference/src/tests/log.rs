@@ -28,7 +28,7 @@ fn get_finds_the_last_put() {
                 })
                 .collect()
         };
-        let (initial, main) = (puts(seed as usize % 33), puts(seed as usize % 7));
+        let (initial, main) = (puts(seed as usize % 33), puts(seed as usize % 11));
         let mut buffer = vec![0; 2000];
         let length = trace(&program(&initial), &program(&main), &mut buffer).unwrap();
         assert_eq!(length, 26 * (initial.len() + main.len()) + 7);
@@ -50,9 +50,9 @@ fn refusals_of_trace() {
     assert_eq!(call(&[0; 131], &[]), Err(plain(19)));
     assert_eq!(call(&[0; 132], &[0; 5]), Err(plain(19)));
     assert_eq!(call(&[0; 132], &[]), Err(plain(6)));
-    assert_eq!(call(&[], &[0; 28]), Err(plain(6)));
-    assert_eq!(call(&put, &[0; 24]), Err(plain(20)));
-    assert_eq!(call(&put.repeat(32), &put.repeat(6)), Ok(26 * 38 + 7));
+    assert_eq!(call(&[], &[0; 44]), Err(plain(6)));
+    assert_eq!(call(&put, &[0; 40]), Err(plain(20)));
+    assert_eq!(call(&put.repeat(32), &put.repeat(10)), Ok(1_099));
     assert_eq!(call(&[], &[]), Ok(7));
     assert_eq!(trace(&[0; 4], &[], &mut []), Err(plain(20)));
     assert_eq!(trace(&[], &[], &mut [0; 6]), Err(plain(12)));

@@ -1,6 +1,7 @@
 // The reference's own tests: the bench sheet, and each part against a second way to say it.
 
 mod bench_sheet;
+mod counts;
 mod cyclic;
 mod finding;
 mod log;

@@ -1,7 +1,7 @@
 // Reading: the generators' files against what they were made of, and the order of the refusals.
 
 use crate::damage::{self, Damaged, LIMITS};
-use crate::file::{read, read_with_places, File, LONGEST};
+use crate::file::{bytes_of, read, read_with_places, Field, File, LONGEST};
 use crate::generate;
 use crate::random::Random;
 use crate::refusal::at;
@@ -74,7 +74,7 @@ fn limits_exactly_and_by_one() {
 
 #[test]
 fn the_longest_file() {
-    assert_eq!(LONGEST, 19_376);
+    assert_eq!(LONGEST, 21_040);
     let mut bytes = generate::full_file(&mut Random::new(1), true).to_bytes();
     assert_eq!(bytes.len(), LONGEST);
     assert!(read(&bytes).is_ok());
@@ -82,6 +82,29 @@ fn the_longest_file() {
     assert_eq!(read(&bytes), Err(at(1, LONGEST)));
     bytes.push(0);
     assert_eq!(read(&bytes), Err(at(6, LONGEST)));
+}
+
+/// 20 main writes are accepted, and the 21st is refused where it stands.
+#[test]
+fn twenty_main_writes() {
+    let mut random = Random::new(8);
+    let values = generate::Values::small(&mut random);
+    for (initial, before) in [(0, 0), (3, 0), (64, 2)] {
+        let tests = vec![generate::test_of(&mut random, &values, 1, 20, 1); before];
+        let mut fields = File {
+            rules: generate::rules_of(&mut random, &values, 2),
+            tests,
+        }
+        .fields();
+        fields.extend(generate::test_of(&mut random, &values, initial, 20, 0).fields());
+        let accepted = bytes_of(&fields);
+        assert_eq!(read(&accepted).unwrap().tests[before].main.len(), 20);
+        fields.pop();
+        let place = bytes_of(&fields).len();
+        fields.push(damage::field(&mut random, 2));
+        fields.push(Field::end());
+        assert_eq!(read(&bytes_of(&fields)), Err(at(6, place)));
+    }
 }
 
 #[test]

@@ -1,0 +1,19 @@
+-- `judge_closed::order` meets its contract. By the tables of each write, filled from closed rows.
+use Rattle.judge_closed.proofs.OrderLaws.{ordering}
+use Rattle.judge_closed.proofs.order.Statement.{statement}
+use Rattle.judge_closed.proofs.order.Tie as tie
+
+close-requires : tie.Need-close-requires
+close-requires c κs = search ordering
+
+fill-flags-requires : tie.Need-fill-flags-requires
+fill-flags-requires c κs = search ordering
+
+fill-bars-requires : tie.Need-fill-bars-requires
+fill-bars-requires c κs = search ordering
+
+returns : tie.Need-returns
+returns c = search ordering
+
+pub order-spec : {M : Type 1} → statement M
+order-spec = tie.close (tie.spec close-requires fill-flags-requires fill-bars-requires returns)

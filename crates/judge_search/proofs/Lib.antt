@@ -1,0 +1,3 @@
+pub mod CountLaws
+pub mod GridLaws
+pub mod SearchLaws

@@ -1,0 +1,181 @@
+-- The parts of a check by what is said of the blocks they look at, and the checks one after the other.
+use mathlib.Core.Path.{_≡_, refl, sym, ap, _∙_}
+use mathlib.Core.Bool.{Bool, true, false, not, false≢true}
+use mathlib.Core.List.{List}
+use Prim.Native.Nat.{ℕ, suc, _+_, _-_, _≤_, _<_}
+use native.Mathlib.Omega.{arith}
+use lib.ListN.{length, getD, take}
+use borrow.Author.Needs.{needs}
+use borrow.Author.Tests.{eq-eqb, ne-eqb, le-leb, lt-leb}
+use Rattle.relation.specs.Lists.{allBelow}
+use Rattle.relation.proofs.ListLaws.{untrue, allBelow-true}
+use Rattle.model.specs.declared.Check.{Check}
+use Rattle.model.specs.declared.Check.the-variants.{Range, Pair, Pointer}
+use Rattle.model.specs.Limits.{diskBlocks, lastBlock, mostChecks}
+use Rattle.model.specs.Disk.{empty, firstOf, secondOf, blockAt}
+use Rattle.model.specs.Check.{damaged, rangeHolds, holds}
+use Rattle.model.proofs.CheckLaws.{undamaged-ordered, undamaged-inside}
+use Rattle.judge_checks.proofs.CheckSteps.{checks-stop, checks-more}
+use Rattle.judge_closed.specs.Closed.{between}
+use Rattle.judge_settled.specs.declared.Answer.{Answer}
+use Rattle.judge_settled.specs.declared.Answer.the-variants.{Yes, No, Open}
+use Rattle.judge_settled.specs.Settled.{Says, isYes, opposed, diskOf, laid, isBlock, isThere, rangeIn, pairIn, pointerIn, holdsIn, allHold, holdsWith, holdsBy}
+
+clash : {A : Type 0} (b : Bool) → b ≡ true → b ≡ false → A
+clash b e q = absurd (false≢true (sym q ∙ e))
+
+not-true : (b : Bool) → not b ≡ true → b ≡ false
+not-true true e = absurd (false≢true e)
+not-true false e = refl
+
+not-false : (b : Bool) → not b ≡ false → b ≡ true
+not-false true e = refl
+not-false false e = absurd (false≢true (sym e))
+
+-- ---- answers handed on
+
+module _ (p q : ℕ → Bool) (chosen free : ℕ) where
+  -- of tests that agree
+  pub says-same : (answer : Answer) → ((s : ℕ) → p s ≡ q s) → Says p chosen free answer → Says q chosen free answer
+  unfolding Says
+  says-same Yes f g = λ s b. sym (f s) ∙ g s b
+  says-same No f g = λ s b. sym (f s) ∙ g s b
+  says-same (Open h) f g = g
+
+  -- of opposite tests
+  says-opposed : (answer : Answer) → ((s : ℕ) → q s ≡ not (p s)) → Says p chosen free answer → Says q chosen free (opposed answer)
+  unfolding Says opposed
+  says-opposed Yes f g = λ s b. f s ∙ rw (g s b)
+  says-opposed No f g = λ s b. f s ∙ rw (g s b)
+  says-opposed (Open h) f g = g
+
+-- what is said with a yes, and with another answer
+says-yes : (p : ℕ → Bool) (chosen free : ℕ) (answer : Answer) → Says p chosen free answer → isYes answer ≡ true → (s : ℕ) → between chosen free s ≡ true → p s ≡ true
+unfolding Says isYes
+says-yes p chosen free Yes g e = g
+says-yes p chosen free No g e = absurd (false≢true e)
+says-yes p chosen free (Open h) g e = absurd (false≢true e)
+
+says-other : (p q : ℕ → Bool) (chosen free : ℕ) (answer : Answer) → Says p chosen free answer → isYes answer ≡ false → ((s : ℕ) → between chosen free s ≡ true → p s ≡ false → q s ≡ false) → Says q chosen free answer
+unfolding Says isYes
+says-other p q chosen free Yes g e f = absurd (false≢true (sym e))
+says-other p q chosen free No g e f = λ s b. f s b (g s b)
+says-other p q chosen free (Open h) g e f = g
+
+module _ (column base : List ℕ) (n chosen free : ℕ) where
+  -- ---- a block that is there
+
+  pub there-says : (a : ℕ) (answer r : Answer) → Says (isBlock column base n a 0) chosen free answer → r ≡ opposed answer → Says (isThere column base n a) chosen free r
+  unfolding isBlock isThere empty
+  there-says a answer r g e = rw e (says-opposed (isBlock column base n a 0) (isThere column base n a) chosen free answer (λ s. refl) g)
+
+  -- ---- a range
+
+  -- the blocks from head up to k - 1 are there
+  pub record There (head k : ℕ) : Type 0 where
+    pub at : (s : ℕ) → between chosen free s ≡ true → allBelow (λ i. not (empty (blockAt (diskOf column base n s) (head + i)))) (k - head) ≡ true
+
+  module _ (head : ℕ) where
+    pub there-none : There head head
+    unfolding allBelow
+    there-none = record { at = λ s b. ap (allBelow (λ i. not (empty (blockAt (diskOf column base n s) (head + i))))) {x = head - head} {y = 0} (omega arith) }
+
+    pub there-more : (k : ℕ) (answer : Answer) (y : Bool) → There head k → head ≤ k → Says (isThere column base n k) chosen free answer → y ≡ isYes answer → not y ≡ false → There head (k + 1)
+    unfolding allBelow isThere laid
+    there-more k answer y g h says q z =
+        record {
+          at = λ s b.
+            let here : not (empty (blockAt (diskOf column base n s) k)) ≡ true = says-yes (isThere column base n k) chosen free answer says (sym q ∙ not-false y z) s b in
+            let next : k + 1 - head ≡ suc (k - head) = omega (arith, h) in
+            let place : head + (k - head) ≡ k = omega (arith, h) in
+            rw (next, place, g .at s b) here;
+        }
+
+  module _ (head tail : ℕ) (t : Bool) (d : t ≡ damaged head tail) where
+    pub range-damaged : t ≡ true → Says (rangeIn column base n head tail) chosen free No
+    unfolding Says rangeIn rangeHolds
+    range-damaged e = λ s b. rw (sym d ∙ e)
+
+    module _ (whole : t ≡ false) where
+      pub range-ordered : head ≤ tail
+      range-ordered = undamaged-ordered head tail (sym d ∙ whole)
+
+      pub range-inside : (k : ℕ) → head ≤ k → k < tail → k < diskBlocks
+      range-inside k a b = undamaged-inside head tail k (sym d ∙ whole) a b
+
+      pub there-stop : (k : ℕ) (answer : Answer) (y : Bool) → head ≤ k → k < tail → Says (isThere column base n k) chosen free answer → y ≡ isYes answer → not y ≡ true
+          → Says (rangeIn column base n head tail) chosen free answer
+      unfolding rangeIn rangeHolds isThere laid
+      there-stop k answer y h l says q z =
+          says-other (isThere column base n k) (rangeIn column base n head tail) chosen free answer says (sym q ∙ not-true y z)
+          (λ s b none. rw (sym d ∙ whole)
+          (untrue (allBelow (λ i. not (empty (blockAt (diskOf column base n s) (head + i)))) (tail - head))
+          (λ all.
+          let place : head + (k - head) ≡ k = omega (arith, h) in
+          clash (not (empty (blockAt (diskOf column base n s) k))) (rw place at (allBelow-true (λ i. not (empty (blockAt (diskOf column base n s) (head + i)))) (tail - head) all (k - head) (omega (arith, h, l)))) none)))
+
+      pub there-all : (k : ℕ) → There head k → k ≤ tail → tail ≤ k → Says (rangeIn column base n head tail) chosen free Yes
+      unfolding Says rangeIn rangeHolds
+      there-all k g a b = λ s c. let z : k ≡ tail = omega arith in rw (sym d ∙ whole, ← z) (g .at s c)
+
+  -- ---- a pair, a pointer
+
+  module _ (own v b w : ℕ) where
+    pub pair-other : (own ≡ v → ⊥) → Says (pairIn column base n own v b w) chosen free Yes
+    unfolding Says pairIn
+    pair-other d = λ s k. rw (ne-eqb own v d)
+
+    pub pair-same : (answer : Answer) → own ≡ v → Says (isBlock column base n b w) chosen free answer → Says (pairIn column base n own v b w) chosen free answer
+    unfolding pairIn isBlock
+    pair-same answer e = says-same (isBlock column base n b w) (pairIn column base n own v b w) chosen free answer (λ s. rw (eq-eqb own v e))
+
+  module _ (own : ℕ) where
+    pub pointer-none : own ≡ 0 → Says (pointerIn column base n own) chosen free Yes
+    unfolding Says pointerIn empty
+    pointer-none e = λ s k. rw (eq-eqb own 0 e)
+
+    module _ (d : own ≡ 0 → ⊥) (to : ℕ) (e : to ≡ secondOf own) where
+      pub pointer-past : lastBlock < to → Says (pointerIn column base n own) chosen free No
+      unfolding Says pointerIn empty
+      pointer-past l = λ s k. rw (ne-eqb own 0 d, ← e, lt-leb to lastBlock l)
+
+      pub pointer-to : (answer : Answer) → to ≤ lastBlock → Says (isThere column base n to) chosen free answer → Says (pointerIn column base n own) chosen free answer
+      unfolding pointerIn isThere empty
+      pointer-to answer l = says-same (isThere column base n to) (pointerIn column base n own) chosen free answer (λ s. rw (ne-eqb own 0 d, ← e, le-leb to lastBlock l))
+
+  -- ---- a check, by its form
+
+  module _ (c : Check) (own : ℕ) (answer : Answer) where
+    pub with-range : (a head tail : ℕ) → c ≡ Range a → head ≡ firstOf own → tail ≡ secondOf own → Says (rangeIn column base n head tail) chosen free answer
+        → Says (holdsBy column base n c own) chosen free answer
+    unfolding rangeIn holdsBy holdsWith
+    with-range a head tail e h t = says-same (rangeIn column base n head tail) (holdsBy column base n c own) chosen free answer (λ s. rw (e, h, t))
+
+    pub with-pair : (a v b w : ℕ) → c ≡ Pair a v b w → Says (pairIn column base n own v b w) chosen free answer → Says (holdsBy column base n c own) chosen free answer
+    unfolding pairIn holdsBy holdsWith laid
+    with-pair a v b w e = says-same (pairIn column base n own v b w) (holdsBy column base n c own) chosen free answer (λ s. rw e)
+
+    pub with-pointer : (a : ℕ) → c ≡ Pointer a → Says (pointerIn column base n own) chosen free answer → Says (holdsBy column base n c own) chosen free answer
+    unfolding pointerIn holdsBy holdsWith laid
+    with-pointer a e = says-same (pointerIn column base n own) (holdsBy column base n c own) chosen free answer (λ s. rw e)
+
+  -- ---- one check after the other
+
+  module _ (checks : List Check) (z : Check) (m i : ℕ) (few : m ≤ mostChecks) (size : length checks ≡ mostChecks) (l : i < m) (answer : Answer) (y : Bool) (g : Says (holdsIn column base n (getD checks i z)) chosen free answer)
+      (q : y ≡ isYes answer) where
+    pub ask-more : not y ≡ false → Says (allHold column base n (take i checks)) chosen free Yes → Says (allHold column base n (take (i + 1) checks)) chosen free Yes
+    unfolding Says allHold holdsIn
+    ask-more e h = λ s b.
+        let yes : holds (diskOf column base n s) (getD checks i z) ≡ true = says-yes (holdsIn column base n (getD checks i z)) chosen free answer g (sym q ∙ not-false y e) s b in
+        checks-more (diskOf column base n s) checks z m i (holds (diskOf column base n s) (getD checks i z)) l few size (h s b) refl (rw yes)
+
+    pub ask-stop : not y ≡ true → Says (allHold column base n (take m checks)) chosen free answer
+    unfolding allHold holdsIn
+    ask-stop e =
+        says-other (holdsIn column base n (getD checks i z)) (allHold column base n (take m checks)) chosen free answer g (sym q ∙ not-true y e)
+        (λ s b none. sym (checks-stop (diskOf column base n s) checks z m i (holds (diskOf column base n s) (getD checks i z)) l few size refl (rw none)))
+
+  pub ask-all : (checks : List Check) (m i : ℕ) (answer : Answer) → i ≤ m → m ≤ i → answer ≡ Yes → Says (allHold column base n (take i checks)) chosen free Yes → Says (allHold column base n (take m checks)) chosen free answer
+  ask-all checks m i answer a b e g = let z : i ≡ m = omega arith in rw (e, ← z) g
+
+pub ruleset asking = (needs, there-says, range-damaged, range-inside, there-none, there-more, there-stop, there-all, range-ordered, pair-other, pair-same, pointer-none, pointer-past, pointer-to, with-range, with-pair, with-pointer, ask-more, ask-stop, ask-all)

@@ -1,0 +1,145 @@
+-- What all schedules between two sets say of a block, of a check, of all checks.
+use Prim.Native.Nat.{ℕ, _≤_, _<_}
+use mathlib.Core.Path.{_≡_}
+use mathlib.Core.Bool.{Bool, true, false, cond, not, _&&_, _||_}
+use mathlib.Core.List.{List}
+use lib.Dec.{eqb, leb}
+use lib.ListN.{length, getD}
+use Rattle.relation.specs.Bits.{bit, maskOf}
+use Rattle.model.specs.declared.Check.{Check}
+use Rattle.model.specs.declared.Check.the-variants.{Range, Pair, Pointer}
+use Rattle.model.specs.Limits.{diskBlocks, lastBlock, mostMain}
+use Rattle.model.specs.Disk.{empty, firstOf, secondOf, blockAt}
+use Rattle.model.specs.Schedule.{run}
+use Rattle.model.specs.Check.{rangeHolds, holds, consistent}
+use Rattle.judge_disks.specs.Packed.{unpacked, heldFrom}
+use Rattle.judge_closed.specs.Closed.{between, Filled}
+use Rattle.judge_settled.specs.declared.Answer.{Answer}
+use Rattle.judge_settled.specs.declared.Answer.the-variants.{Yes, No, Open}
+
+-- ---- answers
+
+-- what is answered of a test over all schedules between two sets: all pass, none passes, or a free write is named
+unfoldable pub Says : (ℕ → Bool) → ℕ → ℕ → Answer → Type 0
+Says p chosen free Yes = (s : ℕ) → between chosen free s ≡ true → p s ≡ true
+Says p chosen free No = (s : ℕ) → between chosen free s ≡ true → p s ≡ false
+Says p chosen free (Open h) = bit free h ≡ true
+
+unfoldable pub isYes : Answer → Bool
+isYes Yes = true
+isYes No = false
+isYes (Open h) = false
+
+unfoldable pub opposed : Answer → Answer
+opposed Yes = No
+opposed No = Yes
+opposed (Open h) = Open h
+
+-- the write that an open answer names
+unfoldable pub Names : Answer → ℕ → Type 0
+Names Yes r = Unit {0}
+Names No r = Unit {0}
+Names (Open h) r = r ≡ h
+
+-- both are yes, or both no
+unfoldable pub agreed : Answer → Answer → Bool
+agreed Yes a = isYes a
+agreed No a = isYes (opposed a)
+agreed (Open h) a = false
+
+-- ---- what is asked of a schedule's disk: of the first n writes of a column, from a base
+
+abbrev pub diskOf : List ℕ → List ℕ → ℕ → ℕ → List ℕ
+diskOf column base n s = run (heldFrom column 0 n) s base
+
+-- the block at a
+unfoldable pub laid : List ℕ → List ℕ → ℕ → ℕ → ℕ → ℕ
+laid column base n a s = blockAt (diskOf column base n s) a
+
+-- it is v; it is not empty
+unfoldable pub isBlock : List ℕ → List ℕ → ℕ → ℕ → ℕ → ℕ → Bool
+isBlock column base n a v s = eqb (laid column base n a s) v
+
+unfoldable pub isThere : List ℕ → List ℕ → ℕ → ℕ → ℕ → Bool
+isThere column base n a s = not (empty (laid column base n a s))
+
+-- a range of blocks, a check, all checks hold
+unfoldable pub rangeIn : List ℕ → List ℕ → ℕ → ℕ → ℕ → ℕ → Bool
+rangeIn column base n head tail s = rangeHolds (diskOf column base n s) head tail
+
+unfoldable pub holdsIn : List ℕ → List ℕ → ℕ → Check → ℕ → Bool
+holdsIn column base n c s = holds (diskOf column base n s) c
+
+unfoldable pub allHold : List ℕ → List ℕ → ℕ → List Check → ℕ → Bool
+allHold column base n checks s = consistent checks (diskOf column base n s)
+
+-- the address of the block that a check begins with, and the check with that block known
+unfoldable pub ownBlock : Check → ℕ
+ownBlock (Range a) = a
+ownBlock (Pair a v b w) = a
+ownBlock (Pointer a) = a
+
+unfoldable pub holdsWith : List ℕ → Check → ℕ → Bool
+holdsWith disk (Range a) own = rangeHolds disk (firstOf own) (secondOf own)
+holdsWith disk (Pair a v b w) own = not (eqb own v) || eqb (blockAt disk b) w
+holdsWith disk (Pointer a) own = empty own || leb (secondOf own) lastBlock && not (empty (blockAt disk (secondOf own)))
+
+-- of a pair, of a pointer
+unfoldable pub pairIn : List ℕ → List ℕ → ℕ → ℕ → ℕ → ℕ → ℕ → ℕ → Bool
+pairIn column base n own v b w s = not (eqb own v) || eqb (laid column base n b s) w
+
+unfoldable pub pointerIn : List ℕ → List ℕ → ℕ → ℕ → ℕ → Bool
+pointerIn column base n own s = empty own || leb (secondOf own) lastBlock && not (empty (laid column base n (secondOf own) s))
+
+unfoldable pub holdsBy : List ℕ → List ℕ → ℕ → Check → ℕ → ℕ → Bool
+holdsBy column base n c own s = holdsWith (diskOf column base n s) c own
+
+-- a known block is v
+unfoldable pub valued : ℕ → ℕ → Answer
+valued own v = cond (eqb own v) Yes No
+
+-- ---- the writes to an address
+
+unfoldable pub writersOf : List ℕ → ℕ → ℕ → ℕ
+writersOf column n a = maskOf (λ i. eqb (unpacked (getD column i 0) .address) a) n
+
+-- a table of these, for each address
+abbrev pub Writers : List ℕ → ℕ → List ℕ → Type 0
+Writers column n writers = Filled (writersOf column n) diskBlocks writers
+
+pub record Blank (writers : List ℕ) : Type 0 where
+  pub at : (a : ℕ) → a < diskBlocks → getD writers a 0 ≡ 0
+
+-- a column, a base and that table
+pub record Ready (column base : List ℕ) (n : ℕ) (writers : List ℕ) : Type 0 where
+  pub few : n ≤ mostMain
+  pub size : length base ≡ diskBlocks
+  pub at : Writers column n writers
+
+-- a set has no others than writes to a
+unfoldable pub Among : List ℕ → ℕ → ℕ → ℕ → Type 0
+Among column n a set = (i : ℕ) → bit set i ≡ true → bit (writersOf column n a) i ≡ true
+
+-- all writes to a that a schedule flags are in a set
+unfoldable pub Only : List ℕ → ℕ → ℕ → ℕ → ℕ → Type 0
+Only column n a set s = (i : ℕ) → bit (writersOf column n a) i ≡ true → bit s i ≡ true → bit set i ≡ true
+
+-- ---- the possible blocks, one by one
+
+-- an answer is yes or no
+unfoldable pub definite : Answer → Bool
+definite Yes = true
+definite No = true
+definite (Open h) = false
+
+-- what a definite answer says of one schedule
+unfoldable pub Agrees : Answer → Bool → Type 0
+Agrees Yes b = b ≡ true
+Agrees No b = b ≡ false
+Agrees (Open h) b = Unit {0}
+
+-- if a set of writes was found alike: the answer is definite, and right for all schedules whose writes to a are in the set
+unfoldable pub AlikeIf : Bool → (ℕ → Bool) → List ℕ → ℕ → ℕ → ℕ → ℕ → ℕ → Answer → Type 0
+AlikeIf false p column n chosen free a set first = Unit {0}
+AlikeIf true p column n chosen free a set first =
+    (definite first ≡ true) × ((s : ℕ) → between chosen free s ≡ true → Only column n a set s → Agrees first (p s))
