@@ -94,8 +94,8 @@ module _ (column base : List ℕ) (n : ℕ) (checks : List Check) (flags : List 
       let e = is-yes answer t q y in
       let all : (s : ℕ) → between chosen free s ≡ true → allHold column base n checks s ≡ true = unfold Says in (rw e at says) in
       let none : countBelow bad-here (2 ^ n) ≡ 0 = none-count bad-here (2 ^ n) (λ s l.
-        untrue (bad-here s) (λ b. let v = and-right (not (allHold column base n checks s)) (valid-here s) b in
-        clash (not (allHold column base n checks s)) (and-left (not (allHold column base n checks s)) (valid-here s) b) (rw (all s (valid-between flags n chosen free s v))))) in
+      untrue (bad-here s) (λ b. let v = and-right (not (allHold column base n checks s)) (valid-here s) b in
+      clash (not (allHold column base n checks s)) (and-left (not (allHold column base n checks s)) (valid-here s) b) (rw (all s (valid-between flags n chosen free s v))))) in
       rw z
       (record {
         valid = ap (λ (k : ℕ). j .valid + k) count;
@@ -228,12 +228,12 @@ module _ (flags bars : List ℕ) (n chosen free h : ℕ) (k : Fork flags bars n 
               valid = let b = both (λ s. true) in let x = gain .valid in let y = next .valid in omega (arith, b, x, y);
               bad = let b = both (λ s. not (allHold column base n checks s)) in let x = gain .bad in let y = next .bad in omega (arith, b, x, y);
               shown = λ d.
-                ⊎-elim
-                (λ (w : (first .bad ≡ 0 → ⊥) × (last .shown ≡ first .shown)).
-                ⊎-elim (λ (x : (j .bad ≡ 0 → ⊥) × (first .shown ≡ j .shown)). inl (x .0, w .1 ∙ x .1))
-                (λ x. inr (rw (w .1) (x .0), rw (w .1) (widen narrow-left (first .shown) (x .1)))) (gain .shown (w .0)))
-                (λ w. inr (w .0, widen narrow-right (last .shown) (w .1)))
-                (next .shown d);
+                  ⊎-elim
+                  (λ (w : (first .bad ≡ 0 → ⊥) × (last .shown ≡ first .shown)).
+                  ⊎-elim (λ (x : (j .bad ≡ 0 → ⊥) × (first .shown ≡ j .shown)). inl (x .0, w .1 ∙ x .1))
+                  (λ x. inr (rw (w .1) (x .0), rw (w .1) (widen narrow-left (first .shown) (x .1)))) (gain .shown (w .0)))
+                  (λ w. inr (w .0, widen narrow-right (last .shown) (w .1)))
+                  (next .shown d);
               none = λ f d. next .none (gain .none f) d;
             }
           where

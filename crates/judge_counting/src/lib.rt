@@ -71,14 +71,44 @@ fn walk(
         return add_good(j, judge_closed::count_between(flags, bars, n, chosen, free));
     }
     if judge_settled::is_no(answer) {
-        return add_bad(j, judge_closed::count_between(flags, bars, n, chosen, free), chosen);
+        return add_bad(
+            j,
+            judge_closed::count_between(flags, bars, n, chosen, free),
+            chosen,
+        );
     }
     let h = judge_settled::open_at(answer);
     let with = flags[h];
     let out = relation::without(free, bars[h]);
-    let first = walk(j, base, stores, writers, flags, bars, n, checks, m, from, chosen, out);
+    let first = walk(
+        j,
+        base,
+        stores,
+        writers,
+        flags,
+        bars,
+        n,
+        checks,
+        m,
+        from,
+        chosen,
+        out,
+    );
     let rest = relation::without(free, with);
-    walk(first, base, stores, writers, flags, bars, n, checks, m, from, chosen | with, rest)
+    walk(
+        first,
+        base,
+        stores,
+        writers,
+        flags,
+        bars,
+        n,
+        checks,
+        m,
+        from,
+        chosen | with,
+        rest,
+    )
 }
 
 // The counts over all schedules of the first n writes of a table of stores, by a table of rows.
@@ -103,5 +133,18 @@ pub fn count_all(
         bad: 0,
         shown: 0,
     };
-    walk(none, &base, stores, &writers, &flags, &bars, n, checks, m, 0, 0, (1 << n) - 1)
+    walk(
+        none,
+        &base,
+        stores,
+        &writers,
+        &flags,
+        &bars,
+        n,
+        checks,
+        m,
+        0,
+        0,
+        (1 << n) - 1,
+    )
 }

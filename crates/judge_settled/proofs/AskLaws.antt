@@ -1,10 +1,12 @@
 -- The parts of a check by what is said of the blocks they look at, and the checks one after the other.
 use mathlib.Core.Path.{_≡_, refl, sym, ap, _∙_}
-use mathlib.Core.Bool.{Bool, true, false, not, false≢true}
+use mathlib.Core.Bool.{Bool, true, false, cond, not, false≢true}
 use mathlib.Core.List.{List}
 use Prim.Native.Nat.{ℕ, suc, _+_, _-_, _≤_, _<_}
 use native.Mathlib.Omega.{arith}
+use lib.Dec.{eqb}
 use lib.ListN.{length, getD, take}
+use lib.Seq.{getD-set-same, getD-set-other}
 use borrow.Author.Needs.{needs}
 use borrow.Author.Tests.{eq-eqb, ne-eqb, le-leb, lt-leb}
 use Rattle.relation.specs.Lists.{allBelow}
@@ -15,11 +17,13 @@ use Rattle.model.specs.Limits.{diskBlocks, lastBlock, mostChecks}
 use Rattle.model.specs.Disk.{empty, firstOf, secondOf, blockAt}
 use Rattle.model.specs.Check.{damaged, rangeHolds, holds}
 use Rattle.model.proofs.CheckLaws.{undamaged-ordered, undamaged-inside}
+use Rattle.judge_disks.specs.Packed.{heldFrom}
+use Rattle.judge_disks.proofs.RestoreLaws.{mid-length}
 use Rattle.judge_checks.proofs.CheckSteps.{checks-stop, checks-more}
 use Rattle.judge_closed.specs.Closed.{between}
 use Rattle.judge_settled.specs.declared.Answer.{Answer}
 use Rattle.judge_settled.specs.declared.Answer.the-variants.{Yes, No, Open}
-use Rattle.judge_settled.specs.Settled.{Says, isYes, opposed, diskOf, laid, isBlock, isThere, rangeIn, pairIn, pointerIn, holdsIn, allHold, holdsWith, holdsBy}
+use Rattle.judge_settled.specs.Settled.{Says, isYes, opposed, diskOf, laid, isBlock, holdsIn, allHold, ownBlock, knownOf, isKnown, isThere, rangeIn, pairIn, pointerIn, holdsWith, holdsBy, valued, Ready}
 
 clash : {A : Type 0} (b : Bool) → b ≡ true → b ≡ false → A
 clash b e q = absurd (false≢true (sym q ∙ e))
@@ -63,101 +67,121 @@ says-other p q chosen free No g e f = λ s b. f s b (g s b)
 says-other p q chosen free (Open h) g e f = g
 
 module _ (column base : List ℕ) (n chosen free : ℕ) where
-  -- ---- a block that is there
+  -- ---- one block known
 
-  pub there-says : (a : ℕ) (answer r : Answer) → Says (isBlock column base n a 0) chosen free answer → r ≡ opposed answer → Says (isThere column base n a) chosen free r
-  unfolding isBlock isThere empty
-  there-says a answer r g e = rw e (says-opposed (isBlock column base n a 0) (isThere column base n a) chosen free answer (λ s. refl) g)
+  module _ (a own k v : ℕ) (answer : Answer) where
+    pub known-own : (writers : List ℕ) → Ready column base n writers → k < diskBlocks → k ≡ a → answer ≡ valued own v → Says (isKnown column base n a own k v) chosen free answer
+    unfolding isKnown valued
+    known-own writers ready inside e q = rw q (go (eqb own v) refl)
+      where
+        there : (s : ℕ) → blockAt (knownOf column base n a own s) k ≡ own
+        there s =
+            let size : length (diskOf column base n s) ≡ diskBlocks = mid-length (heldFrom column 0 n) s base (diskOf column base n s) (ready .size) refl in
+            rw e (getD-set-same (diskOf column base n s) a own 0 (omega (arith, size, inside, e)))
 
-  -- ---- a range
+        go : (t : Bool) → eqb own v ≡ t → Says (isKnown column base n a own k v) chosen free (cond t Yes No)
+        go true z = unfold Says in λ s b. rw (there s) z
+        go false z = unfold Says in λ s b. rw (there s) z
 
-  -- the blocks from head up to k - 1 are there
-  pub record There (head k : ℕ) : Type 0 where
-    pub at : (s : ℕ) → between chosen free s ≡ true → allBelow (λ i. not (empty (blockAt (diskOf column base n s) (head + i)))) (k - head) ≡ true
+    pub known-other : (k ≡ a → ⊥) → Says (isBlock column base n k v) chosen free answer → Says (isKnown column base n a own k v) chosen free answer
+    unfolding isKnown isBlock laid
+    known-other d =
+        says-same (isBlock column base n k v) (isKnown column base n a own k v) chosen free answer
+        (λ s. ap (λ (b : ℕ). eqb b v) (sym (getD-set-other (diskOf column base n s) a k own 0 d)))
 
-  module _ (head : ℕ) where
-    pub there-none : There head head
-    unfolding allBelow
-    there-none = record { at = λ s b. ap (allBelow (λ i. not (empty (blockAt (diskOf column base n s) (head + i))))) {x = head - head} {y = 0} (omega arith) }
+  module _ (a own : ℕ) where
+    pub there-says : (k : ℕ) (answer r : Answer) → Says (isKnown column base n a own k 0) chosen free answer → r ≡ opposed answer → Says (isThere column base n a own k) chosen free r
+    unfolding isKnown isThere empty
+    there-says k answer r g e = rw e (says-opposed (isKnown column base n a own k 0) (isThere column base n a own k) chosen free answer (λ s. refl) g)
 
-    pub there-more : (k : ℕ) (answer : Answer) (y : Bool) → There head k → head ≤ k → Says (isThere column base n k) chosen free answer → y ≡ isYes answer → not y ≡ false → There head (k + 1)
-    unfolding allBelow isThere laid
-    there-more k answer y g h says q z =
-        record {
-          at = λ s b.
-            let here : not (empty (blockAt (diskOf column base n s) k)) ≡ true = says-yes (isThere column base n k) chosen free answer says (sym q ∙ not-false y z) s b in
-            let next : k + 1 - head ≡ suc (k - head) = omega (arith, h) in
-            let place : head + (k - head) ≡ k = omega (arith, h) in
-            rw (next, place, g .at s b) here;
-        }
+    -- ---- a range
 
-  module _ (head tail : ℕ) (t : Bool) (d : t ≡ damaged head tail) where
-    pub range-damaged : t ≡ true → Says (rangeIn column base n head tail) chosen free No
-    unfolding Says rangeIn rangeHolds
-    range-damaged e = λ s b. rw (sym d ∙ e)
+    -- the blocks from head up to k - 1 are there
+    pub record There (head k : ℕ) : Type 0 where
+      pub at : (s : ℕ) → between chosen free s ≡ true → allBelow (λ i. not (empty (blockAt (knownOf column base n a own s) (head + i)))) (k - head) ≡ true
 
-    module _ (whole : t ≡ false) where
-      pub range-ordered : head ≤ tail
-      range-ordered = undamaged-ordered head tail (sym d ∙ whole)
+    module _ (head : ℕ) where
+      pub there-none : There head head
+      unfolding allBelow
+      there-none = record { at = λ s b. ap (allBelow (λ i. not (empty (blockAt (knownOf column base n a own s) (head + i))))) {x = head - head} {y = 0} (omega arith) }
 
-      pub range-inside : (k : ℕ) → head ≤ k → k < tail → k < diskBlocks
-      range-inside k a b = undamaged-inside head tail k (sym d ∙ whole) a b
+      pub there-more : (k : ℕ) (answer : Answer) (y : Bool) → There head k → head ≤ k → Says (isThere column base n a own k) chosen free answer → y ≡ isYes answer → not y ≡ false → There head (k + 1)
+      unfolding allBelow isThere
+      there-more k answer y g h says q z =
+          record {
+            at = λ s b.
+                let here : not (empty (blockAt (knownOf column base n a own s) k)) ≡ true = says-yes (isThere column base n a own k) chosen free answer says (sym q ∙ not-false y z) s b in
+                let next : k + 1 - head ≡ suc (k - head) = omega (arith, h) in
+                let place : head + (k - head) ≡ k = omega (arith, h) in
+                rw (next, place, g .at s b) here;
+          }
 
-      pub there-stop : (k : ℕ) (answer : Answer) (y : Bool) → head ≤ k → k < tail → Says (isThere column base n k) chosen free answer → y ≡ isYes answer → not y ≡ true
-          → Says (rangeIn column base n head tail) chosen free answer
-      unfolding rangeIn rangeHolds isThere laid
-      there-stop k answer y h l says q z =
-          says-other (isThere column base n k) (rangeIn column base n head tail) chosen free answer says (sym q ∙ not-true y z)
-          (λ s b none. rw (sym d ∙ whole)
-          (untrue (allBelow (λ i. not (empty (blockAt (diskOf column base n s) (head + i)))) (tail - head))
-          (λ all.
-          let place : head + (k - head) ≡ k = omega (arith, h) in
-          clash (not (empty (blockAt (diskOf column base n s) k))) (rw place at (allBelow-true (λ i. not (empty (blockAt (diskOf column base n s) (head + i)))) (tail - head) all (k - head) (omega (arith, h, l)))) none)))
-
-      pub there-all : (k : ℕ) → There head k → k ≤ tail → tail ≤ k → Says (rangeIn column base n head tail) chosen free Yes
+    module _ (head tail : ℕ) (t : Bool) (d : t ≡ damaged head tail) where
+      pub range-damaged : t ≡ true → Says (rangeIn column base n a own head tail) chosen free No
       unfolding Says rangeIn rangeHolds
-      there-all k g a b = λ s c. let z : k ≡ tail = omega arith in rw (sym d ∙ whole, ← z) (g .at s c)
+      range-damaged e = λ s b. rw (sym d ∙ e)
 
-  -- ---- a pair, a pointer
+      module _ (whole : t ≡ false) where
+        pub range-ordered : head ≤ tail
+        range-ordered = undamaged-ordered head tail (sym d ∙ whole)
 
-  module _ (own v b w : ℕ) where
-    pub pair-other : (own ≡ v → ⊥) → Says (pairIn column base n own v b w) chosen free Yes
-    unfolding Says pairIn
-    pair-other d = λ s k. rw (ne-eqb own v d)
+        pub range-inside : (k : ℕ) → head ≤ k → k < tail → k < diskBlocks
+        range-inside k x y = undamaged-inside head tail k (sym d ∙ whole) x y
 
-    pub pair-same : (answer : Answer) → own ≡ v → Says (isBlock column base n b w) chosen free answer → Says (pairIn column base n own v b w) chosen free answer
-    unfolding pairIn isBlock
-    pair-same answer e = says-same (isBlock column base n b w) (pairIn column base n own v b w) chosen free answer (λ s. rw (eq-eqb own v e))
+        pub there-stop : (k : ℕ) (answer : Answer) (y : Bool) → head ≤ k → k < tail → Says (isThere column base n a own k) chosen free answer → y ≡ isYes answer → not y ≡ true
+            → Says (rangeIn column base n a own head tail) chosen free answer
+        unfolding rangeIn rangeHolds isThere
+        there-stop k answer y h l says q z =
+            says-other (isThere column base n a own k) (rangeIn column base n a own head tail) chosen free answer says (sym q ∙ not-true y z)
+            (λ s b none. rw (sym d ∙ whole)
+            (untrue (allBelow (λ i. not (empty (blockAt (knownOf column base n a own s) (head + i)))) (tail - head))
+            (λ all.
+            let place : head + (k - head) ≡ k = omega (arith, h) in
+            clash (not (empty (blockAt (knownOf column base n a own s) k))) (rw place at (allBelow-true (λ i. not (empty (blockAt (knownOf column base n a own s) (head + i)))) (tail - head) all (k - head) (omega (arith, h, l)))) none)))
 
-  module _ (own : ℕ) where
-    pub pointer-none : own ≡ 0 → Says (pointerIn column base n own) chosen free Yes
+        pub there-all : (k : ℕ) → There head k → k ≤ tail → tail ≤ k → Says (rangeIn column base n a own head tail) chosen free Yes
+        unfolding Says rangeIn rangeHolds
+        there-all k g x y = λ s c. let z : k ≡ tail = omega arith in rw (sym d ∙ whole, ← z) (g .at s c)
+
+    -- ---- a pair, a pointer
+
+    module _ (v b w : ℕ) where
+      pub pair-other : (own ≡ v → ⊥) → Says (pairIn column base n a own v b w) chosen free Yes
+      unfolding Says pairIn
+      pair-other d = λ s k. rw (ne-eqb own v d)
+
+      pub pair-same : (answer : Answer) → own ≡ v → Says (isKnown column base n a own b w) chosen free answer → Says (pairIn column base n a own v b w) chosen free answer
+      unfolding pairIn isKnown
+      pair-same answer e = says-same (isKnown column base n a own b w) (pairIn column base n a own v b w) chosen free answer (λ s. rw (eq-eqb own v e))
+
+    pub pointer-none : own ≡ 0 → Says (pointerIn column base n a own) chosen free Yes
     unfolding Says pointerIn empty
     pointer-none e = λ s k. rw (eq-eqb own 0 e)
 
     module _ (d : own ≡ 0 → ⊥) (to : ℕ) (e : to ≡ secondOf own) where
-      pub pointer-past : lastBlock < to → Says (pointerIn column base n own) chosen free No
+      pub pointer-past : lastBlock < to → Says (pointerIn column base n a own) chosen free No
       unfolding Says pointerIn empty
       pointer-past l = λ s k. rw (ne-eqb own 0 d, ← e, lt-leb to lastBlock l)
 
-      pub pointer-to : (answer : Answer) → to ≤ lastBlock → Says (isThere column base n to) chosen free answer → Says (pointerIn column base n own) chosen free answer
+      pub pointer-to : (answer : Answer) → to ≤ lastBlock → Says (isThere column base n a own to) chosen free answer → Says (pointerIn column base n a own) chosen free answer
       unfolding pointerIn isThere empty
-      pointer-to answer l = says-same (isThere column base n to) (pointerIn column base n own) chosen free answer (λ s. rw (ne-eqb own 0 d, ← e, le-leb to lastBlock l))
+      pointer-to answer l = says-same (isThere column base n a own to) (pointerIn column base n a own) chosen free answer (λ s. rw (ne-eqb own 0 d, ← e, le-leb to lastBlock l))
 
   -- ---- a check, by its form
 
   module _ (c : Check) (own : ℕ) (answer : Answer) where
-    pub with-range : (a head tail : ℕ) → c ≡ Range a → head ≡ firstOf own → tail ≡ secondOf own → Says (rangeIn column base n head tail) chosen free answer
+    pub with-range : (a head tail : ℕ) → c ≡ Range a → head ≡ firstOf own → tail ≡ secondOf own → Says (rangeIn column base n a own head tail) chosen free answer
         → Says (holdsBy column base n c own) chosen free answer
-    unfolding rangeIn holdsBy holdsWith
-    with-range a head tail e h t = says-same (rangeIn column base n head tail) (holdsBy column base n c own) chosen free answer (λ s. rw (e, h, t))
+    unfolding rangeIn holdsBy holdsWith ownBlock
+    with-range a head tail e h t = says-same (rangeIn column base n a own head tail) (holdsBy column base n c own) chosen free answer (λ s. rw (e, h, t))
 
-    pub with-pair : (a v b w : ℕ) → c ≡ Pair a v b w → Says (pairIn column base n own v b w) chosen free answer → Says (holdsBy column base n c own) chosen free answer
-    unfolding pairIn holdsBy holdsWith laid
-    with-pair a v b w e = says-same (pairIn column base n own v b w) (holdsBy column base n c own) chosen free answer (λ s. rw e)
+    pub with-pair : (a v b w : ℕ) → c ≡ Pair a v b w → Says (pairIn column base n a own v b w) chosen free answer → Says (holdsBy column base n c own) chosen free answer
+    unfolding pairIn holdsBy holdsWith ownBlock
+    with-pair a v b w e = says-same (pairIn column base n a own v b w) (holdsBy column base n c own) chosen free answer (λ s. rw e)
 
-    pub with-pointer : (a : ℕ) → c ≡ Pointer a → Says (pointerIn column base n own) chosen free answer → Says (holdsBy column base n c own) chosen free answer
-    unfolding pointerIn holdsBy holdsWith laid
-    with-pointer a e = says-same (pointerIn column base n own) (holdsBy column base n c own) chosen free answer (λ s. rw e)
+    pub with-pointer : (a : ℕ) → c ≡ Pointer a → Says (pointerIn column base n a own) chosen free answer → Says (holdsBy column base n c own) chosen free answer
+    unfolding pointerIn holdsBy holdsWith ownBlock
+    with-pointer a e = says-same (pointerIn column base n a own) (holdsBy column base n c own) chosen free answer (λ s. rw e)
 
   -- ---- one check after the other
 
@@ -178,4 +202,4 @@ module _ (column base : List ℕ) (n chosen free : ℕ) where
   pub ask-all : (checks : List Check) (m i : ℕ) (answer : Answer) → i ≤ m → m ≤ i → answer ≡ Yes → Says (allHold column base n (take i checks)) chosen free Yes → Says (allHold column base n (take m checks)) chosen free answer
   ask-all checks m i answer a b e g = let z : i ≡ m = omega arith in rw (e, ← z) g
 
-pub ruleset asking = (needs, there-says, range-damaged, range-inside, there-none, there-more, there-stop, there-all, range-ordered, pair-other, pair-same, pointer-none, pointer-past, pointer-to, with-range, with-pair, with-pointer, ask-more, ask-stop, ask-all)
+pub ruleset asking = (needs, known-own, known-other, there-says, range-damaged, range-inside, there-none, there-more, there-stop, there-all, range-ordered, pair-other, pair-same, pointer-none, pointer-past, pointer-to, with-range, with-pair, with-pointer, ask-more, ask-stop, ask-all)

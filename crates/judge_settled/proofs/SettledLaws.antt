@@ -9,6 +9,7 @@ use native.Mathlib.Omega.{arith}
 use lib.Bits.{bitAnd, bitOr}
 use lib.Dec.{eqb, ltb}
 use lib.ListN.{length, getD}
+use lib.Seq.{set-getD}
 use borrow.Author.Needs.{needs}
 use borrow.Author.Tests.{eqb-true, eq-eqb, ltb-true, lt-ltb}
 use Rattle.relation.specs.Bits.{bit, without, Highest}
@@ -26,7 +27,7 @@ use Rattle.judge_closed.specs.Closed.{between}
 use Rattle.judge_closed.proofs.ClosedLaws.{between-has, between-may}
 use Rattle.judge_settled.specs.declared.Answer.{Answer}
 use Rattle.judge_settled.specs.declared.Answer.the-variants.{Yes, No, Open}
-use Rattle.judge_settled.specs.Settled.{Says, isYes, opposed, agreed, laid, isBlock, holdsIn, ownBlock, holdsWith, holdsBy, valued, writersOf, Ready, Among, Only, definite, Agrees, AlikeIf}
+use Rattle.judge_settled.specs.Settled.{Says, isYes, opposed, agreed, diskOf, laid, isBlock, holdsIn, ownBlock, holdsWith, holdsBy, valued, writersOf, Ready, Among, Only, definite, Agrees, AlikeIf}
 
 clash : {A : Type 0} (b : Bool) → b ≡ true → b ≡ false → A
 clash b e q = absurd (false≢true (sym q ∙ e))
@@ -99,9 +100,11 @@ by-own disk (Range a) = refl
 by-own disk (Pair a v b w) = refl
 by-own disk (Pointer a) = refl
 
+-- with the block that is there known the disk is the same
 holds-own : (column base : List ℕ) (n : ℕ) (c : Check) (s own : ℕ) → laid column base n (ownBlock c) s ≡ own → holdsIn column base n c s ≡ holdsBy column base n c own s
 unfolding holdsIn holdsBy laid
-holds-own column base n c s own e = by-own _ c ∙ rw e
+holds-own column base n c s own e =
+    by-own (diskOf column base n s) c ∙ rw (← e) (ap (λ (d : List ℕ). holdsWith d c (blockAt (diskOf column base n s) (ownBlock c))) (sym (set-getD (diskOf column base n s) (ownBlock c) 0)))
 
 pub per-check : (column base : List ℕ) (n chosen free own : ℕ) (c : Check) (answer : Answer) → Says (holdsBy column base n c own) chosen free answer
     → Per (holdsIn column base n c) column base n chosen free (ownBlock c) own answer
@@ -148,9 +151,10 @@ module _ (p : ℕ → Bool) (column base : List ℕ) (n chosen free a : ℕ) (fi
 
     pub going-chosen : (c : Bool) → c ≡ bit chosen h → c ≡ true → AlikeIf true p column n chosen free a set first
     unfolding AlikeIf
-    going-chosen c k z =
-        (agreed-definite first answer agrees,
-        λ s b o. ⊎-elim (λ m. here s b m (between-has chosen free s b h (sym k ∙ z))) (λ m. m) (g .each s b o))
+    going-chosen c k z = (
+      agreed-definite first answer agrees,
+      λ s b o. ⊎-elim (λ m. here s b m (between-has chosen free s b h (sym k ∙ z))) (λ m. m) (g .each s b o),
+    )
 
     pub going-more : (next : ℕ) → n ≤ mostMain → next ≡ without left (1 * 2 ^ h % 18446744073709551616) → Going set next
     going-more next few z =
@@ -166,9 +170,10 @@ module _ (p : ℕ → Bool) (column base : List ℕ) (n chosen free a : ℕ) (fi
   pub going-base : (set left : ℕ) (answer : Answer) (t : Bool) → Going set left → left ≡ 0 → a < diskBlocks → length base ≡ diskBlocks → Per p column base n chosen free a (blockAt base a) answer
       → t ≡ agreed first answer → AlikeIf t p column n chosen free a set first
   unfolding AlikeIf
-  going-base set left answer true g z inside size r q =
-      (agreed-definite first answer (sym q),
-      λ s b o. ⊎-elim (λ m. agreed-same first answer (p s) (sym q) (r .of s b (laid-base column n a base (omega arith) s left m z))) (λ m. m) (g .each s b o))
+  going-base set left answer true g z inside size r q = (
+    agreed-definite first answer (sym q),
+    λ s b o. ⊎-elim (λ m. agreed-same first answer (p s) (sym q) (r .of s b (laid-base column n a base (omega arith) s left m z))) (λ m. m) (g .each s b o),
+  )
   going-base set left answer false g z inside size r q = tt
 
   pub going-not : (set : ℕ) → AlikeIf false p column n chosen free a set first

@@ -4,7 +4,7 @@ use mathlib.Core.Path.{_≡_}
 use mathlib.Core.Bool.{Bool, true, false, cond, not, _&&_, _||_}
 use mathlib.Core.List.{List}
 use lib.Dec.{eqb, leb}
-use lib.ListN.{length, getD}
+use lib.ListN.{length, getD, set}
 use Rattle.relation.specs.Bits.{bit, maskOf}
 use Rattle.model.specs.declared.Check.{Check}
 use Rattle.model.specs.declared.Check.the-variants.{Range, Pair, Pointer}
@@ -56,43 +56,54 @@ diskOf column base n s = run (heldFrom column 0 n) s base
 unfoldable pub laid : List ℕ → List ℕ → ℕ → ℕ → ℕ → ℕ
 laid column base n a s = blockAt (diskOf column base n s) a
 
--- it is v; it is not empty
+-- it is v
 unfoldable pub isBlock : List ℕ → List ℕ → ℕ → ℕ → ℕ → ℕ → Bool
 isBlock column base n a v s = eqb (laid column base n a s) v
 
-unfoldable pub isThere : List ℕ → List ℕ → ℕ → ℕ → ℕ → Bool
-isThere column base n a s = not (empty (laid column base n a s))
-
--- a range of blocks, a check, all checks hold
-unfoldable pub rangeIn : List ℕ → List ℕ → ℕ → ℕ → ℕ → ℕ → Bool
-rangeIn column base n head tail s = rangeHolds (diskOf column base n s) head tail
-
+-- a check, all checks hold
 unfoldable pub holdsIn : List ℕ → List ℕ → ℕ → Check → ℕ → Bool
 holdsIn column base n c s = holds (diskOf column base n s) c
 
 unfoldable pub allHold : List ℕ → List ℕ → ℕ → List Check → ℕ → Bool
 allHold column base n checks s = consistent checks (diskOf column base n s)
 
--- the address of the block that a check begins with, and the check with that block known
+-- ---- with one block known
+
+-- the address of the block that a check begins with
 unfoldable pub ownBlock : Check → ℕ
 ownBlock (Range a) = a
 ownBlock (Pair a v b w) = a
 ownBlock (Pointer a) = a
 
+-- the disk whose block at a is known
+abbrev pub knownOf : List ℕ → List ℕ → ℕ → ℕ → ℕ → ℕ → List ℕ
+knownOf column base n a own s = set (diskOf column base n s) a own
+
+-- its block at k is v; is not empty
+unfoldable pub isKnown : List ℕ → List ℕ → ℕ → ℕ → ℕ → ℕ → ℕ → ℕ → Bool
+isKnown column base n a own k v s = eqb (blockAt (knownOf column base n a own s) k) v
+
+unfoldable pub isThere : List ℕ → List ℕ → ℕ → ℕ → ℕ → ℕ → ℕ → Bool
+isThere column base n a own k s = not (empty (blockAt (knownOf column base n a own s) k))
+
+-- of it a range of blocks, a pair, a pointer hold, the first block of these being the known one
+unfoldable pub rangeIn : List ℕ → List ℕ → ℕ → ℕ → ℕ → ℕ → ℕ → ℕ → Bool
+rangeIn column base n a own head tail s = rangeHolds (knownOf column base n a own s) head tail
+
+unfoldable pub pairIn : List ℕ → List ℕ → ℕ → ℕ → ℕ → ℕ → ℕ → ℕ → ℕ → Bool
+pairIn column base n a own v b w s = not (eqb own v) || eqb (blockAt (knownOf column base n a own s) b) w
+
+unfoldable pub pointerIn : List ℕ → List ℕ → ℕ → ℕ → ℕ → ℕ → Bool
+pointerIn column base n a own s = empty own || leb (secondOf own) lastBlock && not (empty (blockAt (knownOf column base n a own s) (secondOf own)))
+
+-- of it a check holds
 unfoldable pub holdsWith : List ℕ → Check → ℕ → Bool
 holdsWith disk (Range a) own = rangeHolds disk (firstOf own) (secondOf own)
 holdsWith disk (Pair a v b w) own = not (eqb own v) || eqb (blockAt disk b) w
 holdsWith disk (Pointer a) own = empty own || leb (secondOf own) lastBlock && not (empty (blockAt disk (secondOf own)))
 
--- of a pair, of a pointer
-unfoldable pub pairIn : List ℕ → List ℕ → ℕ → ℕ → ℕ → ℕ → ℕ → ℕ → Bool
-pairIn column base n own v b w s = not (eqb own v) || eqb (laid column base n b s) w
-
-unfoldable pub pointerIn : List ℕ → List ℕ → ℕ → ℕ → ℕ → Bool
-pointerIn column base n own s = empty own || leb (secondOf own) lastBlock && not (empty (laid column base n (secondOf own) s))
-
 unfoldable pub holdsBy : List ℕ → List ℕ → ℕ → Check → ℕ → ℕ → Bool
-holdsBy column base n c own s = holdsWith (diskOf column base n s) c own
+holdsBy column base n c own s = holdsWith (knownOf column base n (ownBlock c) own s) c own
 
 -- a known block is v
 unfoldable pub valued : ℕ → ℕ → Answer

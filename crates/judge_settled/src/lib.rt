@@ -9,7 +9,7 @@ ghost use mathlib.Core.Path.{_≡_};
 ghost use Prim.Native.Nat.{_<_, _≤_};
 ghost use lib.ListN.{length, take};
 ghost use Rattle.model.specs.Limits.{diskBlocks, mostMain, mostChecks};
-ghost use Rattle.judge_settled.specs.Settled.{Says, isYes, opposed, Names, agreed, isBlock, isThere, rangeIn, pairIn, pointerIn, holdsIn, allHold, ownBlock, holdsBy, valued, Writers, Blank, Ready, Among, AlikeIf};
+ghost use Rattle.judge_settled.specs.Settled.{Says, isYes, opposed, Names, agreed, isBlock, holdsIn, allHold, ownBlock, isKnown, isThere, rangeIn, pairIn, pointerIn, holdsBy, valued, Writers, Blank, Ready, Among, AlikeIf};
 
 // What all these schedules say: yes, no, or now this and now that, as a free write is flagged or not.
 pub enum Answer {
@@ -164,7 +164,29 @@ fn block_is(
     Answer::Open(h)
 }
 
-// Whether the block at a is not empty.
+// Whether the block at k is v, where the block at a is known.
+fn known_is(
+    base: &[u32; DISK_BLOCKS],
+    stores: &[u64; MOST_INITIAL],
+    writers: &[u64; DISK_BLOCKS],
+    n: usize,
+    chosen: u64,
+    free: u64,
+    a: usize,
+    own: u32,
+    k: usize,
+    v: u32,
+) -> Answer
+    requires { ⌜ (k < diskBlocks) × Ready (now stores) (now base) n (now writers) ⌝ }
+    ensures { λ r. ⌜ Says (isKnown (now (stores .entry)) (now (base .entry)) n a own k v) chosen free r ⌝ }
+{
+    if k == a {
+        return is_value(own, v);
+    }
+    block_is(base, stores, writers, n, chosen, free, k, v)
+}
+
+// Whether the block at k is not empty.
 fn is_there(
     base: &[u32; DISK_BLOCKS],
     stores: &[u64; MOST_INITIAL],
@@ -173,11 +195,13 @@ fn is_there(
     chosen: u64,
     free: u64,
     a: usize,
+    own: u32,
+    k: usize,
 ) -> Answer
-    requires { ⌜ (a < diskBlocks) × Ready (now stores) (now base) n (now writers) ⌝ }
-    ensures { λ r. ⌜ Says (isThere (now (stores .entry)) (now (base .entry)) n a) chosen free r ⌝ }
+    requires { ⌜ (k < diskBlocks) × Ready (now stores) (now base) n (now writers) ⌝ }
+    ensures { λ r. ⌜ Says (isThere (now (stores .entry)) (now (base .entry)) n a own k) chosen free r ⌝ }
 {
-    opposite(block_is(base, stores, writers, n, chosen, free, a, 0))
+    opposite(known_is(base, stores, writers, n, chosen, free, a, own, k, 0))
 }
 
 // Whether head is at most tail and the blocks from head up to tail - 1 are there.
@@ -188,18 +212,20 @@ fn range_is(
     n: usize,
     chosen: u64,
     free: u64,
+    a: usize,
+    own: u32,
     head: usize,
     tail: usize,
 ) -> Answer
     requires { ⌜ Ready (now stores) (now base) n (now writers) ⌝ }
-    ensures { λ r. ⌜ Says (rangeIn (now (stores .entry)) (now (base .entry)) n head tail) chosen free r ⌝ }
+    ensures { λ r. ⌜ Says (rangeIn (now (stores .entry)) (now (base .entry)) n a own head tail) chosen free r ⌝ }
 {
     if judge_checks::is_damaged(head, tail) {
         return Answer::No;
     }
     let mut k = head;
     while k < tail {
-        let there = is_there(base, stores, writers, n, chosen, free, k);
+        let there = is_there(base, stores, writers, n, chosen, free, a, own, k);
         if !is_yes(there) {
             return there;
         }
@@ -216,18 +242,19 @@ fn pair_is(
     n: usize,
     chosen: u64,
     free: u64,
+    a: usize,
     own: u32,
     v: u32,
     b: usize,
     w: u32,
 ) -> Answer
     requires { ⌜ (b < diskBlocks) × Ready (now stores) (now base) n (now writers) ⌝ }
-    ensures { λ r. ⌜ Says (pairIn (now (stores .entry)) (now (base .entry)) n own v b w) chosen free r ⌝ }
+    ensures { λ r. ⌜ Says (pairIn (now (stores .entry)) (now (base .entry)) n a own v b w) chosen free r ⌝ }
 {
     if own != v {
         return Answer::Yes;
     }
-    block_is(base, stores, writers, n, chosen, free, b, w)
+    known_is(base, stores, writers, n, chosen, free, a, own, b, w)
 }
 
 // Whether a pointer's own block is empty or points to one that is there.
@@ -238,10 +265,11 @@ fn pointer_is(
     n: usize,
     chosen: u64,
     free: u64,
+    a: usize,
     own: u32,
 ) -> Answer
     requires { ⌜ Ready (now stores) (now base) n (now writers) ⌝ }
-    ensures { λ r. ⌜ Says (pointerIn (now (stores .entry)) (now (base .entry)) n own) chosen free r ⌝ }
+    ensures { λ r. ⌜ Says (pointerIn (now (stores .entry)) (now (base .entry)) n a own) chosen free r ⌝ }
 {
     if own == 0 {
         return Answer::Yes;
@@ -250,7 +278,7 @@ fn pointer_is(
     if model::LAST_BLOCK < to {
         return Answer::No;
     }
-    is_there(base, stores, writers, n, chosen, free, to)
+    is_there(base, stores, writers, n, chosen, free, a, own, to)
 }
 
 // Whether a check holds, its own block known.
@@ -268,17 +296,23 @@ fn check_with(
     ensures { λ r. ⌜ Says (holdsBy (now (stores .entry)) (now (base .entry)) n c own) chosen free r ⌝ }
 {
     match c {
-        Check::Range(_) => range_is(
-            base,
-            stores,
-            writers,
-            n,
-            chosen,
-            free,
-            judge_checks::first_of(own),
-            judge_checks::second_of(own),
-        ),
-        Check::Pair { a: _, v, b, w } => {
+        Check::Range(a) => {
+            let head = judge_checks::first_of(own);
+            let tail = judge_checks::second_of(own);
+            range_is(
+                base,
+                stores,
+                writers,
+                n,
+                chosen,
+                free,
+                a as usize,
+                own,
+                head,
+                tail,
+            )
+        }
+        Check::Pair { a, v, b, w } => {
             pair_is(
                 base,
                 stores,
@@ -286,13 +320,14 @@ fn check_with(
                 n,
                 chosen,
                 free,
+                a as usize,
                 own,
                 v,
                 b as usize,
                 w,
             )
         }
-        Check::Pointer(_) => pointer_is(base, stores, writers, n, chosen, free, own),
+        Check::Pointer(a) => { pointer_is(base, stores, writers, n, chosen, free, a as usize, own) }
     }
 }
 

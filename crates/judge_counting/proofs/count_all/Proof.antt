@@ -23,9 +23,10 @@ sub-walk c = search walking
 walk-requires : tie.Need-walk-requires
 walk-requires c κs =
     let p = c .before .before .before .before .before .before .before .before .before .before .pre in
-    let o = c .before .before .before .before .before .before .before .order .ensures in
-    ((record { few = p .0; size = search walking; at = c .before .before .before .before .before .fill-writers .ensures }, (o .order, start-choice _ _ _ _ (p .0) o)),
-    ((search walking, p .1 .0), (start-says _ _ _ _ (p .0) o _ _ (c .before .before .before .before .before .before .before .before .before .before .args .checks) _ _, start-room _ _ _ _ (p .0) o _ refl refl)))
+    let o = c .before .before .before .before .before .before .before .order .ensures in (
+      (record { few = p .0; size = search walking; at = c .before .before .before .before .before .fill-writers .ensures }, (o .order, start-choice _ _ _ _ (p .0) o)),
+      ((search walking, p .1 .0), (start-says _ _ _ _ (p .0) o _ _ (c .before .before .before .before .before .before .before .before .before .before .args .checks) _ _, start-room _ _ _ _ (p .0) o _ refl refl)),
+    )
 
 returns : tie.Need-returns
 returns c = search walking

@@ -50,7 +50,7 @@ without-requires : tie.Need-without-requires
 without-requires c κs = search settling
 
 blocks-alike-requires : tie.Need-blocks-alike-requires
-blocks-alike-requires c κs = 
+blocks-alike-requires c κs =
     let start = c .before .before .before .before .before .before .before .before .before in
     let top = c .before .before .before .before .before .before .highest .ensures .0 in
     (search settling, (search settling, (search settling, rest-writers _ _ _ _ (start .args .chosen) (start .args .free) _ _ (start .pre .1) (start .pre .0) refl _ top _ (c .without .ensures))))

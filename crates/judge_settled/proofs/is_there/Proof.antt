@@ -3,8 +3,8 @@ use Rattle.judge_settled.proofs.AskLaws.{asking}
 use Rattle.judge_settled.proofs.is_there.Statement.{statement}
 use Rattle.judge_settled.proofs.is_there.Tie as tie
 
-block-is-requires : tie.Need-block-is-requires
-block-is-requires c κs = search asking
+known-is-requires : tie.Need-known-is-requires
+known-is-requires c κs = search asking
 
 opposite-requires : tie.Need-opposite-requires
 opposite-requires c κs = search asking
@@ -13,4 +13,4 @@ returns : tie.Need-returns
 returns c = search asking
 
 pub is-there-spec : {M : Type 1} → statement M
-is-there-spec = tie.close (tie.spec block-is-requires opposite-requires returns)
+is-there-spec = tie.close (tie.spec known-is-requires opposite-requires returns)

@@ -6,11 +6,11 @@ use Rattle.judge_settled.proofs.pair_is.Tie as tie
 returns : tie.Need-returns
 returns c = search asking
 
-block-is-requires : tie.Need-block-is-requires
-block-is-requires c κs = search asking
+known-is-requires : tie.Need-known-is-requires
+known-is-requires c κs = search asking
 
 returns-2 : tie.Need-returns-2
 returns-2 c = search asking
 
 pub pair-is-spec : {M : Type 1} → statement M
-pair-is-spec = tie.close (tie.spec returns block-is-requires returns-2)
+pair-is-spec = tie.close (tie.spec returns known-is-requires returns-2)

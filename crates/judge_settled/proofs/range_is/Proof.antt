@@ -6,10 +6,10 @@ use Rattle.judge_settled.proofs.range_is.Statement.{statement}
 use Rattle.judge_settled.proofs.range_is.Tie as tie
 
 abbrev Inv-loop : tie.InvT-loop
-Inv-loop base stores writers n chosen free head tail k₀ k = (head ≤ k) × (k ≤ tail) × There stores base n chosen free head k
+Inv-loop base stores writers n chosen free a own head tail k₀ k = (head ≤ k) × (k ≤ tail) × There stores base n chosen free a own head k
 
 abbrev μ-loop : tie.MeasureT-loop
-μ-loop base stores writers n chosen free head tail k₀ k = tail - k
+μ-loop base stores writers n chosen free a own head tail k₀ k = tail - k
 
 is-damaged-requires : tie.Need-is-damaged-requires Inv-loop μ-loop
 is-damaged-requires c κs = search asking
