@@ -1,17 +1,19 @@
 /*
- * The tester's interface: reading test files, judging tests, finding rules, and traces of the
- * reading log. Link target/staticlib/libworkbench.a. See pelzhondy_answer.h for answers, refusals
- * and buffers, and README.md for the format of a file: at most 32 rules and 16 tests, in a test at
- * most 64 initial writes, 12 main writes and 16 checks. `file` is only read.
+ * The tester's interface: reading test files, judging tests, finding rules, and traces of the reading
+ * log. Link target/staticlib/libworkbench.a. See pelzhondy_answer.h for answers, refusals and
+ * buffers, and README.md for the format of a file: at most 32 rules and 16 tests, in a test at most
+ * 64 initial writes, 20 main writes and 16 checks. Find alone takes no more than 12 main writes of a
+ * test. `file` is only read.
  *
  * "By reading" stands for the refusals 1 to 6, at the offset of the field at fault, and 7, at the
- * file's length. A file may have any length: one of over 19,376 bytes is refused, by what stands in
+ * file's length. A file may have any length: one of over 21,040 bytes is refused, by what stands in
  * it.
  *
- * Nothing here uses the heap. Judge and verdict keep a few disks of 1,024 bytes and tables of 512
- * bytes on the stack, find a table of 32,768 bytes, two of 16,384 and one of 8,192 besides. What the
- * compiled code needs beyond these is neither proved nor measured: these routines are for a host, not
- * for firmware.
+ * Nothing here uses the heap. On the stack judge keeps a few disks of 1,024 bytes, a table of 2,048
+ * and several of 512, and calls itself once more for each main write that it chooses; verdict keeps,
+ * beside the disks, three tables of 8,192 bytes where the test has over 12 main writes, of 512 where
+ * it has not; find a table of 32,768 bytes, two of 16,384 and one of 8,192. What the compiled code
+ * needs beyond these is not proved: these routines are for a host, not for firmware.
  */
 #ifndef PELZHONDY_WORKBENCH_H
 #define PELZHONDY_WORKBENCH_H
@@ -25,6 +27,10 @@ extern "C" {
 /* The least buffers of judge_lines and of find. */
 #define PELZHONDY_LINES_BYTES 400
 #define PELZHONDY_RULES_BYTES 96
+
+/* The most main writes of a test: of a file that is read, and of one that find takes. */
+#define PELZHONDY_MAIN_WRITES 20
+#define PELZHONDY_FIND_WRITES 12
 
 /*
  * Reads a file. Answers the number of its rules + 256 * the number of its tests. Refused by reading.
@@ -46,7 +52,10 @@ uint64_t pelzhondy_cyclic(const uint8_t *file, size_t file_length);
  * Judges a test, counted from 1, over all its crash schedules. Answers the number of valid schedules
  * + 2^21 * the number of bad ones, which are valid and leave an inconsistent disk + 2^42 * the number
  * of some bad schedule, or 0 where there is none; the three functions below take it apart. Bit i - 1
- * of a schedule's number is set if main write i is stored. Refused, in this order: by reading; 8; 9.
+ * of a schedule's number is set if main write i is stored. 20 main writes have 1,048,576 schedules,
+ * so either count may be 1,048,576 and takes 21 bits: 20 would cut it to 0. Which bad schedule is
+ * shown is left free; judge and verdict need not show the same. Refused, in this order: by reading;
+ * 8; 9.
  */
 uint64_t pelzhondy_judge(const uint8_t *file, size_t file_length, uint64_t test);
 
@@ -67,7 +76,9 @@ static inline uint32_t pelzhondy_judged_schedule(uint64_t answer)
 }
 
 /*
- * Answers 0 if the test holds, or 1 + the number of some bad schedule, as soon as there is one.
+ * Answers 0 if the test holds, or 1 + the number of some bad schedule, as soon as there is one. It
+ * looks at one valid schedule after another, and where the test holds at all of them; judge does not.
+ * So of a long test that holds under few rules, or none, verdict may take much longer than judge.
  * Refused as judge is.
  */
 uint64_t pelzhondy_verdict(const uint8_t *file, size_t file_length, uint64_t test);
@@ -89,8 +100,13 @@ uint64_t pelzhondy_judge_lines(const uint8_t *file, size_t file_length,
  * number has bit i set if candidate i, from 0, is in it, and among the smallest sets the one with the
  * largest number is taken. Writes a field of six bytes for each rule (03 00 03, name, predicate,
  * name), in the candidates' order, and leaves the rest of the buffer. Answers the number of rules, at
- * most 16. Refused, in this order: by reading; 10 if the file has rules; 12 if the buffer has fewer
- * than 96 bytes; 11 if there are over 16 candidates; 13 if no acyclic set of any rules does it.
+ * most 16. Refused, in this order: by reading; 10 if the file has rules; 24 if a test of it,
+ * whichever, has over 12 main writes; 12 if the buffer has fewer than 96 bytes; 11 if there are over
+ * 16 candidates; 13 if no acyclic set of any rules does it.
+ *
+ * So a file that judge and verdict answer for may be refused here, and 24 says nothing of whether
+ * there are such rules. Rules that are found on shorter tests, for instance on a log of fewer puts,
+ * need not do for the longer one: put them in front of its file and ask judge or verdict.
  */
 uint64_t pelzhondy_find(const uint8_t *file, size_t file_length,
                         uint8_t *buffer, size_t buffer_length);
@@ -99,8 +115,9 @@ uint64_t pelzhondy_find(const uint8_t *file, size_t file_length,
  * Writes the test of a reading log, after the initial puts and during the main ones, with a range
  * check at 0. A program of puts is a row of keys and values, two bytes each, big-endian. Answers the
  * length written, 26 for each put and 7, and leaves the rest of the buffer. Refused, in this order:
- * 19 if a program's length is not a multiple of 4; 6, at place 0, if there are over 32 initial or 6
- * main puts; 20 if one is of (0,0); 12 if the buffer is too short.
+ * 19 if a program's length is not a multiple of 4; 6, at place 0, if there are over 32 initial or 10
+ * main puts; 20 if one is of (0,0); 12 if the buffer is too short. Of over 6 main puts the test has
+ * over 12 main writes: judge takes it, find does not (24).
  */
 uint64_t pelzhondy_trace(const uint8_t *initial_puts, size_t initial_length,
                          const uint8_t *main_puts, size_t main_length,

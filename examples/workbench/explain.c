@@ -11,8 +11,8 @@
 
 #include "pelzhondy_workbench.h"
 
-/* A file that is accepted has at most 19,376 bytes; a longer one is refused by what stands before. */
-static uint8_t file[19456];
+/* A file that is accepted has at most 21,040 bytes; a longer one is refused by what stands before. */
+static uint8_t file[21504];
 
 /* Fields: tag 1, length 2, body. A rule's body has 3 bytes, a write's 10. */
 enum { RULE_FIELD = 6, WRITE_FIELD = 13 };
@@ -75,6 +75,8 @@ static void advise(size_t length, size_t rules)
     if (pelzhondy_is_refused(count)) {
         if (pelzhondy_refusal_number(count) == PELZHONDY_NO_SET_DOES) {
             printf("no rules do: whatever acyclic set is taken, some test fails\n");
+        } else if (pelzhondy_refusal_number(count) == PELZHONDY_TEST_TOO_LONG) {
+            printf("rules were not sought: a test has over %d main writes\n", PELZHONDY_FIND_WRITES);
         } else if (pelzhondy_refusal_number(count) == PELZHONDY_TOO_MANY_CANDIDATES) {
             printf("rules were not sought: over 16 candidates\n");
         } else {

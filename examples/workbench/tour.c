@@ -1,7 +1,7 @@
 /*
  * Calls every routine of the tester's library: makes test K of the bench sheet by trace, asks all that
- * can be asked of it with and without rules, and then shows each refusal on a short file. From the
- * repository's root, after 'rt staticlib workbench':
+ * can be asked of it with and without rules, does the same with the longest log that a test can have,
+ * and then shows each refusal. From the repository's root, after 'rt staticlib workbench':
  *
  *     cc -std=c99 -Iinclude examples/workbench/tour.c target/staticlib/libworkbench.a -o target/tour
  *     target/tour
@@ -13,11 +13,16 @@
 #include "pelzhondy_workbench.h"
 
 /* A field is a tag, a length of two bytes and a body; a rule's has six bytes in all. */
-enum { RULE_FIELD = 6, MOST_RULES = 32, TEST_K = 85 };
+enum { RULE_FIELD = 6, WRITE_FIELD = 13, MOST_RULES = 32, MOST_MAIN = 20, TEST_K = 85 };
 
 /* Test K: before it a put of (0,42); in it puts of (1,81) and (2,37). */
 static const uint8_t initial_puts[] = {0, 0, 0, 42};
 static const uint8_t main_puts[] = {0, 1, 0, 81, 0, 2, 0, 37};
+
+/* Ten puts, 20 main writes, the most of a test: four wheels of a lorry, one of each of six trailers. */
+static const uint8_t rig_puts[] = {0, 0,  3, 62,  0, 1,  3, 57,  0, 2,  3, 142, 0, 3,  3, 137,
+                                   0, 10, 3, 131, 0, 20, 3, 116, 0, 30, 2, 128, 0, 40, 3, 134,
+                                   0, 50, 3, 103, 0, 60, 3, 125};
 
 /* The log's rules (2,=,1) and (2,>,2): a superblock after its log block, and after earlier ones. */
 static const uint8_t log_rules[] = {3, 0, 3, 2, 0, 1, 3, 0, 3, 2, 1, 2};
@@ -38,14 +43,24 @@ static uint64_t accepted(const char *call, uint64_t answer)
     return answer;
 }
 
-/* Makes a file of rules, perhaps none, and test K. Answers its length. */
-static size_t make_file(const uint8_t *rules, size_t rules_length)
+/* Makes a file of rules, perhaps none, and the test of a log. Answers its length. */
+static size_t make_log(const uint8_t *rules, size_t rules_length, const uint8_t *puts, size_t puts_length)
 {
     memcpy(file, rules, rules_length);
     return rules_length +
-           (size_t)accepted("trace", pelzhondy_trace(initial_puts, sizeof initial_puts, main_puts,
-                                                     sizeof main_puts, file + rules_length,
-                                                     sizeof file - rules_length));
+           (size_t)accepted("trace", pelzhondy_trace(initial_puts, sizeof initial_puts, puts, puts_length,
+                                                     file + rules_length, sizeof file - rules_length));
+}
+
+/* The same with test K; with the rig's. */
+static size_t make_file(const uint8_t *rules, size_t rules_length)
+{
+    return make_log(rules, rules_length, main_puts, sizeof main_puts);
+}
+
+static size_t make_rig(const uint8_t *rules, size_t rules_length)
+{
+    return make_log(rules, rules_length, rig_puts, sizeof rig_puts);
 }
 
 /*
@@ -60,7 +75,7 @@ static void print_all(const char *what, size_t length)
     uint64_t judged = accepted("judge", pelzhondy_judge(file, length, 1));
     uint64_t verdict = accepted("verdict", pelzhondy_verdict(file, length, 1));
     size_t printed = (size_t)accepted("judge_lines", pelzhondy_judge_lines(file, length, lines, sizeof lines));
-    printf("test K with %s, %u bytes\n", what, (unsigned)length);
+    printf("%s, %u bytes\n", what, (unsigned)length);
     printf("    read: %u rules, %u tests\n", (unsigned)(counts % 256), (unsigned)(counts / 256));
     printf("    locate: offset %u, %u initial writes, %u main writes, %u checks\n", (unsigned)(where & 0xFFFF),
            (unsigned)(where >> 16 & 0xFF), (unsigned)(where >> 24 & 0xFF), (unsigned)(where >> 32));
@@ -149,10 +164,14 @@ static void print_refusals_of_reading(void)
     static const uint8_t out_of_order[] = {7, 0, 0, 3, 0, 3, 2, 0, 1};
     static const uint8_t unknown_predicate[] = {3, 0, 3, 2, 3, 1};
     static const uint8_t not_ended[] = {4, 0, 1, 0};
-    uint8_t over_limit[RULE_FIELD * (MOST_RULES + 1)];
+    static const uint8_t main_write[WRITE_FIELD] = {2, 0, 10, 1, 1, 0, 0, 0, 0, 0, 0, 0, 1};
+    uint8_t over_rules[RULE_FIELD * (MOST_RULES + 1)], over_main[WRITE_FIELD * (MOST_MAIN + 1)];
     size_t i;
-    for (i = 0; i < sizeof over_limit; i += RULE_FIELD) {
-        memcpy(over_limit + i, log_rules, RULE_FIELD);
+    for (i = 0; i < sizeof over_rules; i += RULE_FIELD) {
+        memcpy(over_rules + i, log_rules, RULE_FIELD);
+    }
+    for (i = 0; i < sizeof over_main; i += WRITE_FIELD) {
+        memcpy(over_main + i, main_write, WRITE_FIELD);
     }
     print_unread("one byte is left", cut, sizeof cut);
     print_unread("a body is cut", body_cut, sizeof body_cut);
@@ -160,7 +179,8 @@ static void print_refusals_of_reading(void)
     print_unread("a rule of two bytes", wrong_length, sizeof wrong_length);
     print_unread("a rule after a test", out_of_order, sizeof out_of_order);
     print_unread("a rule with predicate 3", unknown_predicate, sizeof unknown_predicate);
-    print_unread("a 33rd rule", over_limit, sizeof over_limit);
+    print_unread("a 33rd rule", over_rules, sizeof over_rules);
+    print_unread("a 21st main write", over_main, sizeof over_main);
     print_unread("a test without its end", not_ended, sizeof not_ended);
 }
 
@@ -192,31 +212,41 @@ static void print_refusals_of_find(void)
     size_t length = make_file(log_rules, sizeof log_rules), i;
     fill_buffer();
     print_refusal("a file with rules", "find", pelzhondy_find(file, length, buffer, sizeof buffer));
+    length = make_rig(log_rules, sizeof log_rules);
+    print_refusal("a file with rules, 20 main writes", "find",
+                  pelzhondy_find(file, length, buffer, sizeof buffer));
+    /* What judge, verdict and judge_lines take need not be short enough for find. */
+    length = make_rig(log_rules, 0);
+    print_refusal("20 main writes", "find", pelzhondy_find(file, length, buffer, sizeof buffer));
+    print_refusal("20 main writes, 95 bytes", "find",
+                  pelzhondy_find(file, length, buffer, PELZHONDY_RULES_BYTES - 1));
+    make_file(log_rules, sizeof log_rules);
     print_refusal("95 bytes", "find",
                   pelzhondy_find(file + sizeof log_rules, TEST_K, buffer, PELZHONDY_RULES_BYTES - 1));
     for (i = 0; i < 6; i++) {
-        uint8_t field[13] = {2, 0, 10, 0, 0, 0, 0, 0, 0, 0, 0, 0, 1};
+        uint8_t field[WRITE_FIELD] = {2, 0, 10, 0, 0, 0, 0, 0, 0, 0, 0, 0, 1};
         field[3] = field[4] = (uint8_t)(i + 1);
         memcpy(file + i * sizeof field, field, sizeof field);
     }
-    memcpy(file + 6 * 13, check_and_end, sizeof check_and_end);
+    memcpy(file + 6 * WRITE_FIELD, check_and_end, sizeof check_and_end);
     print_refusal("30 candidates", "find",
-                  pelzhondy_find(file, 6 * 13 + sizeof check_and_end, buffer, sizeof buffer));
+                  pelzhondy_find(file, 6 * WRITE_FIELD + sizeof check_and_end, buffer, sizeof buffer));
     print_refusal("no acyclic rules do", "find",
                   pelzhondy_find(both_ways, sizeof both_ways, buffer, sizeof buffer));
 }
 
 static void print_refusals_of_trace(void)
 {
-    static const uint8_t seven_puts[] = {0, 1, 0, 1, 0, 1, 0, 1, 0, 1, 0, 1, 0, 1,
-                                         0, 1, 0, 1, 0, 1, 0, 1, 0, 1, 0, 1, 0, 1};
     static const uint8_t empty_put[] = {0, 0, 0, 0};
+    uint8_t eleven_puts[sizeof rig_puts + 4];
+    memcpy(eleven_puts, rig_puts, sizeof rig_puts);
+    memcpy(eleven_puts + sizeof rig_puts, rig_puts, 4);
     fill_buffer();
     print_refusal("a program of 7 bytes", "trace",
                   pelzhondy_trace(initial_puts, sizeof initial_puts, main_puts, 7, buffer, sizeof buffer));
-    print_refusal("7 main puts", "trace",
-                  pelzhondy_trace(initial_puts, sizeof initial_puts, seven_puts, sizeof seven_puts, buffer,
-                                  sizeof buffer));
+    print_refusal("11 main puts", "trace",
+                  pelzhondy_trace(initial_puts, sizeof initial_puts, eleven_puts, sizeof eleven_puts,
+                                  buffer, sizeof buffer));
     print_refusal("a put of (0,0)", "trace",
                   pelzhondy_trace(empty_put, sizeof empty_put, main_puts, sizeof main_puts, buffer,
                                   sizeof buffer));
@@ -228,11 +258,14 @@ static void print_refusals_of_trace(void)
 int main(void)
 {
     size_t length;
-    print_all("(2,=,1) (2,>,2)", make_file(log_rules, sizeof log_rules));
-    print_all("(2,=,1)", make_file(log_rules, RULE_FIELD));
+    print_all("test K with (2,=,1) (2,>,2)", make_file(log_rules, sizeof log_rules));
+    print_all("test K with (2,=,1)", make_file(log_rules, RULE_FIELD));
     length = make_file(log_rules, 0);
-    print_all("no rules", length);
+    print_all("test K with no rules", length);
     print_found(length);
+    print_all("six trailers with (2,=,1) (2,>,2)", make_rig(log_rules, sizeof log_rules));
+    print_all("six trailers with (2,=,1)", make_rig(log_rules, RULE_FIELD));
+    print_all("six trailers with no rules", make_rig(log_rules, 0));
     print_refusals_of_reading();
     print_refusals_of_judging();
     print_refusals_of_find();

@@ -71,9 +71,9 @@ module _ (p : ℕ → Bool) where
     unfolding thoseBelow
     lists-skip h = record { most = omega (arith, g .most); fits = g .fits; same = rw (add-one n, sym e ∙ not-true b h) (g .same) }
 
-    pub lists-more : (columns : ℕ) → not b ≡ false → n ≤ columns → (n ≡ columns → ⊥) → columns ≤ halfSets → length list ≡ halfSets → Lists p (n + 1) (set list many n) (many + 1)
+    pub lists-more : (columns size : ℕ) → not b ≡ false → n ≤ columns → (n ≡ columns → ⊥) → columns ≤ size → length list ≡ size → Lists p (n + 1) (set list many n) (many + 1)
     unfolding thoseBelow
-    lists-more columns h l d k s =
+    lists-more columns size h l d k z =
         let m = g .most in
         record {
           most = omega arith;

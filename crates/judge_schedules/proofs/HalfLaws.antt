@@ -26,6 +26,17 @@ use Rattle.judge_schedules.proofs.SetLaws.{sets-are, sets-fit, sets-mos
 pub flags-are : (s k : ℕ) → k ≤ mostHalf → bitAnd s (1 * 2 ^ k % 18446744073709551616 - 1) ≡ s % 2 ^ k
 flags-are s k h = rw (sets-are k h) (and-mask s k)
 
+-- a table has room for the sets of a half
+pub first-room : (n k size : ℕ) → k ≡ firstHalf n → 2 ^ firstHalf n ≤ size → 2 ^ k ≤ size
+first-room n k size e h = rw e h
+
+pub next-room : (n k size : ℕ) → k ≡ firstHalf n → 2 ^ (n - firstHalf n) ≤ size → 2 ^ (n - k) ≤ size
+next-room n k size e h = rw e h
+
+-- an index of a table of unions
+pub flags-inside : (s k size x : ℕ) → x ≡ s % 2 ^ k → 2 ^ k ≤ size → x < size
+flags-inside s k size x e h = let m = mod-lt s {m = 2 ^ k} (pow-pos k) in omega arith
+
 pub flags-below : (s k : ℕ) → k ≤ mostHalf → bitAnd s (1 * 2 ^ k % 18446744073709551616 - 1) < halfSets
 flags-below s k h =
     let m = mod-lt s {m = 2 ^ k} (pow-pos k) in let l = sets-fit k halfSets refl h in
@@ -44,10 +55,10 @@ module _ (low high : List ℕ) (near s : ℕ) where
     unfolding partOf
     valid-broken h = sym (valid-both ∙ rw (← e, ne-eqb _ _ h))
 
-    pub valid-next : (y : ℕ) → bitAnd (getD low x 0) s ≡ getD low x 0 → y ≡ s / 2 ^ near % halfSets
-        → eqb (bitAnd (getD high y 0) s) (getD high y 0) ≡ validBy low high near s
+    pub valid-next : bitAnd (getD low x 0) s ≡ getD low x 0 → s / 2 ^ near < halfSets
+        → eqb (bitAnd (getD high (s / 2 ^ near) 0) s) (getD high (s / 2 ^ near) 0) ≡ validBy low high near s
     unfolding partOf
-    valid-next y h f = sym (valid-both ∙ rw (← e, ← f, eq-eqb _ _ h))
+    valid-next h f = sym (valid-both ∙ rw (← e, mod-eq-of-lt f, eq-eqb _ _ h))
 
 -- write i of a schedule, if flagged, has all of its row flagged
 abbrev covers : List ℕ → ℕ → ℕ → Bool
@@ -71,4 +82,4 @@ validates rows low high n near l e u v s h =
     ∙ sym (allBelow-split (covers rows s) near far)
     ∙ ap (allBelow (covers rows s)) z)
 
-pub ruleset halves = (needs, sets-are, sets-fit, sets-most, sets-some, flags-are, flags-below, valid-broken, valid-next, validates)
+pub ruleset halves = (needs, sets-are, sets-fit, sets-most, sets-some, flags-are, first-room, next-room, flags-inside, flags-below, valid-broken, valid-next, validates)

@@ -1,7 +1,7 @@
 // Which schedules of a trace are valid, by a table of rows: row i is the mask of the writes that write
 // i depends on. The flags of a schedule are looked up by halves.
 ghost use mathlib.Core.Path.{_≡_};
-ghost use Prim.Native.Nat.{_+_, _%_, _^_, _<_, _≤_};
+ghost use Prim.Native.Nat.{_+_, _-_, _/_, _%_, _^_, _<_, _≤_};
 ghost use lib.ListN.{length};
 ghost use Rattle.model.specs.Limits.{mostMain};
 ghost use Rattle.judge_schedules.specs.Halves.{firstHalf, mostHalf, halfSets, validBy, Validates, mayBegin, mayEnd, Lists};
@@ -10,6 +10,11 @@ ghost use Rattle.judge_schedules.specs.Halves.{firstHalf, mostHalf, half
 const HALF: usize = (model::MOST_MAIN + 1) / 2;
 
 pub const HALF_SETS: usize = 1 << HALF;
+
+// The same of a test as short as finding takes: its tables are made in a fraction of the time.
+const SHORT_HALF: usize = (model::MOST_FOUND + 1) / 2;
+
+pub const SHORT_SETS: usize = 1 << SHORT_HALF;
 
 // How many of n writes are in the first half.
 pub fn first_half(n: usize) -> usize
@@ -29,7 +34,7 @@ fn first_flags(s: u64, k: usize) -> u64
 
 // The dependencies of each set of the first half of n writes, and of each set of the second.
 pub fn prepare(low: &mut [u64], high: &mut [u64], rows: &[u64; 64], n: usize)
-    requires { ⌜ ((length (now low) ≡ halfSets) × (length (now high) ≡ halfSets)) × (n ≤ mostMain) ⌝ }
+    requires { ⌜ ((2 ^ firstHalf n ≤ length (now low)) × (2 ^ (n - firstHalf n) ≤ length (now high))) × (n ≤ mostMain) ⌝ }
     ensures { λ _. ⌜ Validates (now (rows .entry)) n (now (low .exit)) (now (high .exit)) ⌝ }
 {
     let near = first_half(n);
@@ -39,21 +44,21 @@ pub fn prepare(low: &mut [u64], high: &mut [u64], rows: &[u64; 64], n: usize)
 
 // Whether a schedule is valid: all that its flagged writes depend on is flagged. The flags of its first
 // `near` writes are looked up, and those behind only where the first show no unflagged dependency.
-pub fn is_valid(low: &[u64; HALF_SETS], high: &[u64; HALF_SETS], near: usize, s: u64) -> bool
-    requires { ⌜ near ≤ mostHalf ⌝ }
+pub fn is_valid(low: &[u64], high: &[u64], near: usize, s: u64) -> bool
+    requires { ⌜ ((near ≤ mostHalf) × (2 ^ near ≤ length (now low))) × ((s / 2 ^ near < length (now high)) × (s / 2 ^ near < halfSets)) ⌝ }
     ensures { λ r. ⌜ r ≡ validBy (now (low .entry)) (now (high .entry)) near s ⌝ }
 {
     let first = low[first_flags(s, near) as usize];
     if first & s != first {
         return false;
     }
-    let next = high[first_flags(s >> near, HALF) as usize];
+    let next = high[(s >> near) as usize];
     next & s == next
 }
 
 // Whether a valid schedule can begin with the flags x: what they need of the first half is among them.
-pub fn may_begin(low: &[u64; HALF_SETS], near: usize, x: u64) -> bool
-    requires { ⌜ (near ≤ mostHalf) × (x < halfSets) ⌝ }
+pub fn may_begin(low: &[u64], near: usize, x: u64) -> bool
+    requires { ⌜ (near ≤ mostHalf) × (x < length (now low)) ⌝ }
     ensures { λ r. ⌜ r ≡ mayBegin (now (low .entry)) near x ⌝ }
 {
     let needed = first_flags(low[x as usize], near);
@@ -61,8 +66,8 @@ pub fn may_begin(low: &[u64; HALF_SETS], near: usize, x: u64) -> bool
 }
 
 // Whether one can end with the flags y: what they need of the second half is among them.
-fn may_end(high: &[u64; HALF_SETS], near: usize, y: u64) -> bool
-    requires { ⌜ (near ≤ mostHalf) × (y < halfSets) ⌝ }
+fn may_end(high: &[u64], near: usize, y: u64) -> bool
+    requires { ⌜ (near ≤ mostHalf) × (y < length (now high)) ⌝ }
     ensures { λ r. ⌜ r ≡ mayEnd (now (high .entry)) near y ⌝ }
 {
     let needed = high[y as usize] >> near;
@@ -70,8 +75,8 @@ fn may_end(high: &[u64; HALF_SETS], near: usize, y: u64) -> bool
 }
 
 // The ends that valid schedules can have, of those of `far` writes, in rising order, and how many.
-pub fn list_ends(ends: &mut [u64], high: &[u64; HALF_SETS], near: usize, far: usize) -> usize
-    requires { ⌜ (length (now ends) ≡ halfSets) × ((near ≤ mostHalf) × (far ≤ mostHalf)) ⌝ }
+pub fn list_ends(ends: &mut [u64], high: &[u64], near: usize, far: usize) -> usize
+    requires { ⌜ ((2 ^ far ≤ length (now ends)) × (2 ^ far ≤ length (now high))) × ((near ≤ mostHalf) × (far ≤ mostHalf)) ⌝ }
     ensures { λ r. ⌜ Lists (mayEnd (now (high .entry)) near) (2 ^ far) (now (ends .exit)) r ⌝ }
 {
     let columns = 1u64 << far;

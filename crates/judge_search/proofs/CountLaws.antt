@@ -2,12 +2,12 @@
 use mathlib.Core.Path.{_≡_, refl}
 use mathlib.Core.Bool.{Bool}
 use mathlib.Core.List.{List}
-use Prim.Native.Nat.{ℕ, _+_, _*_, _%_, _^_, _≤_, _<_}
-use native.Mathlib.Nat.{mul-comm}
+use Prim.Native.Nat.{ℕ, _+_, _*_, _/_, _%_, _^_, _≤_, _<_}
+use native.Mathlib.Nat.{mul-comm, zero-add, add-mul-div-left, div-eq-of-lt}
 use native.Mathlib.Omega.{arith}
 use lib.Bits.{bitOr, or-shifted-r}
 use lib.ListN.{getD}
-use lib.Pow.{shl-exact}
+use lib.Pow.{shl-exact, pow-pos}
 use borrow.Author.Needs.{needs}
 use Rattle.model.specs.declared.Write.{Write}
 use Rattle.model.specs.declared.Check.{Check}
@@ -30,8 +30,15 @@ module _ (p : ℕ → Bool) (far many : ℕ) (ends : List ℕ) (g : Lists p (2 ^
   pub end-below : (k : ℕ) → k < many → getD ends k 0 < halfSets
   end-below k l = let f = sets-fit far halfSets refl h in omega (arith, listed-below p (2 ^ far) many ends g k l)
 
+  pub end-inside : (k size : ℕ) → k < many → 2 ^ far ≤ size → getD ends k 0 < size
+  end-inside k size l f = omega (arith, listed-below p (2 ^ far) many ends g k l)
+
+-- the end of a schedule that is put together
+pub joined-end : (s x near y size : ℕ) → s ≡ x + 2 ^ near * y → x < 2 ^ near → y < size → s / 2 ^ near < size
+joined-end s x near y size e h l = rw (e, add-mul-div-left x y (pow-pos near), div-eq-of-lt h, zero-add y) l
+
 -- a schedule that begins with x and ends with the one at place k is bad
 abbrev pub badAt : (ℕ → Bool) → ℕ → ℕ → List ℕ → List Write → List Check → List ℕ → ℕ → Bool
 badAt v x rows mid ws cs ends k = listed ends (badBy (after v x rows) mid ws cs) k
 
-pub ruleset counts = (needs, joined-is, many-most, end-below)
+pub ruleset counts = (needs, joined-is, many-most, end-below, end-inside, joined-end)

@@ -6,6 +6,7 @@ use Prim.Native.Nat.{ℕ, _+_, _-_, _*_, _^_, _≤_, _<_}
 use native.Mathlib.Numerals.{add-one}
 use native.Mathlib.Omega.{arith}
 use lib.ListN.{getD, take}
+use lib.Pow.{pow-mono}
 use borrow.Author.Needs.{needs}
 use borrow.Author.Tests.{not-true, not-false}
 use Rattle.relation.proofs.ListLaws.{below-extend, and-intro}
@@ -22,7 +23,7 @@ use Rattle.judge_schedules.proofs.SetLaws.{sets-are, sets-most}
 use Rattle.judge_search.specs.declared.Verdict.{Verdict}
 use Rattle.judge_search.specs.declared.Verdict.the-variants.{Holds, Fails}
 use Rattle.judge_search.specs.Search.{Finds, badBy, after, listed}
-use Rattle.judge_search.proofs.CountLaws.{joined-is, many-most, end-below, badAt}
+use Rattle.judge_search.proofs.CountLaws.{joined-is, many-most, end-below, end-inside, joined-end, badAt}
 use Rattle.judge_search.proofs.GridLaws.{countRows, rows-whole, bad, unbegun-bad, listed-bad, found, bad-rows}
 
 -- ---- one beginning
@@ -67,7 +68,7 @@ clear-pass v x rows mid ws cs ends k m i d c e h l t =
     let z : i ≡ m = omega arith in
     clear-suc _ k c (rw (← e, rw z at t) (and-false (v (x + rows * getD ends k 0))))
 
-pub ruleset clearing = (needs, joined-is, many-most, end-below, clear-none, clear-skip, clear-pass, stops-none, stops-here)
+pub ruleset clearing = (needs, joined-is, many-most, end-below, end-inside, joined-end, clear-none, clear-skip, clear-pass, stops-none, stops-here)
 
 -- ---- all beginnings
 
@@ -105,7 +106,26 @@ module _ (low high base t : List ℕ) (cs : List Check) (near far : ℕ) where
   unfolding Finds
   finds-none x rows r c e h q = rw q (count-none _ (2 ^ (near + far)) (sym (rows-whole (bad low high base t cs near far) near far rows x e h) ∙ c .count))
 
-pub ruleset searching = (needs, sets-are, sets-most, many-most, end-below, mid-length, joined-is, cleared-none, cleared-skip, cleared-more, finds-bad, finds-none)
+-- ---- tables that are long enough
+
+-- the sets of both halves of a test of at most so many writes
+pub long-enough : (n most size : ℕ) → n ≤ most → 2 ^ firstHalf most ≤ size → (2 ^ firstHalf n ≤ size) × (2 ^ (n - firstHalf n) ≤ size)
+long-enough n most size h l =
+    let a = pow-mono {i = firstHalf n} {j = firstHalf most} (omega arith) in
+    let b = pow-mono {i = n - firstHalf n} {j = firstHalf most} (omega arith) in
+    (omega (arith, a, l), omega (arith, b, l))
+
+pub far-room : (n near far size : ℕ) → near ≡ firstHalf n → far ≡ n - near → 2 ^ (n - firstHalf n) ≤ size → 2 ^ far ≤ size
+far-room n near far size e f h = rw (f, e) h
+
+-- also once it was written to
+pub far-kept : (n near far size now : ℕ) → near ≡ firstHalf n → far ≡ n - near → now ≡ size → 2 ^ (n - firstHalf n) ≤ size → 2 ^ far ≤ now
+far-kept n near far size now e f k h = rw (f, e, k) h
+
+pub near-kept : (n near size now : ℕ) → near ≡ firstHalf n → now ≡ size → 2 ^ firstHalf n ≤ size → 2 ^ near ≤ now
+near-kept n near size now e k h = rw (e, k) h
+
+pub ruleset searching = (needs, sets-are, sets-most, many-most, end-below, mid-length, joined-is, far-room, cleared-none, cleared-skip, cleared-more, finds-bad, finds-none)
 
 -- ---- from the tables to the rows
 

@@ -1,7 +1,7 @@
 // The turns of the validity test, by [3] of document 02: a turn is a look-up, and none is begun after
-// one that shows an unflagged dependency. Copies of the test, and of the way that judge and verdict
-// go through the schedules, over tables that note what is looked up; over plain tables the same
-// copies are timed.
+// one that shows an unflagged dependency. Copies of the test, and of the way that the verdict goes
+// through the schedules, over tables that note what is looked up; over plain tables the same copies
+// are timed.
 
 use std::cell::RefCell;
 use std::iter::StepBy;
@@ -43,23 +43,23 @@ fn is_valid(
     if first & s != first {
         return false;
     }
-    let next = high[first_flags(s >> near, HALF) as usize];
+    let next = high[(s >> near) as usize];
     next & s == next
 }
 
-/// `judge_schedules::may_begin`: what judge and verdict ask of each beginning before.
+/// `judge_schedules::may_begin`: what the verdict asks of each beginning before.
 fn may_begin(low: &impl Index<usize, Output = u64>, near: usize, x: u64) -> bool {
     let needed = first_flags(low[x as usize], near);
     needed & x == needed
 }
 
-/// `judge_schedules::may_end`: what they ask of each end before, once for all beginnings.
+/// `judge_schedules::may_end`: what it asks of each end before, once for all beginnings.
 fn may_end(high: &impl Index<usize, Output = u64>, near: usize, y: u64) -> bool {
     let needed = high[y as usize] >> near;
     needed & y == needed
 }
 
-/// `judge_counting::joined`.
+/// `judge_search::joined`.
 fn joined(x: u64, near: usize, y: u64) -> u64 {
     x | (y << near)
 }
@@ -72,7 +72,7 @@ fn both(
     s: u64,
 ) -> bool {
     let first = low[first_flags(s, near) as usize];
-    let next = high[first_flags(s >> near, HALF) as usize];
+    let next = high[(s >> near) as usize];
     let needed = first | next;
     needed & s == needed
 }
@@ -170,7 +170,7 @@ impl<T: Index<usize, Output = u64>> Tables<T> {
     }
 
     /// Asks about each beginning, and where a valid schedule can have it about those with the ends
-    /// that are listed: the way of judge and verdict, in `judge_counting`.
+    /// that are listed: the way of the verdict, in `judge_search`.
     #[inline(always)]
     fn by_halves(&self, mut tell: impl FnMut(About, bool)) {
         let (low, high, near) = (&self.low, &self.high, self.near);
@@ -406,6 +406,8 @@ fn print_forms(input: &str, file: &File) {
 mod tests {
     use super::*;
     use crate::verdicts::random_file;
+    use reference::crashes;
+    use reference::random::Random;
     use reference::schedule::flagged;
 
     /// The files of the table, and random ones.
@@ -433,6 +435,40 @@ mod tests {
                 assert_eq!(sum(&asked, |question| question.late), 0, "{form:?}");
             }
         });
+    }
+
+    /// A schedule with all that its flagged writes depend on flagged too.
+    fn completed(on: &[Vec<usize>], mut schedule: u64) -> u64 {
+        while !valid(on, schedule) {
+            let needs = (0..on.len()).filter(|&i| flagged(schedule, i));
+            schedule = needs
+                .flat_map(|i| &on[i])
+                .fold(schedule, |all, j| all | 1 << j);
+        }
+        schedule
+    }
+
+    /// Of longer tests some schedules, and the valid ones that these grow to.
+    #[test]
+    fn up_to_20_writes_the_answers_are_the_references() {
+        let mut kinds = [0; 2];
+        for seed in 0..400 {
+            let mut random = Random::new(seed);
+            let main = random.between(inputs::MAIN + 1, MOST_MAIN);
+            let file = crashes::file_of(&mut random, main);
+            let on = dependencies(&file.rules, &file.tests[0].main);
+            let tables = Tables::of(&on);
+            for _ in 0..100 {
+                let some = random.number() % tables.total();
+                for s in [some, completed(&on, some)] {
+                    let expected = valid(&on, s);
+                    let answer = is_valid(&tables.low, &tables.high, tables.near, s);
+                    assert_eq!(answer, expected, "seed {seed}, schedule {s}");
+                    kinds[expected as usize] += 1;
+                }
+            }
+        }
+        assert!(kinds.iter().all(|&count| count > 10_000), "{kinds:?}");
     }
 
     /// Where a schedule's first flagged write with an unflagged dependency stands: 0 in the first

@@ -6,17 +6,18 @@ use reference::crashes;
 use reference::damage::{self, LIMITS};
 use reference::file::{File, Test, MOST_CHECKS, MOST_INITIAL, MOST_MAIN, MOST_RULES, MOST_TESTS};
 use reference::generate::{self, Values};
-use reference::judge::{is_bad, judge_test, numbered, readable, schedules, Judgement};
+use reference::judge::{inconsistent_schedules, is_bad, judge_test, numbered, readable, Judgement};
 use reference::log::{self, MOST_MAIN_PUTS};
 use reference::random::Random;
 use reference::refusal::Refusal;
 use reference::samples;
+use reference::schedule::{dependencies, valid};
 use reference::writes::{Block, Rule, Write, PREDICATES};
 
 use crate::answer;
 use crate::around::{file_with, AROUND};
 use crate::calls;
-use crate::harness::{fail, require, same_answer, Outcome, Run, Suite};
+use crate::harness::{fail, hexadecimal, require, same_answer, Outcome, Run, Suite};
 use crate::lent::Lent;
 
 pub fn suites() -> Vec<Suite> {
@@ -24,6 +25,7 @@ pub fn suites() -> Vec<Suite> {
     vec![
         suite("judge: the bench sheet", bench_sheet),
         suite("judge: writes that meet, rules that match", telling_files),
+        suite("judge: small tests in which all things meet", tangled_files),
         suite("judge: logs", logs),
         suite("judge: head around tail", heads_around_tails),
         suite("judge: one bad schedule", chains),
@@ -38,13 +40,24 @@ pub fn suites() -> Vec<Suite> {
         suite("judge: 13 to 19 main writes", up_to_19_main_writes),
         suite("judge: 20 main writes", most_main_writes),
         suite(
+            "judge: 13 to 20 main writes that all meet",
+            tangled_up_to_20_main_writes,
+        ),
+        suite(
             "judge: 13 to 20 main writes, schedule by schedule",
             schedule_by_schedule,
+        ),
+        suite(
+            "judge: 13 to 20 main writes, against Rust by open checks",
+            against_open_checks,
         ),
         suite("judge: logs of 9 and 10 puts", long_logs),
         suite("judge: traces as long as the paper's", as_in_the_paper),
         suite("judge: 12, 13, 19, 20 and 21 main writes", around_20),
-        suite("judge: the schedules shown", schedules_shown),
+        suite(
+            "judge: the schedule shown, and the verdict's",
+            schedules_shown,
+        ),
         suite("judge: 32 rules", most_rules),
         suite("judge: full files", full_files),
         suite("judge: files at the limits", files_at_limits),
@@ -136,6 +149,15 @@ fn same_on(lent: &Lent, file: &Result<File, Refusal>, number: u64) -> Outcome {
             )?;
         }
     }
+    lent.unchanged("file")
+}
+
+/// Both routines on a file of one test whose judgement is known.
+fn same_as_known(random: &mut Random, file: &File, known: &Judgement) -> Outcome {
+    let lent = Lent::new(random, &file.to_bytes());
+    let test = (&file.rules[..], &file.tests[0]);
+    same_judgement(lent.content(), test, 1, known, calls::judge(&lent, 1))?;
+    same_verdict(lent.content(), test, 1, known, calls::verdict(&lent, 1))?;
     lent.unchanged("file")
 }
 
@@ -232,12 +254,15 @@ struct Kinds {
 impl Kinds {
     fn count(&mut self, file: &File) {
         for test in &file.tests {
-            let judgement = expected(&file.rules, test);
-            self.all += 1;
-            self.holds += u64::from(judgement.bad == 0);
-            self.some_bad += u64::from(0 < judgement.bad && judgement.bad < judgement.valid);
-            self.some_invalid += u64::from(judgement.valid < 1 << test.main.len());
+            self.add(test, &expected(&file.rules, test));
         }
+    }
+
+    fn add(&mut self, test: &Test, judgement: &Judgement) {
+        self.all += 1;
+        self.holds += u64::from(judgement.bad == 0);
+        self.some_bad += u64::from(0 < judgement.bad && judgement.bad < judgement.valid);
+        self.some_invalid += u64::from(judgement.valid < 1 << test.main.len());
     }
 
     /// Fails unless a tenth of the tests are of each kind.
@@ -266,6 +291,18 @@ fn spread_files(run: &mut Run, cases: u64, make: fn(&mut Random) -> File) -> Out
 
 fn telling_files(run: &mut Run) -> Outcome {
     spread_files(run, 12_000, crashes::file)
+}
+
+fn tangled_files(run: &mut Run) -> Outcome {
+    let mut kinds = Kinds::default();
+    for _ in 0..run.times(40_000) {
+        let mut random = run.next_case();
+        let file = crashes::tangled_file(&mut random);
+        let known = judge_test(&file.rules, &file.tests[0]);
+        kinds.add(&file.tests[0], &known);
+        same_as_known(&mut random, &file, &known)?;
+    }
+    kinds.spread(run)
 }
 
 fn logs(run: &mut Run) -> Outcome {
@@ -492,6 +529,19 @@ fn most_main_writes(run: &mut Run) -> Outcome {
     of_every_kind(run, 1_200, &[MOST_MAIN])
 }
 
+fn tangled_up_to_20_main_writes(run: &mut Run) -> Outcome {
+    let mut kinds = Kinds::default();
+    for _ in 0..run.times(600) {
+        let mut random = run.next_case();
+        let main = random.between(FEW + 1, MOST_MAIN);
+        let file = crashes::tangled_file_of(&mut random, main);
+        let known = counts::judge_test(&file.rules, &file.tests[0]);
+        kinds.add(&file.tests[0], &known);
+        same_as_known(&mut random, &file, &known)?;
+    }
+    kinds.spread(run)
+}
+
 /// A few tests by going through all their schedules, up to 1,048,576; the diagrams, by which there are
 /// many more, say the same.
 fn schedule_by_schedule(run: &mut Run) -> Outcome {
@@ -504,14 +554,30 @@ fn schedule_by_schedule(run: &mut Run) -> Outcome {
             let by_diagrams = counts::judge_test(rules, test);
             let same = known == by_diagrams;
             require(same, &format!("{known:?}"), format!("{by_diagrams:?}"))?;
-            let lent = Lent::new(&mut random, &file.to_bytes());
-            let (judged, verdict) = (calls::judge(&lent, 1), calls::verdict(&lent, 1));
-            same_judgement(lent.content(), (rules, test), 1, &known, judged)?;
-            same_verdict(lent.content(), (rules, test), 1, &known, verdict)?;
-            lent.unchanged("file")?;
+            same_as_known(&mut random, &file, &known)?;
         }
     }
     Ok(())
+}
+
+/// The counts of many more, and that the schedule shown is bad.
+fn against_open_checks(run: &mut Run) -> Outcome {
+    let mut kinds = Kinds::default();
+    for i in 0..run.times(6_000) {
+        let mut random = run.next_case();
+        let main = random.between(FEW + 1, MOST_MAIN);
+        let file = match i % 2 {
+            0 => crashes::tangled_file_of(&mut random, main),
+            _ => crashes::file_of(&mut random, main),
+        };
+        let lent = Lent::new(&mut random, &file.to_bytes());
+        let known = judgement_of(fast::judge::judge_settled(lent.content(), 1));
+        let test = (&file.rules[..], &file.tests[0]);
+        kinds.add(test.1, &known);
+        same_judgement(lent.content(), test, 1, &known, calls::judge(&lent, 1))?;
+        lent.unchanged("file")?;
+    }
+    kinds.spread(run)
 }
 
 /// Under its rules a log's schedules are: up to some superblock all, and behind it any log blocks.
@@ -569,32 +635,38 @@ fn around_20(run: &mut Run) -> Outcome {
     Ok(())
 }
 
-/// The bad schedule shown, which document 01 leaves free: judge and verdict go through the schedules
-/// by the flags of the first half of the writes and, among equals, by the others; the verdict shows
-/// the first bad one, the judge the last.
+/// The bad schedule shown, which document 01 leaves free. The verdict goes through the schedules by the
+/// flags of the first half of the writes and, among equals, by the others, and shows the first bad
+/// one. The judge, which does not go through them, shows any; 0 where there is none.
 fn schedules_shown(run: &mut Run) -> Outcome {
     let mut late = 0;
-    for _ in 0..run.times(800) {
-        let mut random = run.next_case();
-        let values = Values::small(&mut random);
-        let most = random.pick(&[0, 2, 12]);
-        let file = File {
-            rules: crashes::acyclic_rules(&mut random, &values, most),
-            tests: vec![crashes::test(&mut random, &values, FEW)],
-        };
-        let test = &file.tests[0];
-        let bad: Vec<u64> = schedules(test)
-            .filter(|&s| is_bad(&file.rules, test, s))
-            .collect();
-        let beginnings = 1u64 << ((test.main.len() + 1) / 2);
-        let order = |s: &u64| (s % beginnings, s / beginnings);
-        let first = bad.iter().min_by_key(|&s| order(s)).map_or(0, |s| 1 + s);
-        let last = bad.into_iter().max_by_key(order).unwrap_or(0);
-        late += u64::from(first > beginnings);
-        let lent = Lent::new(&mut random, &file.to_bytes());
-        same_answer("verdict", lent.content(), first, calls::verdict(&lent, 1))?;
-        let shown = judgement_of(calls::judge(&lent, 1)).shown;
-        same_answer("shown", lent.content(), last, shown)?;
+    const NUMBERS: [(usize, u64); 6] = [(3, 50), (7, 100), (12, 800), (13, 40), (19, 3), (20, 5)];
+    for (main, cases) in NUMBERS {
+        for _ in 0..run.times(cases) {
+            let mut random = run.next_case();
+            let values = Values::small(&mut random);
+            let most = random.pick(&[0, 2, 12]);
+            let file = File {
+                rules: crashes::acyclic_rules(&mut random, &values, most),
+                tests: vec![crashes::test(&mut random, &values, main)],
+            };
+            let test = &file.tests[0];
+            let on = dependencies(&file.rules, &test.main);
+            let mut bad = inconsistent_schedules(test);
+            bad.retain(|&s| valid(&on, s));
+            let beginnings = 1u64 << ((main + 1) / 2);
+            let order = |s: &&u64| (*s % beginnings, *s / beginnings);
+            let first = bad.iter().min_by_key(order).map_or(0, |s| 1 + s);
+            late += u64::from(first > beginnings);
+            let lent = Lent::new(&mut random, &file.to_bytes());
+            same_answer("verdict", lent.content(), first, calls::verdict(&lent, 1))?;
+            let shown = judgement_of(calls::judge(&lent, 1)).shown;
+            require(
+                bad.contains(&shown) || bad.is_empty() && shown == 0,
+                "one of the bad schedules, or 0",
+                format!("{shown} of {}", hexadecimal(lent.content())),
+            )?;
+        }
     }
     let note = format!("{late} verdicts by a schedule that flags a write of the second half");
     run.note(note.clone());

@@ -17,12 +17,13 @@ use crate::harness::{require, same_answer_on, Outcome, Run, Suite};
 use crate::lent::Lent;
 
 /// The least buffer that is accepted.
-const LEAST: usize = 400;
+pub const LEAST: usize = 400;
 
 pub fn suites() -> Vec<Suite> {
     let suite = |name, run| Suite { name, run };
     vec![
         suite("lines: writes that meet, rules that match", telling_files),
+        suite("lines: small tests in which all things meet", tangled_files),
         suite("lines: random files", random_files),
         suite("lines: 16 tests of 12 main writes", most_tests),
         suite("lines: 16 tests of 20 main writes", most_writes),
@@ -72,6 +73,16 @@ fn each(run: &mut Run, cases: u64, make: fn(&mut Random) -> Vec<u8>) -> Outcome 
 
 fn telling_files(run: &mut Run) -> Outcome {
     each(run, 1_500, |random| crashes::file(random).to_bytes())
+}
+
+fn tangled_files(run: &mut Run) -> Outcome {
+    each(run, 3_000, |random| {
+        let mut file = crashes::tangled_file(random);
+        for _ in 0..random.below(3) {
+            file.tests.extend(crashes::tangled_file(random).tests);
+        }
+        file.to_bytes()
+    })
 }
 
 fn random_files(run: &mut Run) -> Outcome {

@@ -17,6 +17,8 @@ mod precedence;
 mod program;
 mod reading;
 mod receiver;
+mod stack;
+mod stacks;
 mod tracing;
 
 use std::env;
@@ -42,6 +44,8 @@ fn parts() -> Vec<Part> {
         part("find", FIND.is_some(), finding::suites()),
         part("trace", TRACE.is_some(), tracing::suites()),
     ];
+    let stacks = judge && JUDGE_LINES.is_some() && FIND.is_some();
+    parts.push(part("stack", stacks, stacks::suites()));
     parts.extend(receiver::parts());
     let all = parts.iter().all(|part| part.is_there);
     parts.push(part("precedence of refusals", all, precedence::suites()));

@@ -9,7 +9,7 @@ use crate::log;
 use crate::random::Random;
 use crate::samples::log_rules;
 use crate::schedule::dependencies;
-use crate::writes::{Block, Predicate, Rule, Write, PREDICATES};
+use crate::writes::{Block, Predicate, Rule, Write, EMPTY, PREDICATES};
 
 /// Up to `most` rules that are not cyclic.
 pub fn acyclic_rules(random: &mut Random, values: &Values, most: usize) -> Vec<Rule> {
@@ -227,6 +227,50 @@ pub fn range_file_of(random: &mut Random, main: usize) -> File {
             main,
             checks: vec![Check::Range { at }],
         }],
+    }
+}
+
+/// Rules that are not cyclic and a small test in which all things meet: up to eight main writes, of
+/// few names and epochs, to few blocks.
+pub fn tangled_file(random: &mut Random) -> File {
+    let main = random.between(0, 8);
+    tangled_file_of(random, main)
+}
+
+/// Likewise, with this many main writes: what these leave are heads, tails and targets among the
+/// blocks that they write to, themselves too, or nothing, or what another one leaves; and each check
+/// is about these blocks.
+pub fn tangled_file_of(random: &mut Random, main: usize) -> File {
+    let from = random.pick(&[0u16, 0, 1, 7, 250]);
+    let many = random.between(1, 6) as u16;
+    let mut halves: Vec<u16> = (from..=from + many).collect();
+    if random.one_in(4) {
+        halves.push(random.pick(&[0, 1, 256, 257, 65_535]));
+    }
+    let values = Values {
+        names: (1..=random.between(1, 4) as u8).collect(),
+        addresses: (from..from + many).map(|address| address as u8).collect(),
+        epochs: (0..random.between(1, 4) as u32).collect(),
+        halves,
+    };
+    let initial = random.below(5);
+    let mut test = generate::test_of(random, &values, initial, main, 0);
+    for i in 0..main {
+        test.main[i].block = match random.below(6) {
+            0 => EMPTY,
+            1 => random.pick(&test.main).block,
+            _ => test.main[i].block,
+        };
+    }
+    let drawn = match random.below(4) {
+        0 => random.between(2, 12),
+        _ => random.between(1, 3),
+    };
+    add_checks(random, &values, &mut test, drawn);
+    let most = random.pick(&[0, 2, 6, 12]);
+    File {
+        rules: acyclic_rules(random, &values, most),
+        tests: vec![test],
     }
 }
 

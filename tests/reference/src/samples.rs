@@ -32,6 +32,26 @@ fn rig() -> Test {
     log::test_of(&[block(0, 835), block(1, 828)], &puts)
 }
 
+/// One ignition of a lorry with six trailers, after the same two readings: four wheels of the lorry,
+/// and of each trailer the wheel with the lowest pressure. Its 20 writes are the most of a test.
+fn rig6() -> Test {
+    let lorry = [(0, 830), (1, 825), (2, 910), (3, 905)];
+    let trailers = [
+        (10, 899),
+        (20, 884),
+        (30, 640),
+        (40, 902),
+        (50, 871),
+        (60, 893),
+    ];
+    let puts: Vec<Block> = lorry
+        .iter()
+        .chain(&trailers)
+        .map(|&(wheel, kpa)| block(wheel, kpa))
+        .collect();
+    log::test_of(&[block(0, 835), block(1, 828)], &puts)
+}
+
 const SETTING: u8 = 10;
 const MARK: u8 = 11;
 
@@ -126,6 +146,8 @@ pub fn samples() -> Vec<Sample> {
         sample("k3.bin", file(&both[..1], &[test_k()])),
         sample("rig.bin", file(&both, &[rig()])),
         sample("rig-no-rules.bin", file(&[], &[rig()])),
+        sample("rig6.bin", file(&both, &[rig6()])),
+        sample("rig6-no-rules.bin", file(&[], &[rig6()])),
         sample("pair.bin", file(&[setting_rule], &[setting()])),
         sample("pair-no-rules.bin", file(&[], &[setting()])),
         sample("pointer.bin", file(&[directory_rule], &[directory()])),

@@ -9,23 +9,20 @@ first-flags-requires c κs = search halves
 mul-first : tie.Need-mul-first
 mul-first c = search halves
 
-element-copy-out-first : tie.Need-element-copy-out-first
-element-copy-out-first c = search halves
+shared-slice-read-first : tie.Need-shared-slice-read-first
+shared-slice-read-first c = search halves
 
 returns : tie.Need-returns
 returns c = search halves
 
-shr-first-flags : tie.Need-shr-first-flags
-shr-first-flags c = search halves
-
-first-flags-requires-2 : tie.Need-first-flags-requires-2
-first-flags-requires-2 c κs = search halves
+shr-next : tie.Need-shr-next
+shr-next c = search halves
 
 mul-next : tie.Need-mul-next
 mul-next c = search halves
 
-element-copy-out-next : tie.Need-element-copy-out-next
-element-copy-out-next c = search halves
+shared-slice-read-next : tie.Need-shared-slice-read-next
+shared-slice-read-next c = search halves
 
 returns-2 : tie.Need-returns-2
 returns-2 c = search halves
@@ -36,10 +33,9 @@ is-valid-spec =
     (tie.spec
     first-flags-requires
     mul-first
-    element-copy-out-first
+    shared-slice-read-first
     returns
-    shr-first-flags
-    first-flags-requires-2
+    shr-next
     mul-next
-    element-copy-out-next
+    shared-slice-read-next
     returns-2)

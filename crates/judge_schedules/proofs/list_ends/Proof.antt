@@ -9,7 +9,7 @@ use Rattle.judge_schedules.proofs.list_ends.Tie as tie
 
 abbrev Inv-ends : tie.InvT-ends
 Inv-ends ends₀ high near far columns many₀ y₀ ends many y =
-    (y ≤ columns) × (columns ≡ 2 ^ far) × (columns ≤ halfSets) × (length ends ≡ halfSets) × Lists (mayEnd high near) y ends many
+    (y ≤ columns) × (columns ≡ 2 ^ far) × (columns ≤ halfSets) × (columns ≤ length high) × (columns ≤ length ends₀) × (length ends ≡ length ends₀) × Lists (mayEnd high near) y ends many
 
 abbrev μ-ends : tie.MeasureT-ends
 μ-ends ends₀ high near far columns many₀ y₀ ends many y = columns - y

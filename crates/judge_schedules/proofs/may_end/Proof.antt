@@ -6,8 +6,8 @@ use Rattle.judge_schedules.proofs.may_end.Tie as tie
 mul-needed : tie.Need-mul-needed
 mul-needed c = search listing
 
-element-copy-out-needed : tie.Need-element-copy-out-needed
-element-copy-out-needed c = search listing
+shared-slice-read-needed : tie.Need-shared-slice-read-needed
+shared-slice-read-needed c = search listing
 
 shr-needed : tie.Need-shr-needed
 shr-needed c = search listing
@@ -16,4 +16,4 @@ returns : tie.Need-returns
 returns c = search listing
 
 pub may-end-spec : {M : Type 1} → statement M
-may-end-spec = tie.close (tie.spec mul-needed element-copy-out-needed shr-needed returns)
+may-end-spec = tie.close (tie.spec mul-needed shared-slice-read-needed shr-needed returns)

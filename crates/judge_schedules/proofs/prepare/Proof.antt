@@ -1,7 +1,5 @@
 -- `judge_schedules::prepare` meets its contract: the unions of the rows decide validity.
-use native.Mathlib.Omega.{arith}
 use Rattle.judge_schedules.proofs.HalfLaws.{halves}
-use Rattle.judge_schedules.proofs.SetLaws.{sets-fit}
 use Rattle.judge_schedules.proofs.prepare.Statement.{statement}
 use Rattle.judge_schedules.proofs.prepare.Tie as tie
 
@@ -9,13 +7,13 @@ first-half-requires : tie.Need-first-half-requires
 first-half-requires c κs = search halves
 
 unite-requires : tie.Need-unite-requires
-unite-requires c κs = (sets-fit _ _ (omega arith) (omega arith), (search halves, search halves))
+unite-requires c κs = (search halves, (search halves, search halves))
 
 sub-unite : tie.Need-sub-unite
 sub-unite c = search halves
 
 unite-requires-2 : tie.Need-unite-requires-2
-unite-requires-2 c κs = (sets-fit _ _ (omega arith) (omega arith), (search halves, search halves))
+unite-requires-2 c κs = (search halves, (search halves, search halves))
 
 same-length : tie.Need-same-length
 same-length c = search halves

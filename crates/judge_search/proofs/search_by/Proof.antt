@@ -13,7 +13,7 @@ use Rattle.judge_checks.proofs.CheckSteps.{checks-start, checks-more, checks-st
 use Rattle.judge_disks.proofs.RestoreLaws.{restored-run, ran, mid-length}
 use Rattle.judge_schedules.specs.Halves.{halfSets, validBy}
 use Rattle.judge_search.specs.declared.Verdict.the-variants.{Holds}
-use Rattle.judge_search.proofs.CountLaws.{badAt}
+use Rattle.judge_search.proofs.CountLaws.{badAt, end-below, end-inside, joined-end}
 use Rattle.judge_search.proofs.SearchLaws.{searching, clearing, Clear, clear-skip, clear-pass, stops-here, stops-none, Cleared, cleared-skip, cleared-more, finds-bad}
 use Rattle.judge_search.proofs.search_by.Statement.{statement}
 use Rattle.judge_search.proofs.search_by.Tie as tie
@@ -70,14 +70,23 @@ ends-holds c = search clearing
 mul-y : tie.Need-mul-y Inv-loop μ-loop Inv-ends μ-ends Inv-search μ-search
 mul-y c = search clearing
 
-element-copy-out-y : tie.Need-element-copy-out-y Inv-loop μ-loop Inv-ends μ-ends Inv-search μ-search
-element-copy-out-y c = search clearing
+shared-slice-read-y : tie.Need-shared-slice-read-y Inv-loop μ-loop Inv-ends μ-ends Inv-search μ-search
+shared-slice-read-y c = search clearing
 
 joined-requires : tie.Need-joined-requires Inv-loop μ-loop Inv-ends μ-ends Inv-search μ-search
 joined-requires c κs = search clearing
 
 is-valid-requires : tie.Need-is-valid-requires Inv-loop μ-loop Inv-ends μ-ends Inv-search μ-search
-is-valid-requires c κs = search clearing
+is-valid-requires c κs =
+    let o = c .before .before .before .ends in
+    let w = c .before .before .before .before .before .before .before .before .before .search in
+    let p = c .before .before .before .before .before .before .before .before .before .before .before .before .before .before .pre in (
+      (p .0 .0 .0, p .0 .1 .0),
+      (
+        joined-end _ (w .x) _ _ _ (c .joined .ensures) (omega (arith, w .inv .0, w .inv .1, c .before .before .before .before .before .before .before .before .search-test .taken)) (end-inside _ _ _ _ (p .1 .1 .1) (p .0 .0 .1 .0) (o .k) _ (omega arith) (p .0 .1 .1)),
+        joined-end _ (w .x) _ _ _ (c .joined .ensures) (omega (arith, w .inv .0, w .inv .1, c .before .before .before .before .before .before .before .before .search-test .taken)) (end-below _ _ _ _ (p .1 .1 .1) (p .0 .0 .1 .0) (o .k) (omega arith)),
+      ),
+    )
 
 add-k : tie.Need-add-k Inv-loop μ-loop Inv-ends μ-ends Inv-search μ-search
 add-k c = search clearing
@@ -115,11 +124,11 @@ loop-less c = search clearing
 loop-again : tie.Need-loop-again Inv-loop μ-loop Inv-ends μ-ends Inv-search μ-search
 loop-again c =
     let l = c .before .before .before .before .before .loop in
-    let a = c .before .before .before .before .before .before .before .before .before .before .before .before .before .before .before .before .before .before .before .before .before .args in
-    (omega arith, l .inv .1, l .inv .2, checks-more (c .before .before .before .before .before .before .apply2 .last .0) (a .t9) (Range 0) (a .m) (l .i) (c .before .check-holds .result) (omega arith) (omega (arith, c .before .before .before .before .before .before .before .before .before .before .before .before .before .before .before .before .before .before .before .before .before .pre .1 .0)) (c .before .before .before .before .before .before .before .before .before .before .before .before .before .before .before .before .before .before .before .search .inv .4) (l .inv .3) (c .before .check-holds .ensures) (c .if3 .left))
+    let a = c .before .before .before .before .before .before .before .before .before .before .before .before .before .before .before .before .before .before .before .before .before .before .before .before .args in
+    (omega arith, l .inv .1, l .inv .2, checks-more (c .before .before .before .before .before .before .apply2 .last .0) (a .t9) (Range 0) (a .m) (l .i) (c .before .check-holds .result) (omega arith) (omega (arith, c .before .before .before .before .before .before .before .before .before .before .before .before .before .before .before .before .before .before .before .before .before .before .before .before .pre .1 .0)) (c .before .before .before .before .before .before .before .before .before .before .before .before .before .before .before .before .before .before .before .search .inv .4) (l .inv .3) (c .before .check-holds .ensures) (c .if3 .left))
 
 restore-requires : tie.Need-restore-requires Inv-loop μ-loop Inv-ends μ-ends Inv-search μ-search
-restore-requires c κs = search clearing
+restore-requires c κs = omega (arith, c .before .before .before .before .before .before .before .before .before .before .before .before .before .before .before .before .before .before .before .before .before .before .pre .0 .0 .1 .1)
 
 add-k-2 : tie.Need-add-k-2 Inv-loop μ-loop Inv-ends μ-ends Inv-search μ-search
 add-k-2 c = search clearing
@@ -131,11 +140,11 @@ ends-again-2 : tie.Need-ends-again-2 Inv-loop μ-loop Inv-ends μ-ends Inv-searc
 ends-again-2 c =
     let l = c .before .before .before .before .loop in
     let o = c .before .before .before .before .before .before .before .before .before .before .before .before .ends in
-    let a = c .before .before .before .before .before .before .before .before .before .before .before .before .before .before .before .before .before .before .before .before .args in
+    let a = c .before .before .before .before .before .before .before .before .before .before .before .before .before .before .before .before .before .before .before .before .before .before .before .args in
     let mid = c .before .before .before .before .before .before .before .before .before .before .before .before .before .apply .last .0 in
     let disk = c .before .before .before .before .before .apply2 .last .0 in (
       omega arith,
-      c .restore .ensures ∙ restored-run (a .stores .now) mid (a .near) (a .far) _ disk (mid-length _ _ _ _ (c .before .before .before .before .before .before .before .before .before .before .before .before .before .before .before .before .before .before .before .before .pre .1 .1 .0) (ran _ _ _ _ mid (c .before .before .before .before .before .before .before .before .before .before .before .before .before .before .before .before .before .before .search .inv .5) (c .before .before .before .before .before .before .before .before .before .before .before .before .before .apply .ensures))) (l .inv .1),
+      c .restore .ensures ∙ restored-run (a .stores .now) mid (a .near) (a .far) _ disk (mid-length _ _ _ _ (c .before .before .before .before .before .before .before .before .before .before .before .before .before .before .before .before .before .before .before .before .before .before .before .pre .1 .1 .0) (ran _ _ _ _ mid (c .before .before .before .before .before .before .before .before .before .before .before .before .before .before .before .before .before .before .search .inv .5) (c .before .before .before .before .before .before .before .before .before .before .before .before .before .apply .ensures))) (l .inv .1),
       l .inv .2,
       clear-pass _ _ _ _ _ (a .t9) _ (o .k) (a .m) (l .i) disk (o .inv .3) (l .inv .1) (omega arith) (omega arith) (l .inv .3),
     )
@@ -154,8 +163,8 @@ search-again-2 c =
     let l = c .before .before .before .before .before .before .before .before .before .search in
     let i = l .inv in
     let o = c .before .before .before .ends in
-    let p = c .before .before .before .before .before .before .before .before .before .before .before .pre in
-    let a = c .before .before .before .before .before .before .before .before .before .before .before .args in
+    let p = c .before .before .before .before .before .before .before .before .before .before .before .before .before .before .pre in
+    let a = c .before .before .before .before .before .before .before .before .before .before .before .before .before .before .args in
     let mid = c .before .before .before .before .apply .last .0 in
     let e = ran _ _ _ _ mid (i .5) (c .before .before .before .before .apply .ensures) in (
       omega arith,
@@ -165,7 +174,7 @@ search-again-2 c =
       i .4,
       c .restore2 .ensures ∙ restored-run (a .stores .now) (a .base .now) 0 (a .near) (l .x) mid (p .1 .1 .0) e,
       o .inv .2,
-      cleared-more _ _ _ _ _ _ _ (l .x) _ (i .1) (omega arith) (o .k) _ mid _ e (p .0 .1 .0) (p .1 .1 .1) (stops-none _ (a .many) (o .k) (o .inv .3) (o .inv .0) (omega arith)) (i .7) (omega arith),
+      cleared-more _ _ _ _ _ _ _ (l .x) _ (i .1) (omega arith) (o .k) _ mid _ e (p .0 .0 .1 .0) (p .1 .1 .1) (stops-none _ (a .many) (o .k) (o .inv .3) (o .inv .0) (omega arith)) (i .7) (omega arith),
     )
 
 returns : tie.Need-returns Inv-loop μ-loop Inv-ends μ-ends Inv-search μ-search
@@ -176,13 +185,13 @@ returns-2 c =
     let l = c .before .before .before .before .before .loop in
     let o = c .before .before .before .before .before .before .before .before .before .before .before .before .before .ends in
     let w = c .before .before .before .before .before .before .before .before .before .before .before .before .before .before .before .before .before .before .before .search in
-    let a = c .before .before .before .before .before .before .before .before .before .before .before .before .before .before .before .before .before .before .before .before .before .args in
-    let p = c .before .before .before .before .before .before .before .before .before .before .before .before .before .before .before .before .before .before .before .before .before .pre in
+    let a = c .before .before .before .before .before .before .before .before .before .before .before .before .before .before .before .before .before .before .before .before .before .before .before .before .args in
+    let p = c .before .before .before .before .before .before .before .before .before .before .before .before .before .before .before .before .before .before .before .before .before .before .before .before .pre in
     let s = c .before .before .before .before .before .before .before .before .before .before .joined in
     let v = c .before .before .before .before .before .before .before .before .before .is-valid in
     let mid = c .before .before .before .before .before .before .before .before .before .before .before .before .before .before .apply .last .0 in
     let disk = c .before .before .before .before .before .before .apply2 .last .0 in
-    finds-bad _ _ _ _ _ _ _ (w .x) _ (w .inv .1) (omega (arith, w .inv .0, c .before .before .before .before .before .before .before .before .before .before .before .before .before .before .before .before .before .before .search-test .taken)) (o .k) _ mid _ (ran _ _ _ _ mid (w .inv .5) (c .before .before .before .before .before .before .before .before .before .before .before .before .before .before .apply .ensures)) (p .0 .1 .0) (p .1 .1 .1)
+    finds-bad _ _ _ _ _ _ _ (w .x) _ (w .inv .1) (omega (arith, w .inv .0, c .before .before .before .before .before .before .before .before .before .before .before .before .before .before .before .before .before .before .search-test .taken)) (o .k) _ mid _ (ran _ _ _ _ mid (w .inv .5) (c .before .before .before .before .before .before .before .before .before .before .before .before .before .before .apply .ensures)) (p .0 .0 .1 .0) (p .1 .1 .1)
     (stops-here _ _ _ _ _ _ _ (o .k) (s .result) (v .result) (s .ensures) (v .ensures) (a .many) disk (o .inv .3) (omega arith) (c .before .before .before .before .before .before .before .before .if2 .left) (l .inv .1)
     (checks-stop disk (a .t9) (Range 0) (a .m) (l .i) (c .before .check-holds .result) (omega arith) (p .1 .0) (w .inv .4) (c .before .check-holds .ensures) (c .if3 .taken)))
     (s .result)
@@ -208,7 +217,7 @@ search-by-spec =
     apply-requires
     ends-holds
     mul-y
-    element-copy-out-y
+    shared-slice-read-y
     joined-requires
     is-valid-requires
     add-k

@@ -8,11 +8,11 @@ use reference::random::Random;
 use reference::states::{self, Source};
 use reference::writes::Write;
 
-use super::stack::Stack;
 use crate::answer;
-use crate::harness::{require, same_answer_on, Outcome, Run, Suite};
+use crate::harness::{require, Outcome, Run, Suite};
 use crate::lent::Lent;
 use crate::paths;
+use crate::stack::Deepest;
 
 /// Bytes of stack that a call may use.
 const MOST_STACK: usize = 4096;
@@ -51,51 +51,12 @@ fn needed_symbols(run: &mut Run) -> Outcome {
     )
 }
 
-/// The most stack that calls of a routine have used.
-struct Deepest {
-    stack: Stack,
-    bytes: usize,
-}
-
-impl Deepest {
-    fn new() -> Deepest {
-        Deepest {
-            stack: Stack::new(),
-            bytes: 0,
-        }
-    }
-
-    /// Makes a call on the painted stack; its answer must be the reference's.
-    fn call(
-        &mut self,
-        name: &str,
-        routine: Option<*const ()>,
-        arguments: [u64; 7],
-        expected: u64,
-    ) -> Outcome {
-        let routine = routine.expect("a routine that is linked");
-        let (got, used) = unsafe { self.stack.call(routine, arguments) };
-        self.bytes = self.bytes.max(used);
-        same_answer_on(name, &[], expected, got)
-    }
-
-    fn within_limit(&self, run: &mut Run) -> Outcome {
-        let note = format!("{} bytes at most", self.bytes);
-        run.note(note.clone());
-        require(
-            self.bytes <= MOST_STACK,
-            &format!("{MOST_STACK} bytes at most"),
-            note,
-        )
-    }
-}
-
 fn slice(lent: &mut Lent) -> (u64, u64) {
     (lent.buffer() as u64, lent.len() as u64)
 }
 
 fn stack_of_open(run: &mut Run) -> Outcome {
-    let mut deepest = Deepest::new();
+    let mut deepest = Deepest::new(MOST_STACK);
     for i in 0..run.times(300) {
         let mut random = run.next_case();
         let file = match i % 4 {
@@ -126,7 +87,7 @@ fn any_state(random: &mut Random) -> Vec<u8> {
 }
 
 fn stack_of_hand_in(run: &mut Run) -> Outcome {
-    let mut deepest = Deepest::new();
+    let mut deepest = Deepest::new(MOST_STACK);
     for _ in 0..run.times(400) {
         let mut random = run.next_case();
         let state = any_state(&mut random);
@@ -156,7 +117,7 @@ fn stack_of_storing(
     routine: Option<*const ()>,
     expected: fn(&mut [u8], &mut [u8]) -> Result<usize, reference::refusal::Refusal>,
 ) -> Outcome {
-    let mut deepest = Deepest::new();
+    let mut deepest = Deepest::new(MOST_STACK);
     for _ in 0..run.times(300) {
         let mut random = run.next_case();
         let state = any_state(&mut random);
@@ -182,7 +143,7 @@ fn stack_of_drain(run: &mut Run) -> Outcome {
 }
 
 fn stack_of_get(run: &mut Run) -> Outcome {
-    let mut deepest = Deepest::new();
+    let mut deepest = Deepest::new(MOST_STACK);
     for i in 0..run.times(300) {
         let mut random = run.next_case();
         let mut disk = random.bytes(DISK);

@@ -7,7 +7,6 @@ mod hand_in;
 mod opening;
 mod runs;
 mod soundness;
-mod stack;
 mod storing;
 
 use library::{DRAIN, GET, HAND_IN, OPEN, STEP};

@@ -2,6 +2,7 @@
 
 mod bench_sheet;
 mod counts;
+mod crashes;
 mod cyclic;
 mod finding;
 mod log;
