@@ -2,7 +2,7 @@
 -- that it depends on, and the counts of both add up. All of it bit by bit.
 use mathlib.Core.Path.{_≡_, refl, sym, ap, ap₂, _∙_}
 use mathlib.Core.Logic.{_⊎_, inl, inr, ⊎-elim}
-use mathlib.Core.Bool.{Bool, true, false, not, _&&_, _||_, false≢true}
+use mathlib.Core.Bool.{Bool, true, false, not, _&&_, _||_, and-false}
 use mathlib.Core.List.{List}
 use Prim.Native.Nat.{ℕ, _+_, _-_, _*_, _^_, _≤_, _<_}
 use native.Mathlib.Omega.{arith}
@@ -11,11 +11,11 @@ use lib.ListN.{getD}
 use lib.Pow.{pow-mono, pow-pos}
 use lib.Dec.{eqb, ltb}
 use borrow.Author.Needs.{needs}
-use borrow.Author.Tests.{eqb-true, eq-eqb, ltb-true, ltb-false}
+use borrow.Author.Tests.{eqb-true, eq-eqb, ltb-true, ltb-false, not-true}
 use Rattle.relation.specs.Bits.{bit, withBit, without, Highest}
 use Rattle.relation.specs.Union.{partOf}
 use Rattle.relation.proofs.BitLaws.{bit-and, bit-or, bit-pow, bit-with, bit-zero}
-use Rattle.relation.proofs.ListLaws.{untrue, or-cases, or-left, or-right, and-left, and-right, and-intro, bool-equal, allBelow-true, allBelow-intro}
+use Rattle.relation.proofs.ListLaws.{untrue, or-cases, or-left, or-right, and-left, and-right, and-intro, bool-equal, allBelow-true, allBelow-intro, clash}
 use Rattle.relation.proofs.MaskLaws.{implies, implied}
 use Rattle.relation.proofs.UnionLaws.{bits-same, bit-ones, part-true, part-intro}
 use Rattle.relation.proofs.SetLaws.{bit-without, without-less}
@@ -28,17 +28,6 @@ use Rattle.judge_closed.specs.Closed.{Order, between, validBetween, Choi
 use Rattle.judge_closed.proofs.CountLaws.{count-split, count-one, count-turned}
 
 -- ---- Booleans
-
-clash : {A : Type 0} (b : Bool) → b ≡ true → b ≡ false → A
-clash b e q = absurd (false≢true (sym q ∙ e))
-
-not-true : (b : Bool) → not b ≡ true → b ≡ false
-not-true true e = absurd (false≢true e)
-not-true false e = refl
-
-and-false : (b : Bool) → b && false ≡ false
-and-false true = refl
-and-false false = refl
 
 false-not : (b : Bool) → b ≡ false → not b ≡ true
 false-not b e = rw e

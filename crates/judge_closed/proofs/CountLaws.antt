@@ -4,7 +4,7 @@ use mathlib.Core.Path.{_≡_, refl, sym, ap, _∙_}
 use mathlib.Core.Logic.{_⊎_, ⊎-elim}
 use mathlib.Core.Bool.{Bool, true, false, cond, not, _&&_, false≢true}
 use Prim.Native.Nat.{ℕ, zero, suc, _+_, _-_, _*_, _^_, _<_}
-use native.Mathlib.Nat.{add-zero, add-suc, zero-mul, suc-mul, pow-suc}
+use native.Mathlib.Nat.{zero-mul, suc-mul, pow-suc}
 use native.Mathlib.Omega.{arith}
 use lib.Arith.{digits-mod}
 use lib.Pow.{pow-add}
@@ -13,12 +13,7 @@ use Rattle.relation.proofs.BitLaws.{bit-mod}
 use Rattle.relation.proofs.ListLaws.{untrue, below-suc}
 use Rattle.relation.proofs.UnionLaws.{bit-past, bit-top}
 use Rattle.model.specs.Test.{countBelow}
-use Rattle.model.proofs.TestLaws.{count-ext, none-count}
-
-pub count-append : (p : ℕ → Bool) (a b : ℕ) → countBelow p (a + b) ≡ countBelow p a + countBelow (λ k. p (a + k)) b
-unfolding countBelow
-count-append p a zero = rw (add-zero a) (omega arith)
-count-append p a (suc b) = let h = count-append p a b in rw (add-suc a b) (omega arith)
+use Rattle.model.proofs.TestLaws.{count-ext, none-count, count-append}
 
 -- by a second test
 pub count-split : (p t : ℕ → Bool) (n : ℕ) → countBelow p n ≡ countBelow (λ s. p s && not (t s)) n + countBelow (λ s. p s && t s) n

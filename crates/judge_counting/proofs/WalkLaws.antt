@@ -11,7 +11,7 @@ use lib.Pow.{pow-mono, pow-pos}
 use borrow.Author.Needs.{needs}
 use Rattle.relation.specs.Bits.{bit, without}
 use Rattle.relation.proofs.BitLaws.{power-is}
-use Rattle.relation.proofs.ListLaws.{untrue, and-left, and-right, and-intro}
+use Rattle.relation.proofs.ListLaws.{untrue, and-left, and-right, and-intro, clash}
 use Rattle.model.specs.declared.Check.{Check}
 use Rattle.model.specs.Limits.{mostMain, mostSchedules}
 use Rattle.model.specs.Check.{consistent}
@@ -27,9 +27,6 @@ use Rattle.judge_settled.specs.declared.Answer.the-variants.{Yes, No, Open}
 use Rattle.judge_settled.specs.Settled.{Says, isYes, opposed, Names, diskOf, allHold, Ready}
 use Rattle.judge_counting.specs.declared.Judgement.{Judgement}
 use Rattle.judge_counting.specs.Tally.{Tallies, withGood, withBad, badBetween, Room, Gains}
-
-clash : {A : Type 0} (b : Bool) → b ≡ true → b ≡ false → A
-clash b e q = absurd (false≢true (sym q ∙ e))
 
 -- those that pass a narrower test are no more
 count-less : (p q : ℕ → Bool) (n : ℕ) → ((s : ℕ) → p s ≡ true → q s ≡ true) → countBelow p n ≤ countBelow q n

@@ -3,7 +3,7 @@ use mathlib.Core.Path.{_≡_, refl, sym, ap, ap₂, _∙_}
 use mathlib.Core.Bool.{Bool, true, false, not, _&&_}
 use mathlib.Core.List.{List}
 use Prim.Native.Nat.{ℕ, zero, suc, _+_, _-_, _*_, _^_, _≤_, _<_}
-use native.Mathlib.Nat.{mul-zero, mul-suc, mul-le-mul-left, add-zero, add-suc, zero-add}
+use native.Mathlib.Nat.{mul-zero, mul-suc, mul-le-mul-left, zero-add}
 use native.Mathlib.Omega.{arith}
 use lib.ListN.{getD}
 use lib.Pow.{pow-add}
@@ -12,7 +12,7 @@ use Rattle.model.specs.declared.Check.{Check}
 use Rattle.model.specs.Schedule.{run}
 use Rattle.model.specs.Check.{consistent}
 use Rattle.model.specs.Test.{countBelow}
-use Rattle.model.proofs.TestLaws.{count-ext, none-count}
+use Rattle.model.proofs.TestLaws.{count-ext, none-count, count-append}
 use Rattle.judge_disks.specs.Packed.{heldFrom}
 use Rattle.judge_disks.proofs.DiskSteps.{run-parts}
 use Rattle.judge_schedules.specs.Halves.{badRows, firstHalf, mostHalf, halfSets, validBy, Validates, mayBegin, mayEnd, Lists}
@@ -21,11 +21,6 @@ use Rattle.judge_schedules.proofs.EndLaws.{unbegun, unended, listed-below, list
 use Rattle.judge_search.specs.Search.{badBy, after, badEnd, listed}
 
 -- ---- counting in a grid
-
-count-append : (p : ℕ → Bool) (a b : ℕ) → countBelow p (a + b) ≡ countBelow p a + countBelow (λ k. p (a + k)) b
-unfolding countBelow
-count-append p a zero = rw (add-zero a) (omega arith)
-count-append p a (suc b) = let h = count-append p a b in rw (add-suc a b) (omega arith)
 
 module _ (p : ℕ → Bool) (rows : ℕ) where
   -- the first x rows of n columns

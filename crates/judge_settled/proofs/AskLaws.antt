@@ -8,9 +8,9 @@ use lib.Dec.{eqb}
 use lib.ListN.{length, getD, take}
 use lib.Seq.{getD-set-same, getD-set-other}
 use borrow.Author.Needs.{needs}
-use borrow.Author.Tests.{eq-eqb, ne-eqb, le-leb, lt-leb}
+use borrow.Author.Tests.{eq-eqb, ne-eqb, le-leb, lt-leb, not-true, not-false}
 use Rattle.relation.specs.Lists.{allBelow}
-use Rattle.relation.proofs.ListLaws.{untrue, allBelow-true}
+use Rattle.relation.proofs.ListLaws.{untrue, allBelow-true, clash}
 use Rattle.model.specs.declared.Check.{Check}
 use Rattle.model.specs.declared.Check.the-variants.{Range, Pair, Pointer}
 use Rattle.model.specs.Limits.{diskBlocks, lastBlock, mostChecks}
@@ -24,17 +24,6 @@ use Rattle.judge_closed.specs.Closed.{between}
 use Rattle.judge_settled.specs.declared.Answer.{Answer}
 use Rattle.judge_settled.specs.declared.Answer.the-variants.{Yes, No, Open}
 use Rattle.judge_settled.specs.Settled.{Says, isYes, opposed, diskOf, laid, isBlock, holdsIn, allHold, ownBlock, knownOf, isKnown, isThere, rangeIn, pairIn, pointerIn, holdsWith, holdsBy, valued, Ready}
-
-clash : {A : Type 0} (b : Bool) → b ≡ true → b ≡ false → A
-clash b e q = absurd (false≢true (sym q ∙ e))
-
-not-true : (b : Bool) → not b ≡ true → b ≡ false
-not-true true e = absurd (false≢true e)
-not-true false e = refl
-
-not-false : (b : Bool) → not b ≡ false → b ≡ true
-not-false true e = refl
-not-false false e = absurd (false≢true (sym e))
 
 -- ---- answers handed on
 

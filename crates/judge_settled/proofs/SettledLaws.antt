@@ -11,10 +11,10 @@ use lib.Dec.{eqb, ltb}
 use lib.ListN.{length, getD}
 use lib.Seq.{set-getD}
 use borrow.Author.Needs.{needs}
-use borrow.Author.Tests.{eqb-true, eq-eqb, ltb-true, lt-ltb}
+use borrow.Author.Tests.{eqb-true, eq-eqb, ltb-true, lt-ltb, not-false}
 use Rattle.relation.specs.Bits.{bit, without, Highest}
 use Rattle.relation.proofs.BitLaws.{bit-and, bit-or, bit-zero, bit-pow, bit-mask, power-is}
-use Rattle.relation.proofs.ListLaws.{untrue, or-cases, and-left, and-right, and-intro}
+use Rattle.relation.proofs.ListLaws.{untrue, or-cases, and-left, and-right, and-intro, clash}
 use Rattle.relation.proofs.SetLaws.{without-member, member-without, without-falls}
 use Rattle.model.specs.declared.Check.{Check}
 use Rattle.model.specs.declared.Check.the-variants.{Range, Pair, Pointer}
@@ -28,13 +28,6 @@ use Rattle.judge_closed.proofs.ClosedLaws.{between-has, between-may}
 use Rattle.judge_settled.specs.declared.Answer.{Answer}
 use Rattle.judge_settled.specs.declared.Answer.the-variants.{Yes, No, Open}
 use Rattle.judge_settled.specs.Settled.{Says, isYes, opposed, agreed, diskOf, laid, isBlock, holdsIn, ownBlock, holdsWith, holdsBy, valued, writersOf, Ready, Among, Only, definite, Agrees, AlikeIf}
-
-clash : {A : Type 0} (b : Bool) → b ≡ true → b ≡ false → A
-clash b e q = absurd (false≢true (sym q ∙ e))
-
-not-false : (b : Bool) → not b ≡ false → b ≡ true
-not-false true e = refl
-not-false false e = absurd (false≢true (sym e))
 
 -- ---- the writes to an address
 

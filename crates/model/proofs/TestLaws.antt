@@ -4,6 +4,7 @@ use mathlib.Core.Logic.{_⊎_, inl, inr, ⊎-elim}
 use mathlib.Core.Bool.{Bool, true, false, cond, not, false≢true}
 use mathlib.Core.List.{List}
 use Prim.Native.Nat.{ℕ, zero, suc, _+_, _≤_, _<_}
+use native.Mathlib.Nat.{add-zero, add-suc}
 use native.Mathlib.Omega.{arith}
 use borrow.Author.Tests.{not-true}
 use Rattle.relation.proofs.ListLaws.{not-so, and-left, and-right, and-intro, allBelow-true, allBelow-intro, anyBelow-true, anyBelow-false, below-suc}
@@ -98,6 +99,12 @@ pub count-ext : (p q : ℕ → Bool) (n : ℕ) → ((s : ℕ) → s < n → p s 
 unfolding countBelow
 count-ext p q zero h = refl
 count-ext p q (suc n) h = rw (h n (omega arith), count-ext p q n (λ s l. h s (omega arith)))
+
+-- those below a sum are those below its first part, and those behind
+pub count-append : (p : ℕ → Bool) (a b : ℕ) → countBelow p (a + b) ≡ countBelow p a + countBelow (λ k. p (a + k)) b
+unfolding countBelow
+count-append p a zero = rw (add-zero a) (omega arith)
+count-append p a (suc b) = let h = count-append p a b in rw (add-suc a b) (omega arith)
 
 pub count-most : (p : ℕ → Bool) (n : ℕ) → countBelow p n ≤ n
 unfolding countBelow

@@ -12,6 +12,10 @@ use Rattle.relation.specs.Lists.{anyBelow, allBelow, tabulate, any, all}
 
 -- ---- Booleans
 
+-- nothing is both true and false
+pub clash : {A : Type 0} (b : Bool) → b ≡ true → b ≡ false → A
+clash b e q = absurd (false≢true (sym q ∙ e))
+
 -- what does not hold is false, and its negation true
 pub untrue : (b : Bool) → (b ≡ true → ⊥) → b ≡ false
 untrue true n = absurd (n refl)

@@ -9,7 +9,7 @@ use lib.Count.{leadingZeros, leading-le, leading-top}
 use lib.Dec.{ltb}
 use lib.Pow.{pow-mono, pow-pos}
 use borrow.Author.Needs.{needs}
-use borrow.Author.Tests.{lt-ltb, ltb-true, ltb-false}
+use borrow.Author.Tests.{lt-ltb, ltb-true, ltb-false, not-true}
 use Rattle.relation.specs.Bits.{bit, withBit, without, Highest}
 use Rattle.relation.proofs.BitLaws.{bit-and, bit-or, bit-mask, mask-below, bits-equal, bit-zero, bit-mod, set-bit}
 use Rattle.relation.proofs.ListLaws.{and-left, and-right}
@@ -48,14 +48,10 @@ bit-without a b j h = go (ltb j 64) refl
 pub without-member : (a b j : ℕ) → bit (without a b) j ≡ true → (bit a j ≡ true) × (bit b j ≡ false)
 without-member a b j e = go (ltb j 64) refl
   where
-    off : (t : Bool) → not t ≡ true → t ≡ false
-    off true z = absurd (false≢true z)
-    off false z = refl
-
     go : (t : Bool) → ltb j 64 ≡ t → (bit a j ≡ true) × (bit b j ≡ false)
     go true l =
         let m = sym (low-without a b j (ltb-true j 64 l)) ∙ e in
-        (and-left (bit a j) (not (bit b j)) m, off (bit b j) (and-right (bit a j) (not (bit b j)) m))
+        (and-left (bit a j) (not (bit b j)) m, not-true (bit b j) (and-right (bit a j) (not (bit b j)) m))
     go false l = absurd (false≢true (sym (high-false (without a b) j (without-below a b) (ltb-false j 64 l)) ∙ e))
 
 pub member-without : (a b j : ℕ) → j < 64 → bit a j ≡ true → bit b j ≡ false → bit (without a b) j ≡ true

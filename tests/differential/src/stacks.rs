@@ -1,12 +1,14 @@
 // The stack of the tester's routines, on tests of as many writes as there can be.
 
+use reference::checks::Check;
 use reference::crashes;
 use reference::damage::{self, LIMITS};
-use reference::file::{File, MOST_MAIN, MOST_TESTS};
+use reference::file::{File, Test, MOST_MAIN, MOST_TESTS};
 use reference::find::{LEAST_BUFFER, MOST_MAIN as MOST_TO_FIND};
 use reference::generate::{self, Values};
 use reference::log::{self, MOST_MAIN_PUTS};
 use reference::random::Random;
+use reference::writes;
 
 use crate::calls;
 use crate::harness::{Outcome, Run, Suite};
@@ -14,11 +16,10 @@ use crate::lent::Lent;
 use crate::lines::LEAST;
 use crate::stack::Deepest;
 
-/// Bytes of stack that a call may use: judging chooses up to 20 writes one inside the other, the verdict
-/// and finding have tables.
-const MOST_OF_JUDGE: usize = 32 << 10;
-const MOST_OF_VERDICT: usize = 48 << 10;
-const MOST_OF_FIND: usize = 96 << 10;
+/// Bytes of stack that a call may use: the judge chooses up to 20 writes, one inside the other, the
+/// verdict and finding have tables.
+const MOST_OF_JUDGING: usize = 32 << 10;
+const MOST_OF_FINDING: usize = 96 << 10;
 
 pub fn suites() -> Vec<Suite> {
     let suite = |name, run| Suite { name, run };
@@ -30,7 +31,7 @@ pub fn suites() -> Vec<Suite> {
     ]
 }
 
-/// Files of all kinds: of one test, mostly of 20 main writes and often without rules, so that judging
+/// Files of all kinds: of one test, mostly of 20 main writes and often without rules, so that the judge
 /// has a choice at each; full ones; and refused ones.
 fn any_file(random: &mut Random, i: u64) -> Vec<u8> {
     let mut file = match i % 8 {
@@ -40,7 +41,8 @@ fn any_file(random: &mut Random, i: u64) -> Vec<u8> {
         }
         1 => return damage::any(random).bytes,
         2 => log_file(random),
-        3 => crashes::tangled_file_of(random, MOST_MAIN),
+        3 => one_inside_the_other(),
+        4 => crashes::tangled_file_of(random, MOST_MAIN),
         _ => crashes::file_of(random, MOST_MAIN),
     };
     if random.one_in(2) {
@@ -55,6 +57,24 @@ fn log_file(random: &mut Random) -> File {
     File {
         rules: vec![],
         tests: vec![log::test_of(&initial, &main)],
+    }
+}
+
+/// 20 writes to one block, in turn such that a pointer there is broken and that it is not: the check
+/// hangs on the last, without it on the one before, and so on down to the first.
+fn one_inside_the_other() -> File {
+    const AT: u8 = 5;
+    let write = |i: usize| {
+        let target = if i % 2 == 0 { 256 } else { AT as u16 };
+        writes::write(AT, 1, 0, writes::block(1, target))
+    };
+    File {
+        rules: vec![],
+        tests: vec![Test {
+            initial: vec![],
+            main: (0..MOST_MAIN).map(write).collect(),
+            checks: vec![Check::Pointer { at: AT }],
+        }],
     }
 }
 
@@ -82,12 +102,12 @@ fn on_tests(
 }
 
 fn stack_of_judge(run: &mut Run) -> Outcome {
-    on_tests(run, 400, library::JUDGE, calls::judge, MOST_OF_JUDGE)
+    on_tests(run, 400, library::JUDGE, calls::judge, MOST_OF_JUDGING)
 }
 
 fn stack_of_verdict(run: &mut Run) -> Outcome {
     // Without rules a verdict that holds takes long.
-    on_tests(run, 100, library::VERDICT, calls::verdict, MOST_OF_VERDICT)
+    on_tests(run, 100, library::VERDICT, calls::verdict, MOST_OF_JUDGING)
 }
 
 type OnFile = unsafe extern "C" fn(*const u8, usize, *mut u8, usize) -> u64;
@@ -120,7 +140,7 @@ fn on_files(
 
 fn stack_of_lines(run: &mut Run) -> Outcome {
     let (routine, usual) = (library::JUDGE_LINES, calls::judge_lines);
-    on_files(run, routine, usual, MOST_OF_JUDGE, LEAST, any_file)
+    on_files(run, routine, usual, MOST_OF_JUDGING, LEAST, any_file)
 }
 
 /// Tests of 12 main writes of few names, for which rules may do, and refused files.
@@ -142,5 +162,5 @@ fn file_to_find_for(random: &mut Random, i: u64) -> Vec<u8> {
 fn stack_of_find(run: &mut Run) -> Outcome {
     let (routine, usual) = (library::FIND, calls::find);
     let make = file_to_find_for;
-    on_files(run, routine, usual, MOST_OF_FIND, LEAST_BUFFER, make)
+    on_files(run, routine, usual, MOST_OF_FINDING, LEAST_BUFFER, make)
 }

@@ -466,11 +466,11 @@ const COPIED: [(&str, &str); 6] = [
     ("judge_schedules", "is_valid"),
     ("judge_schedules", "may_begin"),
     ("judge_schedules", "may_end"),
-    ("judge_counting", "joined"),
+    ("judge_search", "joined"),
 ];
 
 /// Who asks a question of judging, which, and how: what is answered no is passed over.
-const ASKED: [(&str, &str, &str, &str); 5] = [
+const ASKED: [(&str, &str, &str, &str); 3] = [
     (
         "judge_schedules",
         "list_ends",
@@ -478,26 +478,13 @@ const ASKED: [(&str, &str, &str, &str); 5] = [
         "if !may_end(high, near, y) { y += 1; continue 'ends; } ends[many] = y;",
     ),
     (
-        "judge_counting",
-        "count_by",
-        "may_begin",
-        "if !judge_schedules::may_begin(low, near, x) { x += 1; continue 'beginnings; }",
-    ),
-    (
-        "judge_counting",
-        "count_after",
-        "is_valid",
-        "let y = ends[k]; let s = joined(x, near, y); \
-         if !judge_schedules::is_valid(low, high, near, s) { k += 1; continue 'schedules; }",
-    ),
-    (
-        "judge_counting",
+        "judge_search",
         "search_by",
         "may_begin",
         "if !judge_schedules::may_begin(low, near, x) { x += 1; continue 'search; }",
     ),
     (
-        "judge_counting",
+        "judge_search",
         "search_by",
         "is_valid",
         "let y = ends[k]; let s = joined(x, near, y); \
@@ -575,11 +562,11 @@ fn other_turns_are_noticed() {
             "if !may_end(",
             "if !may_end(high, near, 0) && !may_end(",
         ),
-        ("judge_counting", "x | (y << near)", "x + (y << near)"),
-        ("judge_counting", "let y = ends[k];", "let y = k as u64;"),
-        ("judge_counting", "::may_begin(low", "::may_begin(high"),
+        ("judge_search", "x | (y << near)", "x + (y << near)"),
+        ("judge_search", "let y = ends[k];", "let y = k as u64;"),
+        ("judge_search", "::may_begin(low", "::may_begin(high"),
         (
-            "judge_counting",
+            "judge_search",
             "::first_half(n);",
             "::first_half(n);\n    judge_schedules::may_begin(low, near, 0);",
         ),
