@@ -1,5 +1,5 @@
--- The tables: by the closed rows each write's flags are those it reaches and itself, and a schedule that has all of each flagged write's
--- row has all of its flags, step by step along the way.
+-- The tables: by the closed rows each write's dependencies are those it reaches and itself, and a schedule that has with each write its
+-- row has what it reaches, step by step along the way.
 use mathlib.Core.Path.{_≡_, refl, sym, _∙_}
 use mathlib.Core.Logic.{_⊎_, inl, inr, ⊎-elim}
 use mathlib.Core.Bool.{Bool, true, false, cond, not, _&&_, _||_, false≢true}
@@ -24,7 +24,7 @@ use Rattle.relation.proofs.ListLaws.{or-cases, or-left, or-right, bool-equal, b
 use Rattle.relation.proofs.TransitiveLaws.{plus-trans}
 use Rattle.model.specs.Limits.{mostMain}
 use Rattle.judge_schedules.specs.Halves.{validRows}
-use Rattle.judge_closed.specs.Closed.{Narrow, Orders, flagged, barred, Filled, alone}
+use Rattle.judge_closed.specs.Closed.{Narrow, Orders, reachedRow, reachingRow, Filled, alone}
 use Rattle.judge_closed.proofs.ClosedLaws.{valid-has, has-valid, member-below}
 
 -- ---- tables filled from the front
@@ -49,58 +49,58 @@ module _ (f : ℕ → ℕ) where
 pub all-some : (n : ℕ) → n ≤ mostMain → 1 ≤ 1 * 2 ^ n % 18446744073709551616
 all-some n h = rw (power-is n (omega arith)) (pow-pos n)
 
-pub flags-are : (row i n w : ℕ) → n ≤ mostMain → w ≡ withBit row i → bitAnd w (1 * 2 ^ n % 18446744073709551616 - 1) ≡ withBit row i % 2 ^ n
-flags-are row i n w h e = rw (power-is n (omega arith), e) (and-mask (withBit row i) n)
+pub dependencies-are : (row i n w : ℕ) → n ≤ mostMain → w ≡ withBit row i → bitAnd w (1 * 2 ^ n % 18446744073709551616 - 1) ≡ withBit row i % 2 ^ n
+dependencies-are row i n w h e = rw (power-is n (omega arith), e) (and-mask (withBit row i) n)
 
-pub flags-more : (closed : List ℕ) (n i : ℕ) (flags : List ℕ) (v : ℕ) → Filled (flagged closed n) i flags → length flags ≡ 64 → n ≤ mostMain → i < n → v ≡ withBit (getD closed i 0) i % 2 ^ n
-    → Filled (flagged closed n) (i + 1) (set flags i v)
-flags-more closed n i flags v g size few h e = filled-more (flagged closed n) i flags v g (omega arith) (unfold flagged in e)
+pub dependencies-more : (closed : List ℕ) (n i : ℕ) (dependencies : List ℕ) (v : ℕ) → Filled (reachedRow closed n) i dependencies → length dependencies ≡ 64 → n ≤ mostMain → i < n → v ≡ withBit (getD closed i 0) i % 2 ^ n
+    → Filled (reachedRow closed n) (i + 1) (set dependencies i v)
+dependencies-more closed n i dependencies v g size few h e = filled-more (reachedRow closed n) i dependencies v g (omega arith) (unfold reachedRow in e)
 
-pub bars-more : (flags : List ℕ) (n j : ℕ) (bars : List ℕ) (v : ℕ) → Filled (barred flags n) j bars → length bars ≡ 64 → n ≤ mostMain → j < n → v ≡ barred flags n j
-    → Filled (barred flags n) (j + 1) (set bars j v)
-bars-more flags n j bars v g size few h e = filled-more (barred flags n) j bars v g (omega arith) e
+pub dependents-more : (dependencies : List ℕ) (n j : ℕ) (dependents : List ℕ) (v : ℕ) → Filled (reachingRow dependencies n) j dependents → length dependents ≡ 64 → n ≤ mostMain → j < n → v ≡ reachingRow dependencies n j
+    → Filled (reachingRow dependencies n) (j + 1) (set dependents j v)
+dependents-more dependencies n j dependents v g size few h e = filled-more (reachingRow dependencies n) j dependents v g (omega arith) e
 
-pub barred-none : (flags : List ℕ) (j : ℕ) → 0 ≡ barred flags 0 j
-unfolding barred maskOf
-barred-none flags j = refl
+pub reachingRow-none : (dependencies : List ℕ) (j : ℕ) → 0 ≡ reachingRow dependencies 0 j
+unfolding reachingRow maskOf
+reachingRow-none dependencies j = refl
 
-pub barred-more : (flags : List ℕ) (j i mask next : ℕ) (b : Bool) → mask ≡ barred flags i j → b ≡ bit (getD flags i 0) j → next ≡ cond b (withBit mask i) mask → next ≡ barred flags (i + 1) j
-unfolding barred maskOf
-barred-more flags j i mask next b e q z = rw (add-one i) (z ∙ rw (e, q))
+pub reachingRow-more : (dependencies : List ℕ) (j i mask next : ℕ) (b : Bool) → mask ≡ reachingRow dependencies i j → b ≡ bit (getD dependencies i 0) j → next ≡ cond b (withBit mask i) mask → next ≡ reachingRow dependencies (i + 1) j
+unfolding reachingRow maskOf
+reachingRow-more dependencies j i mask next b e q z = rw (add-one i) (z ∙ rw (e, q))
 
-pub barred-all : (flags : List ℕ) (j i n mask : ℕ) → i ≤ n → n ≤ i → mask ≡ barred flags i j → mask ≡ barred flags n j
-barred-all flags j i n mask a b e = let z : i ≡ n = omega arith in rw (← z) e
+pub reachingRow-all : (dependencies : List ℕ) (j i n mask : ℕ) → i ≤ n → n ≤ i → mask ≡ reachingRow dependencies i j → mask ≡ reachingRow dependencies n j
+reachingRow-all dependencies j i n mask a b e = let z : i ≡ n = omega arith in rw (← z) e
 
 -- ---- the order
 
-module _ (rows flags bars : List ℕ) (n : ℕ) (few : n ≤ mostMain) (narrow : Narrow rows n) (ef : Filled (flagged (closed n rows) n) n flags)
-    (eb : Filled (barred flags n) n bars) where
-  flags-bit : (i j : ℕ) → i < n → j < n → bit (getD flags i 0) j ≡ related (closed n rows) i j || eqb j i
-  unfolding flagged related
-  flags-bit i j h l = rw (ef .at i h) (bit-mod (withBit (getD (closed n rows) i 0) i) n j l ∙ bit-with (getD (closed n rows) i 0) i j)
+module _ (rows dependencies dependents : List ℕ) (n : ℕ) (few : n ≤ mostMain) (narrow : Narrow rows n) (ef : Filled (reachedRow (closed n rows) n) n dependencies)
+    (eb : Filled (reachingRow dependencies n) n dependents) where
+  dependencies-bit : (i j : ℕ) → i < n → j < n → bit (getD dependencies i 0) j ≡ related (closed n rows) i j || eqb j i
+  unfolding reachedRow related
+  dependencies-bit i j h l = rw (ef .at i h) (bit-mod (withBit (getD (closed n rows) i 0) i) n j l ∙ bit-with (getD (closed n rows) i 0) i j)
 
-  flags-most : (i : ℕ) → i < n → getD flags i 0 < 2 ^ n
-  unfolding flagged
-  flags-most i h = rw (ef .at i h) (mod-lt (withBit (getD (closed n rows) i 0) i) (pow-pos n))
+  dependencies-most : (i : ℕ) → i < n → getD dependencies i 0 < 2 ^ n
+  unfolding reachedRow
+  dependencies-most i h = rw (ef .at i h) (mod-lt (withBit (getD (closed n rows) i 0) i) (pow-pos n))
 
-  flags-below : (i j : ℕ) → i < n → bit (getD flags i 0) j ≡ true → j < n
-  flags-below i j h b = member-below (getD flags i 0) n j (flags-most i h) b
+  dependencies-below : (i j : ℕ) → i < n → bit (getD dependencies i 0) j ≡ true → j < n
+  dependencies-below i j h b = member-below (getD dependencies i 0) n j (dependencies-most i h) b
 
-  reached : (i j : ℕ) → i < n → bit (getD flags i 0) j ≡ true → (Plus (Below n (related rows)) i j) ⊎ (j ≡ i)
+  reached : (i j : ℕ) → i < n → bit (getD dependencies i 0) j ≡ true → (Plus (Below n (related rows)) i j) ⊎ (j ≡ i)
   reached i j h b =
-      let l = flags-below i j h b in
-      ⊎-elim (λ r. inl (closed-plus rows n i j h l r)) (λ z. inr (eqb-true j i z)) (or-cases (related (closed n rows) i j) (eqb j i) (sym (flags-bit i j h l) ∙ b))
+      let l = dependencies-below i j h b in
+      ⊎-elim (λ r. inl (closed-plus rows n i j h l r)) (λ z. inr (eqb-true j i z)) (or-cases (related (closed n rows) i j) (eqb j i) (sym (dependencies-bit i j h l) ∙ b))
 
-  plus-flags : (i j : ℕ) → i < n → j < n → Plus (Below n (related rows)) i j → bit (getD flags i 0) j ≡ true
-  plus-flags i j h l p = flags-bit i j h l ∙ or-left (related (closed n rows) i j) (eqb j i) (plus-closed rows n i j p)
+  plus-dependencies : (i j : ℕ) → i < n → j < n → Plus (Below n (related rows)) i j → bit (getD dependencies i 0) j ≡ true
+  plus-dependencies i j h l p = dependencies-bit i j h l ∙ or-left (related (closed n rows) i j) (eqb j i) (plus-closed rows n i j p)
 
-  self : (i : ℕ) → i < n → bit (getD flags i 0) i ≡ true
-  self i h = flags-bit i i h h ∙ or-right (related (closed n rows) i i) (eqb i i) (eq-eqb i i refl)
+  reflexive : (i : ℕ) → i < n → bit (getD dependencies i 0) i ≡ true
+  reflexive i h = dependencies-bit i i h h ∙ or-right (related (closed n rows) i i) (eqb i i) (eq-eqb i i refl)
 
-  deep : (i j k : ℕ) → i < n → j < n → bit (getD flags i 0) j ≡ true → bit (getD flags j 0) k ≡ true → bit (getD flags i 0) k ≡ true
-  deep i j k h l a b =
+  transitive : (i j k : ℕ) → i < n → j < n → bit (getD dependencies i 0) j ≡ true → bit (getD dependencies j 0) k ≡ true → bit (getD dependencies i 0) k ≡ true
+  transitive i j k h l a b =
       ⊎-elim
-      (λ p. ⊎-elim (λ q. plus-flags i k h (flags-below j k l b) (plus-trans p q)) (λ (z : k ≡ j). rw z a) (reached j k l b))
+      (λ p. ⊎-elim (λ q. plus-dependencies i k h (dependencies-below j k l b) (plus-trans p q)) (λ (z : k ≡ j). rw z a) (reached j k l b))
       (λ (z : j ≡ i). rw z at b)
       (reached i j h a)
 
@@ -110,31 +110,31 @@ module _ (rows flags bars : List ℕ) (n : ℕ) (few : n ≤ mostMain) (narrow :
   along s v (one {x = x} {y = y} (a, b, r)) e = valid-has rows n s v x y a e r
   along s v (more {x = x} {y = y} (a, b, r) p) e = along s v p (valid-has rows n s v x y a e r)
 
-  same : (s : ℕ) → s < 2 ^ n → validRows flags n s ≡ validRows rows n s
+  same : (s : ℕ) → s < 2 ^ n → validRows dependencies n s ≡ validRows rows n s
   unfolding Narrow related
   same s h =
       bool-equal _ _
       (λ v. has-valid rows n s
-      (λ i j l e b. let k = member-below (getD rows i 0) n j (narrow i l) b in valid-has flags n s v i j l e (plus-flags i j l k (one (l, k, b)))))
-      (λ v. has-valid flags n s (λ i j l e b. ⊎-elim (λ p. along s v p e) (λ (z : j ≡ i). rw z e) (reached i j l b)))
+      (λ i j l e b. let k = member-below (getD rows i 0) n j (narrow i l) b in valid-has dependencies n s v i j l e (plus-dependencies i j l k (one (l, k, b)))))
+      (λ v. has-valid dependencies n s (λ i j l e b. ⊎-elim (λ p. along s v p e) (λ (z : j ≡ i). rw z e) (reached i j l b)))
 
-  pub ordered : Orders rows n flags bars
-  unfolding barred
+  pub ordered : Orders rows n dependencies dependents
+  unfolding reachingRow
   ordered =
       record {
         order = record {
-          self = self;
-          deep = deep;
-          flags-most = flags-most;
-          bars-most = λ j h. rw (eb .at j h) (mask-below (λ i. bit (getD flags i 0) j) n);
-          back = λ i j h l. rw (eb .at j l, bit-mask (λ i. bit (getD flags i 0) j) n i, lt-ltb i n h);
+          reflexive = reflexive;
+          transitive = transitive;
+          dependencies-most = dependencies-most;
+          dependents-most = λ j h. rw (eb .at j h) (mask-below (λ i. bit (getD dependencies i 0) j) n);
+          converse = λ i j h l. rw (eb .at j l, bit-mask (λ i. bit (getD dependencies i 0) j) n i, lt-ltb i n h);
         };
         same = same;
       }
 
-pub order-done : (rows reached flags bars : List ℕ) (n : ℕ) → n ≤ mostMain → Narrow rows n → reached ≡ closed n rows → Filled (flagged reached n) n flags → Filled (barred flags n) n bars
-    → Orders rows n flags bars
-order-done rows reached flags bars n few narrow e f b = ordered rows flags bars n few narrow (rw e at f) b
+pub order-done : (rows reached dependencies dependents : List ℕ) (n : ℕ) → n ≤ mostMain → Narrow rows n → reached ≡ closed n rows → Filled (reachedRow reached n) n dependencies → Filled (reachingRow dependencies n) n dependents
+    → Orders rows n dependencies dependents
+order-done rows reached dependencies dependents n few narrow e f b = ordered rows dependencies dependents n few narrow (rw e at f) b
 
 -- ---- alone
 
@@ -150,4 +150,4 @@ pub untied-is : (a b w f : Bool) → a ≡ w → not a ≡ false → b ≡ f →
 untied-is true b w f e q z = rw (← e) z
 untied-is false b w f e q z = absurd (false≢true (sym q))
 
-pub ruleset ordering = (needs, power-is, filled-none, filled-all, all-some, flags-are, flags-more, bars-more, barred-none, barred-more, barred-all, order-done, alone-is, untied-not, untied-is)
+pub ruleset ordering = (needs, power-is, filled-none, filled-all, all-some, dependencies-are, dependencies-more, dependents-more, reachingRow-none, reachingRow-more, reachingRow-all, order-done, alone-is, untied-not, untied-is)

@@ -15,18 +15,18 @@ use Rattle.judge_schedules.specs.Halves.{validRows}
 unfoldable pub Narrow : List ℕ → ℕ → Type 0
 Narrow rows n = (i : ℕ) → i < n → getD rows i 0 < 2 ^ n
 
--- flags i is write i with all that it depends on, over any number of steps; bars i is write i with all that so depend on it
-pub record Order (n : ℕ) (flags bars : List ℕ) : Type 0 where
-  pub self : (i : ℕ) → i < n → bit (getD flags i 0) i ≡ true
-  pub deep : (i j k : ℕ) → i < n → j < n → bit (getD flags i 0) j ≡ true → bit (getD flags j 0) k ≡ true → bit (getD flags i 0) k ≡ true
-  pub flags-most : (i : ℕ) → i < n → getD flags i 0 < 2 ^ n
-  pub bars-most : (j : ℕ) → j < n → getD bars j 0 < 2 ^ n
-  pub back : (i j : ℕ) → i < n → j < n → bit (getD bars j 0) i ≡ bit (getD flags i 0) j
+-- two tables of sets, each write's dependencies and each one's dependents, itself among both: reflexive, transitive, and the one the converse of the other
+pub record Order (n : ℕ) (dependencies dependents : List ℕ) : Type 0 where
+  pub reflexive : (i : ℕ) → i < n → bit (getD dependencies i 0) i ≡ true
+  pub transitive : (i j k : ℕ) → i < n → j < n → bit (getD dependencies i 0) j ≡ true → bit (getD dependencies j 0) k ≡ true → bit (getD dependencies i 0) k ≡ true
+  pub dependencies-most : (i : ℕ) → i < n → getD dependencies i 0 < 2 ^ n
+  pub dependents-most : (j : ℕ) → j < n → getD dependents j 0 < 2 ^ n
+  pub converse : (i j : ℕ) → i < n → j < n → bit (getD dependents j 0) i ≡ bit (getD dependencies i 0) j
 
--- these of rows: a schedule that has all of each flagged write's row has all of its flags, and the other way round
-pub record Orders (rows : List ℕ) (n : ℕ) (flags bars : List ℕ) : Type 0 where
-  pub order : Order n flags bars
-  pub same : (s : ℕ) → s < 2 ^ n → validRows flags n s ≡ validRows rows n s
+-- the dependencies are those of rows, over any number of steps: a schedule that has with each write its row has its dependencies, and the other way round
+pub record Orders (rows : List ℕ) (n : ℕ) (dependencies dependents : List ℕ) : Type 0 where
+  pub order : Order n dependencies dependents
+  pub same : (s : ℕ) → s < 2 ^ n → validRows dependencies n s ≡ validRows rows n s
 
 -- ---- between two sets
 
@@ -34,26 +34,27 @@ pub record Orders (rows : List ℕ) (n : ℕ) (flags bars : List ℕ) : Type 0 w
 unfoldable pub between : ℕ → ℕ → ℕ → Bool
 between chosen free s = partOf chosen s && partOf s (bitOr chosen free)
 
+-- and it is valid
 unfoldable pub validBetween : List ℕ → ℕ → ℕ → ℕ → ℕ → Bool
-validBetween flags n chosen free s = validRows flags n s && between chosen free s
+validBetween dependencies n chosen free s = validRows dependencies n s && between chosen free s
 
 -- what is chosen brings all that it depends on, and what is free needs nothing that is left out: any free write may be flagged next, or left out
-pub record Choice (flags : List ℕ) (n chosen free : ℕ) : Type 0 where
+pub record Choice (dependencies : List ℕ) (n chosen free : ℕ) : Type 0 where
   pub chosen-most : chosen < 2 ^ n
   pub free-most : free < 2 ^ n
   pub apart : (i : ℕ) → bit chosen i ≡ true → bit free i ≡ false
-  pub whole : (i j : ℕ) → i < n → bit chosen i ≡ true → bit (getD flags i 0) j ≡ true → bit chosen j ≡ true
-  pub within : (i j : ℕ) → i < n → bit free i ≡ true → bit (getD flags i 0) j ≡ true → bit chosen j || bit free j ≡ true
+  pub whole : (i j : ℕ) → i < n → bit chosen i ≡ true → bit (getD dependencies i 0) j ≡ true → bit chosen j ≡ true
+  pub within : (i j : ℕ) → i < n → bit free i ≡ true → bit (getD dependencies i 0) j ≡ true → bit chosen j || bit free j ≡ true
 
 -- ---- the code's steps
 
--- what a closed row makes of write i's flags
-unfoldable pub flagged : List ℕ → ℕ → ℕ → ℕ
-flagged closed n i = withBit (getD closed i 0) i % 2 ^ n
+-- write i and what a closed row says that it reaches
+unfoldable pub reachedRow : List ℕ → ℕ → ℕ → ℕ
+reachedRow closed n i = withBit (getD closed i 0) i % 2 ^ n
 
--- the writes below k that write j is a flag of
-unfoldable pub barred : List ℕ → ℕ → ℕ → ℕ
-barred flags k j = maskOf (λ i. bit (getD flags i 0) j) k
+-- the writes below k that have write j among their dependencies
+unfoldable pub reachingRow : List ℕ → ℕ → ℕ → ℕ
+reachingRow dependencies k j = maskOf (λ i. bit (getD dependencies i 0) j) k
 
 -- the first k entries of a table are those of a function
 pub record Filled (f : ℕ → ℕ) (k : ℕ) (table : List ℕ) : Type 0 where

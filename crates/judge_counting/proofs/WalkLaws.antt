@@ -77,13 +77,13 @@ open-free p chosen free h Yes y z g a b d e n = absurd (false≢true (sym b ∙ 
 open-free p chosen free h No y z g a b d e n = absurd (false≢true (sym e ∙ d))
 open-free p chosen free h (Open k) y z g a b d e n = rw n g
 
-module _ (column base : List ℕ) (n : ℕ) (checks : List Check) (flags : List ℕ) (chosen free : ℕ) (g : Choice flags n chosen free) (answer : Answer)
-    (says : Says (allHold column base n checks) chosen free answer) (j r : Judgement) (many : ℕ) (count : many ≡ countBelow (validBetween flags n chosen free) (2 ^ n)) where
+module _ (column base : List ℕ) (n : ℕ) (checks : List Check) (dependencies : List ℕ) (chosen free : ℕ) (g : Choice dependencies n chosen free) (answer : Answer)
+    (says : Says (allHold column base n checks) chosen free answer) (j r : Judgement) (many : ℕ) (count : many ≡ countBelow (validBetween dependencies n chosen free) (2 ^ n)) where
   abbrev valid-here : ℕ → Bool
-  valid-here = validBetween flags n chosen free
+  valid-here = validBetween dependencies n chosen free
 
   abbrev bad-here : ℕ → Bool
-  bad-here = badBetween column base n checks flags chosen free
+  bad-here = badBetween column base n checks dependencies chosen free
 
   pub walk-good : (t : Bool) → t ≡ isYes answer → t ≡ true → r ≡ withGood j many → Gains valid-here bad-here (2 ^ n) j r
   unfolding withGood badBetween
@@ -92,7 +92,7 @@ module _ (column base : List ℕ) (n : ℕ) (checks : List Check) (flags : List 
       let all : (s : ℕ) → between chosen free s ≡ true → allHold column base n checks s ≡ true = unfold Says in (rw e at says) in
       let none : countBelow bad-here (2 ^ n) ≡ 0 = none-count bad-here (2 ^ n) (λ s l.
       untrue (bad-here s) (λ b. let v = and-right (not (allHold column base n checks s)) (valid-here s) b in
-      clash (not (allHold column base n checks s)) (and-left (not (allHold column base n checks s)) (valid-here s) b) (rw (all s (valid-between flags n chosen free s v))))) in
+      clash (not (allHold column base n checks s)) (and-left (not (allHold column base n checks s)) (valid-here s) b) (rw (all s (valid-between dependencies n chosen free s v))))) in
       rw z
       (record {
         valid = ap (λ (k : ℕ). j .valid + k) count;
@@ -107,18 +107,18 @@ module _ (column base : List ℕ) (n : ℕ) (checks : List Check) (flags : List 
       let e = is-no answer t q y in
       let all : (s : ℕ) → between chosen free s ≡ true → allHold column base n checks s ≡ false = unfold Says in (rw e at says) in
       let same : countBelow bad-here (2 ^ n) ≡ countBelow valid-here (2 ^ n) = count-ext bad-here valid-here (2 ^ n) (λ s l. go s all (valid-here s) refl) in
-      let here : valid-here chosen ≡ true = chosen-valid n flags chosen free g in
+      let here : valid-here chosen ≡ true = chosen-valid n dependencies chosen free g in
       let some : 0 < countBelow valid-here (2 ^ n) = count-some valid-here (2 ^ n) chosen (g .chosen-most) here in
       rw z
       (record {
         valid = ap (λ (k : ℕ). j .valid + k) count;
         bad = ap (λ (k : ℕ). j .bad + k) (count ∙ sym same);
-        shown = λ k. inr (g .chosen-most, rw (all chosen (valid-between flags n chosen free chosen here)) here);
+        shown = λ k. inr (g .chosen-most, rw (all chosen (valid-between dependencies n chosen free chosen here)) here);
         none = λ f k. absurd (omega (arith, count, some, k));
       })
     where
       go : (s : ℕ) → ((s : ℕ) → between chosen free s ≡ true → allHold column base n checks s ≡ false) → (t : Bool) → valid-here s ≡ t → not (allHold column base n checks s) && valid-here s ≡ valid-here s
-      go s all true v = rw (all s (valid-between flags n chosen free s v))
+      go s all true v = rw (all s (valid-between dependencies n chosen free s v))
       go s all false v = rw v (last (not (allHold column base n checks s)))
         where
           last : (b : Bool) → b && false ≡ false
@@ -126,7 +126,7 @@ module _ (column base : List ℕ) (n : ℕ) (checks : List Check) (flags : List 
           last false = refl
 
 -- there is room for what is counted
-module _ (flags : List ℕ) (n chosen free : ℕ) (j : Judgement) (room : Room flags n chosen free j) (many : ℕ) (e : many ≡ countBelow (validBetween flags n chosen free) (2 ^ n)) where
+module _ (dependencies : List ℕ) (n chosen free : ℕ) (j : Judgement) (room : Room dependencies n chosen free j) (many : ℕ) (e : many ≡ countBelow (validBetween dependencies n chosen free) (2 ^ n)) where
   pub fits-valid : j .valid + many ≤ mostSchedules
   fits-valid = rw e (room .valid)
 
@@ -136,79 +136,79 @@ module _ (flags : List ℕ) (n chosen free : ℕ) (j : Judgement) (room : Room f
 -- ---- a free write left out, or flagged
 
 -- a free write between two sets
-pub record Fork (flags bars : List ℕ) (n chosen free h : ℕ) : Type 0 where
+pub record Fork (dependencies dependents : List ℕ) (n chosen free h : ℕ) : Type 0 where
   pub few : n ≤ mostMain
-  pub order : Order n flags bars
-  pub choice : Choice flags n chosen free
+  pub order : Order n dependencies dependents
+  pub choice : Choice dependencies n chosen free
   pub here : bit free h ≡ true
 
-pub fork : (column base writers flags bars : List ℕ) (n chosen free h : ℕ) (checks : List Check) (answer : Answer) (y z : Bool) → Ready column base n writers → Order n flags bars → Choice flags n chosen free
-    → Says (allHold column base n checks) chosen free answer → y ≡ isYes answer → y ≡ false → z ≡ isYes (opposed answer) → z ≡ false → Names answer h → Fork flags bars n chosen free h
-fork column base writers flags bars n chosen free h checks answer y z ready o g says a b d e k =
+pub fork : (column base writers dependencies dependents : List ℕ) (n chosen free h : ℕ) (checks : List Check) (answer : Answer) (y z : Bool) → Ready column base n writers → Order n dependencies dependents → Choice dependencies n chosen free
+    → Says (allHold column base n checks) chosen free answer → y ≡ isYes answer → y ≡ false → z ≡ isYes (opposed answer) → z ≡ false → Names answer h → Fork dependencies dependents n chosen free h
+fork column base writers dependencies dependents n chosen free h checks answer y z ready o g says a b d e k =
     record { few = ready .few; order = o; choice = g; here = open-free (allHold column base n checks) chosen free h answer y z says a b d e k }
 
-module _ (flags bars : List ℕ) (n chosen free h : ℕ) (k : Fork flags bars n chosen free h) where
+module _ (dependencies dependents : List ℕ) (n chosen free h : ℕ) (k : Fork dependencies dependents n chosen free h) where
   few : n ≤ mostMain
   few = k .few
 
-  o : Order n flags bars
+  o : Order n dependencies dependents
   o = k .order
 
-  g : Choice flags n chosen free
+  g : Choice dependencies n chosen free
   g = k .choice
 
   e : bit free h ≡ true
   e = k .here
 
   pub open-below : h < 64
-  open-below = let l = free-below n flags bars o few chosen free g h e in omega (arith, l, few)
+  open-below = let l = free-below n dependencies dependents o few chosen free g h e in omega (arith, l, few)
 
-  module _ (f : ℕ) (z : f ≡ without free (getD bars h 0)) where
+  module _ (f : ℕ) (z : f ≡ without free (getD dependents h 0)) where
     pub out-falls : (t : ℕ) → free ≡ t → f < t
-    out-falls t q = rw (← q, z) (left-less n flags bars o few chosen free g h e)
+    out-falls t q = rw (← q, z) (left-less n dependencies dependents o few chosen free g h e)
 
-    pub out-free : Choice flags n chosen f
-    out-free = rw z (left-choice n flags bars o few chosen free g h e)
+    pub out-free : Choice dependencies n chosen f
+    out-free = rw z (left-choice n dependencies dependents o few chosen free g h e)
 
     pub out-says : (p : ℕ → Bool) → Says p chosen free Yes → Says p chosen f Yes
     unfolding Says
-    out-says p y = λ s b. y s (between-left n flags bars o few chosen free g h e s (rw (← z) b))
+    out-says p y = λ s b. y s (between-left n dependencies dependents o few chosen free g h e s (rw (← z) b))
 
-  module _ (f : ℕ) (z : f ≡ without free (getD flags h 0)) where
+  module _ (f : ℕ) (z : f ≡ without free (getD dependencies h 0)) where
     pub in-falls : (t : ℕ) → free ≡ t → f < t
-    in-falls t q = rw (← q, z) (right-less n flags bars o few chosen free g h e)
+    in-falls t q = rw (← q, z) (right-less n dependencies dependents o few chosen free g h e)
 
-    pub in-free : Choice flags n (bitOr chosen (getD flags h 0)) f
-    in-free = rw z (right-choice n flags bars o few chosen free g h e)
+    pub in-free : Choice dependencies n (bitOr chosen (getD dependencies h 0)) f
+    in-free = rw z (right-choice n dependencies dependents o few chosen free g h e)
 
-    pub in-says : (p : ℕ → Bool) → Says p chosen free Yes → Says p (bitOr chosen (getD flags h 0)) f Yes
+    pub in-says : (p : ℕ → Bool) → Says p chosen free Yes → Says p (bitOr chosen (getD dependencies h 0)) f Yes
     unfolding Says
-    in-says p y = λ s b. y s (between-right n flags bars o few chosen free g h e s (rw (← z) b))
+    in-says p y = λ s b. y s (between-right n dependencies dependents o few chosen free g h e s (rw (← z) b))
 
-  module _ (f r : ℕ) (ef : f ≡ without free (getD bars h 0)) (er : r ≡ without free (getD flags h 0)) where
-    both : (q : ℕ → Bool) → countBelow (λ s. q s && validBetween flags n chosen free s) (2 ^ n)
-        ≡ countBelow (λ s. q s && validBetween flags n chosen f s) (2 ^ n) + countBelow (λ s. q s && validBetween flags n (bitOr chosen (getD flags h 0)) r s) (2 ^ n)
-    both q = rw (ef, er) (counts-split n flags bars o few chosen free g h e q (2 ^ n))
+  module _ (f r : ℕ) (ef : f ≡ without free (getD dependents h 0)) (er : r ≡ without free (getD dependencies h 0)) where
+    both : (q : ℕ → Bool) → countBelow (λ s. q s && validBetween dependencies n chosen free s) (2 ^ n)
+        ≡ countBelow (λ s. q s && validBetween dependencies n chosen f s) (2 ^ n) + countBelow (λ s. q s && validBetween dependencies n (bitOr chosen (getD dependencies h 0)) r s) (2 ^ n)
+    both q = rw (ef, er) (counts-split n dependencies dependents o few chosen free g h e q (2 ^ n))
 
-    narrow-left : (s : ℕ) → validBetween flags n chosen f s ≡ true → validBetween flags n chosen free s ≡ true
+    narrow-left : (s : ℕ) → validBetween dependencies n chosen f s ≡ true → validBetween dependencies n chosen free s ≡ true
     unfolding validBetween
-    narrow-left s v = both-between flags n chosen free s (between-valid flags n chosen f s v) (between-left n flags bars o few chosen free g h e s (rw (← ef) (valid-between flags n chosen f s v)))
+    narrow-left s v = both-between dependencies n chosen free s (between-valid dependencies n chosen f s v) (between-left n dependencies dependents o few chosen free g h e s (rw (← ef) (valid-between dependencies n chosen f s v)))
 
-    narrow-right : (s : ℕ) → validBetween flags n (bitOr chosen (getD flags h 0)) r s ≡ true → validBetween flags n chosen free s ≡ true
+    narrow-right : (s : ℕ) → validBetween dependencies n (bitOr chosen (getD dependencies h 0)) r s ≡ true → validBetween dependencies n chosen free s ≡ true
     unfolding validBetween
-    narrow-right s v = both-between flags n chosen free s (between-valid flags n (bitOr chosen (getD flags h 0)) r s v) (between-right n flags bars o few chosen free g h e s (rw (← er) (valid-between flags n (bitOr chosen (getD flags h 0)) r s v)))
+    narrow-right s v = both-between dependencies n chosen free s (between-valid dependencies n (bitOr chosen (getD dependencies h 0)) r s v) (between-right n dependencies dependents o few chosen free g h e s (rw (← er) (valid-between dependencies n (bitOr chosen (getD dependencies h 0)) r s v)))
 
-    module _ (j : Judgement) (room : Room flags n chosen free j) where
-      pub room-left : Room flags n chosen f j
+    module _ (j : Judgement) (room : Room dependencies n chosen free j) where
+      pub room-left : Room dependencies n chosen f j
       room-left = let b = both (λ s. true) in let v = room .valid in let w = room .bad in record { valid = omega (arith, b, v); bad = omega (arith, b, w) }
 
       module _ (column base : List ℕ) (checks : List Check) (first : Judgement)
-          (gain : Gains (validBetween flags n chosen f) (badBetween column base n checks flags chosen f) (2 ^ n) j first) where
-        fewer : countBelow (badBetween column base n checks flags chosen f) (2 ^ n) ≤ countBelow (validBetween flags n chosen f) (2 ^ n)
+          (gain : Gains (validBetween dependencies n chosen f) (badBetween column base n checks dependencies chosen f) (2 ^ n) j first) where
+        fewer : countBelow (badBetween column base n checks dependencies chosen f) (2 ^ n) ≤ countBelow (validBetween dependencies n chosen f) (2 ^ n)
         unfolding badBetween
-        fewer = count-less _ _ (2 ^ n) (λ s b. and-right (not (allHold column base n checks s)) (validBetween flags n chosen f s) b)
+        fewer = count-less _ _ (2 ^ n) (λ s b. and-right (not (allHold column base n checks s)) (validBetween dependencies n chosen f s) b)
 
-        pub room-right : Room flags n (bitOr chosen (getD flags h 0)) r first
+        pub room-right : Room dependencies n (bitOr chosen (getD dependencies h 0)) r first
         room-right =
             let b = both (λ s. true) in
             let l = fewer in
@@ -217,8 +217,8 @@ module _ (flags bars : List ℕ) (n chosen free h : ℕ) (k : Fork flags bars n 
               bad = let v = room .bad in let q = gain .bad in omega (arith, b, v, q, l);
             }
 
-        pub walk-both : (last : Judgement) → Gains (validBetween flags n (bitOr chosen (getD flags h 0)) r) (badBetween column base n checks flags (bitOr chosen (getD flags h 0)) r) (2 ^ n) first last
-            → Gains (validBetween flags n chosen free) (badBetween column base n checks flags chosen free) (2 ^ n) j last
+        pub walk-both : (last : Judgement) → Gains (validBetween dependencies n (bitOr chosen (getD dependencies h 0)) r) (badBetween column base n checks dependencies (bitOr chosen (getD dependencies h 0)) r) (2 ^ n) first last
+            → Gains (validBetween dependencies n chosen free) (badBetween column base n checks dependencies chosen free) (2 ^ n) j last
         unfolding badBetween
         walk-both last next =
             record {
@@ -234,10 +234,10 @@ module _ (flags bars : List ℕ) (n chosen free h : ℕ) (k : Fork flags bars n 
               none = λ f d. next .none (gain .none f) d;
             }
           where
-            widen : {v : ℕ → Bool} → ((s : ℕ) → v s ≡ true → validBetween flags n chosen free s ≡ true) → (s : ℕ) → not (allHold column base n checks s) && v s ≡ true
-                → not (allHold column base n checks s) && validBetween flags n chosen free s ≡ true
+            widen : {v : ℕ → Bool} → ((s : ℕ) → v s ≡ true → validBetween dependencies n chosen free s ≡ true) → (s : ℕ) → not (allHold column base n checks s) && v s ≡ true
+                → not (allHold column base n checks s) && validBetween dependencies n chosen free s ≡ true
             widen {v} f s b =
-                and-intro (not (allHold column base n checks s)) (validBetween flags n chosen free s) (and-left (not (allHold column base n checks s)) (v s) b)
+                and-intro (not (allHold column base n checks s)) (validBetween dependencies n chosen free s) (and-left (not (allHold column base n checks s)) (v s) b)
                 (f s (and-right (not (allHold column base n checks s)) (v s) b))
 
 -- ---- all schedules
@@ -248,17 +248,17 @@ all-are n few = power-is n (omega arith)
 pub all-some : (n : ℕ) → n ≤ mostMain → 1 ≤ 1 * 2 ^ n % 18446744073709551616
 all-some n few = rw (all-are n few) (pow-pos n)
 
-module _ (rows flags bars : List ℕ) (n : ℕ) (few : n ≤ mostMain) (o : Orders rows n flags bars) where
-  pub start-order : Order n flags bars
+module _ (rows dependencies dependents : List ℕ) (n : ℕ) (few : n ≤ mostMain) (o : Orders rows n dependencies dependents) where
+  pub start-order : Order n dependencies dependents
   start-order = o .order
 
-  pub start-choice : Choice flags n 0 (1 * 2 ^ n % 18446744073709551616 - 1)
-  start-choice = rw (all-are n few) (all-free n flags bars (o .order))
+  pub start-choice : Choice dependencies n 0 (1 * 2 ^ n % 18446744073709551616 - 1)
+  start-choice = rw (all-are n few) (all-free n dependencies dependents (o .order))
 
-  pub start-room : (j : Judgement) → j .valid ≡ 0 → j .bad ≡ 0 → Room flags n 0 (1 * 2 ^ n % 18446744073709551616 - 1) j
+  pub start-room : (j : Judgement) → j .valid ≡ 0 → j .bad ≡ 0 → Room dependencies n 0 (1 * 2 ^ n % 18446744073709551616 - 1) j
   start-room j v b =
       let f = 1 * 2 ^ n % 18446744073709551616 - 1 in
-      let m = count-most (validBetween flags n 0 f) (2 ^ n) in
+      let m = count-most (validBetween dependencies n 0 f) (2 ^ n) in
       let p = pow-mono {i = n} {j = mostMain} few in
       record { valid = omega (arith, m, p, v); bad = omega (arith, m, p, b) }
 
@@ -267,16 +267,16 @@ module _ (rows flags bars : List ℕ) (n : ℕ) (few : n ≤ mostMain) (o : Orde
   start-says column base checks chosen free = λ s b. checks-start (diskOf column base n s) checks
 
   module _ (column base : List ℕ) (checks : List Check) (j r : Judgement) (zero-valid : j .valid ≡ 0) (zero-bad : j .bad ≡ 0) (zero-shown : j .shown ≡ 0)
-      (gain : Gains (validBetween flags n 0 (1 * 2 ^ n % 18446744073709551616 - 1)) (badBetween column base n checks flags 0 (1 * 2 ^ n % 18446744073709551616 - 1)) (2 ^ n) j r) where
-    valid-same : (s : ℕ) → s < 2 ^ n → validBetween flags n 0 (1 * 2 ^ n % 18446744073709551616 - 1) s ≡ validRows rows n s
+      (gain : Gains (validBetween dependencies n 0 (1 * 2 ^ n % 18446744073709551616 - 1)) (badBetween column base n checks dependencies 0 (1 * 2 ^ n % 18446744073709551616 - 1)) (2 ^ n) j r) where
+    valid-same : (s : ℕ) → s < 2 ^ n → validBetween dependencies n 0 (1 * 2 ^ n % 18446744073709551616 - 1) s ≡ validRows rows n s
     unfolding validBetween
-    valid-same s h = rw (all-are n few, all-between n flags bars (o .order) s h, o .same s h) (go (validRows rows n s))
+    valid-same s h = rw (all-are n few, all-between n dependencies dependents (o .order) s h, o .same s h) (go (validRows rows n s))
       where
         go : (b : Bool) → b && true ≡ b
         go true = refl
         go false = refl
 
-    bad-same : (s : ℕ) → s < 2 ^ n → badBetween column base n checks flags 0 (1 * 2 ^ n % 18446744073709551616 - 1) s ≡ badRows rows n base (heldFrom column 0 n) checks s
+    bad-same : (s : ℕ) → s < 2 ^ n → badBetween column base n checks dependencies 0 (1 * 2 ^ n % 18446744073709551616 - 1) s ≡ badRows rows n base (heldFrom column 0 n) checks s
     unfolding badBetween badRows allHold
     bad-same s h = rw (valid-same s h) (go (not (consistent checks (diskOf column base n s))) (validRows rows n s))
       where

@@ -29,12 +29,12 @@ pub record Tallies (v b : ℕ → Bool) (n : ℕ) (j : Judgement) : Type 0 where
 
 -- a schedule between two sets is bad: valid, and some check fails of its disk
 unfoldable pub badBetween : List ℕ → List ℕ → ℕ → List Check → List ℕ → ℕ → ℕ → ℕ → Bool
-badBetween column base n checks flags chosen free s = not (allHold column base n checks s) && validBetween flags n chosen free s
+badBetween column base n checks dependencies chosen free s = not (allHold column base n checks s) && validBetween dependencies n chosen free s
 
 -- there is room in the counts for all valid ones
-pub record Room (flags : List ℕ) (n chosen free : ℕ) (j : Judgement) : Type 0 where
-  pub valid : j .valid + countBelow (validBetween flags n chosen free) (2 ^ n) ≤ mostSchedules
-  pub bad : j .bad + countBelow (validBetween flags n chosen free) (2 ^ n) ≤ mostSchedules
+pub record Room (dependencies : List ℕ) (n chosen free : ℕ) (j : Judgement) : Type 0 where
+  pub valid : j .valid + countBelow (validBetween dependencies n chosen free) (2 ^ n) ≤ mostSchedules
+  pub bad : j .bad + countBelow (validBetween dependencies n chosen free) (2 ^ n) ≤ mostSchedules
 
 -- the counts with the schedules below n in them that pass one test, and another if they are bad
 pub record Gains (v b : ℕ → Bool) (n : ℕ) (old new : Judgement) : Type 0 where

@@ -52,8 +52,8 @@ fn walk(
     base: &[u32; DISK_BLOCKS],
     stores: &[u64; model::MOST_INITIAL],
     writers: &[u64; DISK_BLOCKS],
-    flags: &[u64; 64],
-    bars: &[u64; 64],
+    dependencies: &[u64; 64],
+    dependents: &[u64; 64],
     n: usize,
     checks: [Check; MOST_CHECKS],
     m: usize,
@@ -61,32 +61,35 @@ fn walk(
     chosen: u64,
     free: u64,
 ) -> Judgement
-    requires { ⌜ (Ready (now stores) (now base) n (now writers) × (Order n (now flags) (now bars) × Choice (now flags) n chosen free)) × (((k ≤ m) × (m ≤ mostChecks)) × (Says (allHold (now stores) (now base) n (take k checks)) chosen free Answer.Yes × Room (now flags) n chosen free j)) ⌝ }
-    ensures { λ r. ⌜ Gains (validBetween (now (flags .entry)) n chosen free) (badBetween (now (stores .entry)) (now (base .entry)) n (take m checks) (now (flags .entry)) chosen free) (2 ^ n) j r ⌝ }
+    requires { ⌜ (Ready (now stores) (now base) n (now writers) × (Order n (now dependencies) (now dependents) × Choice (now dependencies) n chosen free)) × (((k ≤ m) × (m ≤ mostChecks)) × (Says (allHold (now stores) (now base) n (take k checks)) chosen free Answer.Yes × Room (now dependencies) n chosen free j)) ⌝ }
+    ensures { λ r. ⌜ Gains (validBetween (now (dependencies .entry)) n chosen free) (badBetween (now (stores .entry)) (now (base .entry)) n (take m checks) (now (dependencies .entry)) chosen free) (2 ^ n) j r ⌝ }
 {
     let asked = judge_settled::ask_checks(base, stores, writers, n, chosen, free, checks, m, k);
     let from = asked.from;
     let answer = asked.answer;
     if judge_settled::is_yes(answer) {
-        return add_good(j, judge_closed::count_between(flags, bars, n, chosen, free));
+        return add_good(
+            j,
+            judge_closed::count_between(dependencies, dependents, n, chosen, free),
+        );
     }
     if judge_settled::is_no(answer) {
         return add_bad(
             j,
-            judge_closed::count_between(flags, bars, n, chosen, free),
+            judge_closed::count_between(dependencies, dependents, n, chosen, free),
             chosen,
         );
     }
     let h = judge_settled::open_at(answer);
-    let with = flags[h];
-    let out = relation::without(free, bars[h]);
+    let with = dependencies[h];
+    let out = relation::without(free, dependents[h]);
     let first = walk(
         j,
         base,
         stores,
         writers,
-        flags,
-        bars,
+        dependencies,
+        dependents,
         n,
         checks,
         m,
@@ -100,8 +103,8 @@ fn walk(
         base,
         stores,
         writers,
-        flags,
-        bars,
+        dependencies,
+        dependents,
         n,
         checks,
         m,
@@ -123,9 +126,9 @@ pub fn count_all(
     requires { ⌜ (n ≤ mostMain) × ((m ≤ mostChecks) × Narrow (now rows) n) ⌝ }
     ensures { λ r. ⌜ Tallies (validRows (now (rows .entry)) n) (badRows (now (rows .entry)) n base (heldFrom (now (stores .entry)) 0 n) (take m checks)) (2 ^ n) r ⌝ }
 {
-    let mut flags = [0u64; 64];
-    let mut bars = [0u64; 64];
-    judge_closed::order(&mut flags, &mut bars, rows, n);
+    let mut dependencies = [0u64; 64];
+    let mut dependents = [0u64; 64];
+    judge_closed::order(&mut dependencies, &mut dependents, rows, n);
     let mut writers = [0u64; DISK_BLOCKS];
     judge_settled::fill_writers(&mut writers, stores, n);
     let none = Judgement {
@@ -138,8 +141,8 @@ pub fn count_all(
         &base,
         stores,
         &writers,
-        &flags,
-        &bars,
+        &dependencies,
+        &dependents,
         n,
         checks,
         m,

@@ -51,13 +51,12 @@ module _ (low high : List ℕ) (near x y : ℕ) (h : x < 2 ^ near) where
       let q = part-below (getD low (s % 2 ^ near) 0) s near p in
       false≢true (sym e ∙ subst (λ (z : ℕ). partOf (getD low z 0 % 2 ^ near) z ≡ true) first-is q))
 
-  pub unended : y < halfSets → mayEnd high near y ≡ false → validBy low high near s ≡ false
+  pub unended : mayEnd high near y ≡ false → validBy low high near s ≡ false
   unfolding mayEnd
-  unended l e = untrue _ (λ v.
-      let z : s / 2 ^ near % halfSets ≡ y = ap (λ (k : ℕ). k % halfSets) rest-is ∙ mod-eq-of-lt l in
-      let p : partOf (getD high (s / 2 ^ near % halfSets) 0) s ≡ true = and-right (partOf (getD low (s % 2 ^ near) 0) s) _ (sym (valid-both low high near s) ∙ v) in
-      let q = part-from (getD high (s / 2 ^ near % halfSets) 0) s near p in
-      false≢true (sym e ∙ rw (z, rest-is) at q))
+  unended e = untrue _ (λ v.
+      let p : partOf (getD high (s / 2 ^ near) 0) s ≡ true = and-right (partOf (getD low (s % 2 ^ near) 0) s) _ (sym (valid-both low high near s) ∙ v) in
+      let q = part-from (getD high (s / 2 ^ near) 0) s near p in
+      false≢true (sym e ∙ rw rest-is at q))
 
 -- ---- the list of ends
 

@@ -46,19 +46,19 @@ flags-below s k h =
 
 module _ (low high : List ℕ) (near s : ℕ) where
   -- valid exactly if all that the first flags depend on is flagged, and all that those behind do
-  pub valid-both : validBy low high near s ≡ partOf (getD low (s % 2 ^ near) 0) s && partOf (getD high (s / 2 ^ near % halfSets) 0) s
+  pub valid-both : validBy low high near s ≡ partOf (getD low (s % 2 ^ near) 0) s && partOf (getD high (s / 2 ^ near) 0) s
   unfolding validBy needed
-  valid-both = part-or (getD low (s % 2 ^ near) 0) (getD high (s / 2 ^ near % halfSets) 0) s
+  valid-both = part-or (getD low (s % 2 ^ near) 0) (getD high (s / 2 ^ near) 0) s
 
   module _ (x : ℕ) (e : x ≡ s % 2 ^ near) where
     pub valid-broken : (bitAnd (getD low x 0) s ≡ getD low x 0 → ⊥) → false ≡ validBy low high near s
     unfolding partOf
     valid-broken h = sym (valid-both ∙ rw (← e, ne-eqb _ _ h))
 
-    pub valid-next : bitAnd (getD low x 0) s ≡ getD low x 0 → s / 2 ^ near < halfSets
+    pub valid-next : bitAnd (getD low x 0) s ≡ getD low x 0
         → eqb (bitAnd (getD high (s / 2 ^ near) 0) s) (getD high (s / 2 ^ near) 0) ≡ validBy low high near s
     unfolding partOf
-    valid-next h f = sym (valid-both ∙ rw (← e, mod-eq-of-lt f, eq-eqb _ _ h))
+    valid-next h = sym (valid-both ∙ rw (← e, eq-eqb _ _ h))
 
 -- write i of a schedule, if flagged, has all of its row flagged
 abbrev covers : List ℕ → ℕ → ℕ → Bool
@@ -71,11 +71,9 @@ validates rows low high n near l e u v s h =
     let z : near + far ≡ n = omega arith in
     let first : s % 2 ^ near < 2 ^ near = mod-lt s {m = 2 ^ near} (pow-pos near) in
     let next : s / 2 ^ near < 2 ^ far = shr-lt far near (let y : far + near ≡ n = omega arith in rw y h) in
-    let few : 2 ^ far ≤ halfSets = sets-fit far halfSets refl (omega arith) in
-    let same : s / 2 ^ near % halfSets ≡ s / 2 ^ near = mod-eq-of-lt (omega arith) in
     rw (← e)
     (valid-both low high near s
-    ∙ rw (same, u .at (s % 2 ^ near) first, v .at (s / 2 ^ near) next, union-part (rowsOn rows 0) (s % 2 ^ near) near s, union-part (rowsOn rows near) (s / 2 ^ near) far s)
+    ∙ rw (u .at (s % 2 ^ near) first, v .at (s / 2 ^ near) next, union-part (rowsOn rows 0) (s % 2 ^ near) near s, union-part (rowsOn rows near) (s / 2 ^ near) far s)
     (ap₂ _&&_
     (allBelow-ext _ (covers rows s) near (λ i k. rw (zero-add i, bit-mod s near i k)))
     (allBelow-ext _ (λ i. covers rows s (near + i)) far (λ i k. rw (bit-shift s near i))))

@@ -37,7 +37,7 @@ halfSets = 2 ^ mostHalf
 
 -- all that the flagged writes of a schedule depend on, by the unions of the rows of the first `near` writes and of those behind
 unfoldable pub needed : List ℕ → List ℕ → ℕ → ℕ → ℕ
-needed low high near s = bitOr (getD low (s % 2 ^ near) 0) (getD high (s / 2 ^ near % halfSets) 0)
+needed low high near s = bitOr (getD low (s % 2 ^ near) 0) (getD high (s / 2 ^ near) 0)
 
 -- a schedule is valid by these unions: all of it is flagged
 unfoldable pub validBy : List ℕ → List ℕ → ℕ → ℕ → Bool

@@ -45,7 +45,7 @@ pub fn prepare(low: &mut [u64], high: &mut [u64], rows: &[u64; 64], n: usize)
 // Whether a schedule is valid: all that its flagged writes depend on is flagged. The flags of its first
 // `near` writes are looked up, and those behind only where the first show no unflagged dependency.
 pub fn is_valid(low: &[u64], high: &[u64], near: usize, s: u64) -> bool
-    requires { ⌜ ((near ≤ mostHalf) × (2 ^ near ≤ length (now low))) × ((s / 2 ^ near < length (now high)) × (s / 2 ^ near < halfSets)) ⌝ }
+    requires { ⌜ ((near ≤ mostHalf) × (2 ^ near ≤ length (now low))) × (s / 2 ^ near < length (now high)) ⌝ }
     ensures { λ r. ⌜ r ≡ validBy (now (low .entry)) (now (high .entry)) near s ⌝ }
 {
     let first = low[first_flags(s, near) as usize];

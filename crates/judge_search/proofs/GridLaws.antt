@@ -90,7 +90,7 @@ module _ (low high base t : List ℕ) (cs : List Check) (near far : ℕ) where
 
       -- none ends with flags that lack one
       left-out : (y : ℕ) → y < 2 ^ far → mayEnd high near y ≡ false → good (x + 2 ^ near * y) ≡ false
-      left-out y l e = let f = sets-fit far halfSets refl h in unended low high near x y inside (omega arith) e
+      left-out y l e = unended low high near x y inside e
 
       pub listed-bad : countBelow (listed ends wrong) many ≡ countBelow (after bad x (2 ^ near)) (2 ^ far)
       unfolding listed after badBy

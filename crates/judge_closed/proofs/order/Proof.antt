@@ -6,14 +6,14 @@ use Rattle.judge_closed.proofs.order.Tie as tie
 close-requires : tie.Need-close-requires
 close-requires c κs = search ordering
 
-fill-flags-requires : tie.Need-fill-flags-requires
-fill-flags-requires c κs = search ordering
+fill-dependencies-requires : tie.Need-fill-dependencies-requires
+fill-dependencies-requires c κs = search ordering
 
-fill-bars-requires : tie.Need-fill-bars-requires
-fill-bars-requires c κs = search ordering
+fill-dependents-requires : tie.Need-fill-dependents-requires
+fill-dependents-requires c κs = search ordering
 
 returns : tie.Need-returns
 returns c = search ordering
 
 pub order-spec : {M : Type 1} → statement M
-order-spec = tie.close (tie.spec close-requires fill-flags-requires fill-bars-requires returns)
+order-spec = tie.close (tie.spec close-requires fill-dependencies-requires fill-dependents-requires returns)

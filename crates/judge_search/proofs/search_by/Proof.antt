@@ -13,7 +13,7 @@ use Rattle.judge_checks.proofs.CheckSteps.{checks-start, checks-more, checks-st
 use Rattle.judge_disks.proofs.RestoreLaws.{restored-run, ran, mid-length}
 use Rattle.judge_schedules.specs.Halves.{halfSets, validBy}
 use Rattle.judge_search.specs.declared.Verdict.the-variants.{Holds}
-use Rattle.judge_search.proofs.CountLaws.{badAt, end-below, end-inside, joined-end}
+use Rattle.judge_search.proofs.CountLaws.{badAt, end-inside, joined-end}
 use Rattle.judge_search.proofs.SearchLaws.{searching, clearing, Clear, clear-skip, clear-pass, stops-here, stops-none, Cleared, cleared-skip, cleared-more, finds-bad}
 use Rattle.judge_search.proofs.search_by.Statement.{statement}
 use Rattle.judge_search.proofs.search_by.Tie as tie
@@ -82,10 +82,7 @@ is-valid-requires c κs =
     let w = c .before .before .before .before .before .before .before .before .before .search in
     let p = c .before .before .before .before .before .before .before .before .before .before .before .before .before .before .pre in (
       (p .0 .0 .0, p .0 .1 .0),
-      (
-        joined-end _ (w .x) _ _ _ (c .joined .ensures) (omega (arith, w .inv .0, w .inv .1, c .before .before .before .before .before .before .before .before .search-test .taken)) (end-inside _ _ _ _ (p .1 .1 .1) (p .0 .0 .1 .0) (o .k) _ (omega arith) (p .0 .1 .1)),
-        joined-end _ (w .x) _ _ _ (c .joined .ensures) (omega (arith, w .inv .0, w .inv .1, c .before .before .before .before .before .before .before .before .search-test .taken)) (end-below _ _ _ _ (p .1 .1 .1) (p .0 .0 .1 .0) (o .k) (omega arith)),
-      ),
+      joined-end _ (w .x) _ _ _ (c .joined .ensures) (omega (arith, w .inv .0, w .inv .1, c .before .before .before .before .before .before .before .before .search-test .taken)) (end-inside _ _ _ _ (p .1 .1 .1) (p .0 .0 .1 .0) (o .k) _ (omega arith) (p .0 .1 .1)),
     )
 
 add-k : tie.Need-add-k Inv-loop μ-loop Inv-ends μ-ends Inv-search μ-search

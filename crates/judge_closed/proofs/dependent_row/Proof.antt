@@ -1,16 +1,16 @@
--- `judge_closed::bar_row` meets its contract. The invariant: the mask of the writes below i.
+-- `judge_closed::dependent_row` meets its contract. The invariant: the mask of the writes below i.
 use mathlib.Core.Path.{_≡_}
 use Prim.Native.Nat.{_-_, _≤_}
-use Rattle.judge_closed.specs.Closed.{barred}
-use Rattle.judge_closed.proofs.OrderLaws.{barred-more, ordering}
-use Rattle.judge_closed.proofs.bar_row.Statement.{statement}
-use Rattle.judge_closed.proofs.bar_row.Tie as tie
+use Rattle.judge_closed.specs.Closed.{reachingRow}
+use Rattle.judge_closed.proofs.OrderLaws.{reachingRow-more, ordering}
+use Rattle.judge_closed.proofs.dependent_row.Statement.{statement}
+use Rattle.judge_closed.proofs.dependent_row.Tie as tie
 
 abbrev Inv-loop : tie.InvT-loop
-Inv-loop flags j n mask₀ i₀ mask i = (i ≤ n) × (mask ≡ barred flags i j)
+Inv-loop dependencies j n mask₀ i₀ mask i = (i ≤ n) × (mask ≡ reachingRow dependencies i j)
 
 abbrev μ-loop : tie.MeasureT-loop
-μ-loop flags j n mask₀ i₀ mask i = n - i
+μ-loop dependencies j n mask₀ i₀ mask i = n - i
 
 loop-holds : tie.Need-loop-holds Inv-loop μ-loop
 loop-holds c = search ordering
@@ -36,13 +36,13 @@ loop-less c = search ordering
 loop-again : tie.Need-loop-again Inv-loop μ-loop
 loop-again c =
     let l = c .before .before .before .before .loop in
-    (search ordering, barred-more _ _ (l .i) (l .mask) _ (c .before .has-bit .result) (l .inv .1) (c .before .has-bit .ensures) (c .with-if .ensures))
+    (search ordering, reachingRow-more _ _ (l .i) (l .mask) _ (c .before .has-bit .result) (l .inv .1) (c .before .has-bit .ensures) (c .with-if .ensures))
 
 returns : tie.Need-returns Inv-loop μ-loop
 returns c = search ordering
 
-pub bar-row-spec : {M : Type 1} → statement M
-bar-row-spec =
+pub dependent-row-spec : {M : Type 1} → statement M
+dependent-row-spec =
     tie.close
     (tie.spec
     Inv-loop
