@@ -10,8 +10,8 @@
  * it.
  *
  * Nothing here uses the heap. On the stack judge keeps a few disks of 1,024 bytes, a table of 2,048
- * and several of 512, and calls itself once more for each main write that it chooses; verdict keeps,
- * beside the disks, three tables of 8,192 bytes where the test has over 12 main writes, of 512 where
+ * and several of 512, and calls itself once more for each main write that it decides on; verdict
+ * keeps, beside the disks, three tables of 8,192 bytes where the test has over 12 main writes, of 512 where
  * it has not; find a table of 32,768 bytes, two of 16,384 and one of 8,192. What the compiled code
  * needs beyond these is not proved: these routines are for a host, not for firmware.
  */

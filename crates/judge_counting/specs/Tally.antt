@@ -36,7 +36,7 @@ pub record Room (dependencies : List ℕ) (n chosen free : ℕ) (j : Judgement) 
   pub valid : j .valid + countBelow (validBetween dependencies n chosen free) (2 ^ n) ≤ mostSchedules
   pub bad : j .bad + countBelow (validBetween dependencies n chosen free) (2 ^ n) ≤ mostSchedules
 
--- the counts with the schedules below n in them that pass one test, and another if they are bad
+-- valid and bad have grown by how many numbers below n pass v and b; the one shown is the old one, or passes b
 pub record Gains (v b : ℕ → Bool) (n : ℕ) (old new : Judgement) : Type 0 where
   pub valid : new .valid ≡ old .valid + countBelow v n
   pub bad : new .bad ≡ old .bad + countBelow b n

@@ -45,8 +45,9 @@ fn add_bad(j: Judgement, many: u64, s: u64) -> Judgement
     }
 }
 
-// The valid schedules in the counts that have what is chosen and, beyond it, only what is free. The first k
-// checks hold of all of them. Where a check hangs on a free write, first those without it, then those with it.
+// Adds to the counts the valid schedules that have what is chosen and, beyond it, only what is free. The first
+// k checks hold of all of them. Where a check hangs on a free write, those without it come first, with all that
+// depends on it left out too, and then those with it and with all that it depends on.
 fn walk(
     j: Judgement,
     base: &[u32; DISK_BLOCKS],

@@ -1,3 +1,4 @@
 pub mod RowLaws
 pub mod RowSteps
 pub mod Theorems
+pub mod Examples

@@ -1,4 +1,4 @@
--- One beginning: the counts with its first ends in them, and the search through its ends.
+-- A schedule put together of its beginning and its end, and the ends that are listed.
 use mathlib.Core.Path.{_≡_, refl}
 use mathlib.Core.Bool.{Bool}
 use mathlib.Core.List.{List}

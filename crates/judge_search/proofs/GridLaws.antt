@@ -15,8 +15,7 @@ use Rattle.model.specs.Test.{countBelow}
 use Rattle.model.proofs.TestLaws.{count-ext, none-count, count-append}
 use Rattle.judge_disks.specs.Packed.{heldFrom}
 use Rattle.judge_disks.proofs.DiskSteps.{run-parts}
-use Rattle.judge_schedules.specs.Halves.{badRows, firstHalf, mostHalf, halfSets, validBy, Validates, mayBegin, mayEnd, Lists}
-use Rattle.judge_schedules.proofs.SetLaws.{sets-fit}
+use Rattle.judge_schedules.specs.Halves.{badRows, firstHalf, mostHalf, validBy, Validates, mayBegin, mayEnd, Lists}
 use Rattle.judge_schedules.proofs.EndLaws.{unbegun, unended, listed-below, listed-count}
 use Rattle.judge_search.specs.Search.{badBy, after, badEnd, listed}
 

@@ -106,7 +106,7 @@ fn find_by(
     search_by(low, high, ends, many, base, stores, near, far, checks, m)
 }
 
-// The same, with tables as long as the test needs: a short one's are made in a fraction of the time.
+// The same, with tables of its own: those of a short test are made in a fraction of the time.
 pub fn first_bad(
     rows: &[u64; 64],
     base: [u32; DISK_BLOCKS],

@@ -23,7 +23,7 @@ use Rattle.judge_checks.proofs.CheckSteps.{checks-stop, checks-more}
 use Rattle.judge_closed.specs.Closed.{between}
 use Rattle.judge_settled.specs.declared.Answer.{Answer}
 use Rattle.judge_settled.specs.declared.Answer.the-variants.{Yes, No, Open}
-use Rattle.judge_settled.specs.Settled.{Says, isYes, opposed, diskOf, laid, isBlock, holdsIn, allHold, ownBlock, knownOf, isKnown, isThere, rangeIn, pairIn, pointerIn, holdsWith, holdsBy, valued, Ready}
+use Rattle.judge_settled.specs.Settled.{Says, isYes, opposed, diskOf, laid, isBlock, holdsIn, allHold, ownBlock, knownOf, isKnown, isThere, rangeIn, holdsBy, valued, Ready}
 
 -- ---- answers handed on
 
@@ -58,15 +58,18 @@ says-other p q chosen free (Open h) g e f = g
 module _ (column base : List ℕ) (n chosen free : ℕ) where
   -- ---- one block known
 
+  known-at : (writers : List ℕ) → Ready column base n writers → (a own s : ℕ) → a < diskBlocks → blockAt (knownOf column base n a own s) a ≡ own
+  known-at writers ready a own s inside =
+      let size : length (diskOf column base n s) ≡ diskBlocks = mid-length (heldFrom column 0 n) s base (diskOf column base n s) (ready .size) refl in
+      getD-set-same (diskOf column base n s) a own 0 (omega (arith, size, inside))
+
   module _ (a own k v : ℕ) (answer : Answer) where
     pub known-own : (writers : List ℕ) → Ready column base n writers → k < diskBlocks → k ≡ a → answer ≡ valued own v → Says (isKnown column base n a own k v) chosen free answer
     unfolding isKnown valued
     known-own writers ready inside e q = rw q (go (eqb own v) refl)
       where
         there : (s : ℕ) → blockAt (knownOf column base n a own s) k ≡ own
-        there s =
-            let size : length (diskOf column base n s) ≡ diskBlocks = mid-length (heldFrom column 0 n) s base (diskOf column base n s) (ready .size) refl in
-            rw e (getD-set-same (diskOf column base n s) a own 0 (omega (arith, size, inside, e)))
+        there s = rw e (known-at writers ready a own s (rw (← e) inside))
 
         go : (t : Bool) → eqb own v ≡ t → Says (isKnown column base n a own k v) chosen free (cond t Yes No)
         go true z = unfold Says in λ s b. rw (there s) z
@@ -132,45 +135,43 @@ module _ (column base : List ℕ) (n chosen free : ℕ) where
         unfolding Says rangeIn rangeHolds
         there-all k g x y = λ s c. let z : k ≡ tail = omega arith in rw (sym d ∙ whole, ← z) (g .at s c)
 
-    -- ---- a pair, a pointer
+  -- ---- a pair, a pointer, a check by its form
+
+  module _ (writers : List ℕ) (ready : Ready column base n writers) (a own : ℕ) (inside : a < diskBlocks) where
+    at : (s : ℕ) → blockAt (knownOf column base n a own s) a ≡ own
+    at s = known-at writers ready a own s inside
 
     module _ (v b w : ℕ) where
-      pub pair-other : (own ≡ v → ⊥) → Says (pairIn column base n a own v b w) chosen free Yes
-      unfolding Says pairIn
-      pair-other d = λ s k. rw (ne-eqb own v d)
+      pub pair-other : (own ≡ v → ⊥) → Says (holdsBy column base n (Pair a v b w) own) chosen free Yes
+      unfolding Says holdsBy holds ownBlock
+      pair-other d = λ s k. rw (at s, ne-eqb own v d)
 
-      pub pair-same : (answer : Answer) → own ≡ v → Says (isKnown column base n a own b w) chosen free answer → Says (pairIn column base n a own v b w) chosen free answer
-      unfolding pairIn isKnown
-      pair-same answer e = says-same (isKnown column base n a own b w) (pairIn column base n a own v b w) chosen free answer (λ s. rw (eq-eqb own v e))
+      pub pair-same : (answer : Answer) → own ≡ v → Says (isKnown column base n a own b w) chosen free answer → Says (holdsBy column base n (Pair a v b w) own) chosen free answer
+      unfolding holdsBy holds ownBlock isKnown
+      pair-same answer e = says-same (isKnown column base n a own b w) (holdsBy column base n (Pair a v b w) own) chosen free answer (λ s. rw (at s, eq-eqb own v e))
 
-    pub pointer-none : own ≡ 0 → Says (pointerIn column base n a own) chosen free Yes
-    unfolding Says pointerIn empty
-    pointer-none e = λ s k. rw (eq-eqb own 0 e)
+    pub pointer-none : own ≡ 0 → Says (holdsBy column base n (Pointer a) own) chosen free Yes
+    unfolding Says holdsBy holds ownBlock empty
+    pointer-none e = λ s k. rw (at s, eq-eqb own 0 e)
 
     module _ (d : own ≡ 0 → ⊥) (to : ℕ) (e : to ≡ secondOf own) where
-      pub pointer-past : lastBlock < to → Says (pointerIn column base n a own) chosen free No
-      unfolding Says pointerIn empty
-      pointer-past l = λ s k. rw (ne-eqb own 0 d, ← e, lt-leb to lastBlock l)
+      pub pointer-past : lastBlock < to → Says (holdsBy column base n (Pointer a) own) chosen free No
+      unfolding Says holdsBy holds ownBlock empty
+      pointer-past l = λ s k. rw (at s, ne-eqb own 0 d, ← e, lt-leb to lastBlock l)
 
-      pub pointer-to : (answer : Answer) → to ≤ lastBlock → Says (isThere column base n a own to) chosen free answer → Says (pointerIn column base n a own) chosen free answer
-      unfolding pointerIn isThere empty
-      pointer-to answer l = says-same (isThere column base n a own to) (pointerIn column base n a own) chosen free answer (λ s. rw (ne-eqb own 0 d, ← e, le-leb to lastBlock l))
+      pub pointer-to : (answer : Answer) → to ≤ lastBlock → Says (isThere column base n a own to) chosen free answer → Says (holdsBy column base n (Pointer a) own) chosen free answer
+      unfolding holdsBy holds ownBlock isThere empty
+      pointer-to answer l = says-same (isThere column base n a own to) (holdsBy column base n (Pointer a) own) chosen free answer (λ s. rw (at s, ne-eqb own 0 d, ← e, le-leb to lastBlock l))
 
-  -- ---- a check, by its form
+    module _ (c : Check) (answer : Answer) where
+      pub with-range : (head tail : ℕ) → c ≡ Range a → head ≡ firstOf own → tail ≡ secondOf own → Says (rangeIn column base n a own head tail) chosen free answer
+          → Says (holdsBy column base n c own) chosen free answer
+      unfolding rangeIn holdsBy holds ownBlock
+      with-range head tail e h t = says-same (rangeIn column base n a own head tail) (holdsBy column base n c own) chosen free answer (λ s. rw (e, at s, h, t))
 
-  module _ (c : Check) (own : ℕ) (answer : Answer) where
-    pub with-range : (a head tail : ℕ) → c ≡ Range a → head ≡ firstOf own → tail ≡ secondOf own → Says (rangeIn column base n a own head tail) chosen free answer
-        → Says (holdsBy column base n c own) chosen free answer
-    unfolding rangeIn holdsBy holdsWith ownBlock
-    with-range a head tail e h t = says-same (rangeIn column base n a own head tail) (holdsBy column base n c own) chosen free answer (λ s. rw (e, h, t))
-
-    pub with-pair : (a v b w : ℕ) → c ≡ Pair a v b w → Says (pairIn column base n a own v b w) chosen free answer → Says (holdsBy column base n c own) chosen free answer
-    unfolding pairIn holdsBy holdsWith ownBlock
-    with-pair a v b w e = says-same (pairIn column base n a own v b w) (holdsBy column base n c own) chosen free answer (λ s. rw e)
-
-    pub with-pointer : (a : ℕ) → c ≡ Pointer a → Says (pointerIn column base n a own) chosen free answer → Says (holdsBy column base n c own) chosen free answer
-    unfolding pointerIn holdsBy holdsWith ownBlock
-    with-pointer a e = says-same (pointerIn column base n a own) (holdsBy column base n c own) chosen free answer (λ s. rw e)
+  module _ (c form : Check) (own : ℕ) (answer : Answer) where
+    pub with-form : c ≡ form → Says (holdsBy column base n form own) chosen free answer → Says (holdsBy column base n c own) chosen free answer
+    with-form e g = rw e g
 
   -- ---- one check after the other
 
@@ -191,4 +192,4 @@ module _ (column base : List ℕ) (n chosen free : ℕ) where
   pub ask-all : (checks : List Check) (m i : ℕ) (answer : Answer) → i ≤ m → m ≤ i → answer ≡ Yes → Says (allHold column base n (take i checks)) chosen free Yes → Says (allHold column base n (take m checks)) chosen free answer
   ask-all checks m i answer a b e g = let z : i ≡ m = omega arith in rw (e, ← z) g
 
-pub ruleset asking = (needs, known-own, known-other, there-says, range-damaged, range-inside, there-none, there-more, there-stop, there-all, range-ordered, pair-other, pair-same, pointer-none, pointer-past, pointer-to, with-range, with-pair, with-pointer, ask-more, ask-stop, ask-all)
+pub ruleset asking = (needs, known-own, known-other, there-says, range-damaged, range-inside, there-none, there-more, there-stop, there-all, range-ordered, pair-other, pair-same, pointer-none, pointer-past, pointer-to, with-range, with-form, ask-more, ask-stop, ask-all)

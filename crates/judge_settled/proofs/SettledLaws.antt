@@ -17,17 +17,15 @@ use Rattle.relation.proofs.BitLaws.{bit-and, bit-or, bit-zero, bit-pow, bit-mas
 use Rattle.relation.proofs.ListLaws.{untrue, or-cases, and-left, and-right, and-intro, clash}
 use Rattle.relation.proofs.SetLaws.{without-member, member-without, without-falls}
 use Rattle.model.specs.declared.Check.{Check}
-use Rattle.model.specs.declared.Check.the-variants.{Range, Pair, Pointer}
 use Rattle.model.specs.Limits.{diskBlocks, mostMain}
 use Rattle.model.specs.Disk.{blockAt}
-use Rattle.model.specs.Check.{holds}
 use Rattle.judge_disks.specs.Packed.{unpacked}
 use Rattle.judge_disks.proofs.LastLaws.{column-none, column-last}
 use Rattle.judge_closed.specs.Closed.{between}
 use Rattle.judge_closed.proofs.ClosedLaws.{between-has, between-may}
 use Rattle.judge_settled.specs.declared.Answer.{Answer}
 use Rattle.judge_settled.specs.declared.Answer.the-variants.{Yes, No, Open}
-use Rattle.judge_settled.specs.Settled.{Says, isYes, opposed, agreed, diskOf, laid, isBlock, holdsIn, ownBlock, holdsWith, holdsBy, valued, writersOf, Ready, Among, Only, definite, Agrees, AlikeIf}
+use Rattle.judge_settled.specs.Settled.{Says, isYes, opposed, agreed, diskOf, laid, isBlock, holdsIn, ownBlock, holdsBy, valued, writersOf, Ready, Among, Only, definite, Agrees, AlikeIf}
 
 -- ---- the writes to an address
 
@@ -87,17 +85,10 @@ per-value column base n chosen free a own v answer e = record { of = λ s b q. r
     go s q true z = unfold isBlock valued in rw (q, z) (unfold Agrees in refl)
     go s q false z = unfold isBlock valued in rw (q, z) (unfold Agrees in refl)
 
-by-own : (disk : List ℕ) (c : Check) → holds disk c ≡ holdsWith disk c (blockAt disk (ownBlock c))
-unfolding holds holdsWith ownBlock
-by-own disk (Range a) = refl
-by-own disk (Pair a v b w) = refl
-by-own disk (Pointer a) = refl
-
--- with the block that is there known the disk is the same
+-- with the block put where it is already the disk is the same
 holds-own : (column base : List ℕ) (n : ℕ) (c : Check) (s own : ℕ) → laid column base n (ownBlock c) s ≡ own → holdsIn column base n c s ≡ holdsBy column base n c own s
 unfolding holdsIn holdsBy laid
-holds-own column base n c s own e =
-    by-own (diskOf column base n s) c ∙ rw (← e) (ap (λ (d : List ℕ). holdsWith d c (blockAt (diskOf column base n s) (ownBlock c))) (sym (set-getD (diskOf column base n s) (ownBlock c) 0)))
+holds-own column base n c s own e = rw (← e, set-getD (diskOf column base n s) (ownBlock c) 0)
 
 pub per-check : (column base : List ℕ) (n chosen free own : ℕ) (c : Check) (answer : Answer) → Says (holdsBy column base n c own) chosen free answer
     → Per (holdsIn column base n c) column base n chosen free (ownBlock c) own answer

@@ -1,15 +1,15 @@
 -- What all schedules between two sets say of a block, of a check, of all checks.
 use Prim.Native.Nat.{ℕ, _≤_, _<_}
 use mathlib.Core.Path.{_≡_}
-use mathlib.Core.Bool.{Bool, true, false, cond, not, _&&_, _||_}
+use mathlib.Core.Bool.{Bool, true, false, cond, not}
 use mathlib.Core.List.{List}
-use lib.Dec.{eqb, leb}
+use lib.Dec.{eqb}
 use lib.ListN.{length, getD, set}
 use Rattle.relation.specs.Bits.{bit, maskOf}
 use Rattle.model.specs.declared.Check.{Check}
 use Rattle.model.specs.declared.Check.the-variants.{Range, Pair, Pointer}
-use Rattle.model.specs.Limits.{diskBlocks, lastBlock, mostMain}
-use Rattle.model.specs.Disk.{empty, firstOf, secondOf, blockAt}
+use Rattle.model.specs.Limits.{diskBlocks, mostMain}
+use Rattle.model.specs.Disk.{empty, blockAt}
 use Rattle.model.specs.Schedule.{run}
 use Rattle.model.specs.Check.{rangeHolds, holds, consistent}
 use Rattle.judge_disks.specs.Packed.{unpacked, heldFrom}
@@ -19,17 +19,19 @@ use Rattle.judge_settled.specs.declared.Answer.the-variants.{Yes, No, Op
 
 -- ---- answers
 
--- what is answered of a test over all schedules between two sets: all pass, none passes, or a free write is named
+-- what is answered of a test over all schedules between two sets: all pass, none passes, or a free write is named, and nothing is said
 unfoldable pub Says : (ℕ → Bool) → ℕ → ℕ → Answer → Type 0
 Says p chosen free Yes = (s : ℕ) → between chosen free s ≡ true → p s ≡ true
 Says p chosen free No = (s : ℕ) → between chosen free s ≡ true → p s ≡ false
 Says p chosen free (Open h) = bit free h ≡ true
 
+-- an answer is yes
 unfoldable pub isYes : Answer → Bool
 isYes Yes = true
 isYes No = false
 isYes (Open h) = false
 
+-- the answer to the opposite question
 unfoldable pub opposed : Answer → Answer
 opposed Yes = No
 opposed No = Yes
@@ -75,7 +77,7 @@ ownBlock (Range a) = a
 ownBlock (Pair a v b w) = a
 ownBlock (Pointer a) = a
 
--- the disk whose block at a is known
+-- the disk with a block put at a: the schedule's own, where that block is there
 abbrev pub knownOf : List ℕ → List ℕ → ℕ → ℕ → ℕ → ℕ → List ℕ
 knownOf column base n a own s = set (diskOf column base n s) a own
 
@@ -86,24 +88,12 @@ isKnown column base n a own k v s = eqb (blockAt (knownOf column base n a own s)
 unfoldable pub isThere : List ℕ → List ℕ → ℕ → ℕ → ℕ → ℕ → ℕ → Bool
 isThere column base n a own k s = not (empty (blockAt (knownOf column base n a own s) k))
 
--- of it a range of blocks, a pair, a pointer hold, the first block of these being the known one
+-- of it a range of blocks holds; a check does, whose own block was put there
 unfoldable pub rangeIn : List ℕ → List ℕ → ℕ → ℕ → ℕ → ℕ → ℕ → ℕ → Bool
 rangeIn column base n a own head tail s = rangeHolds (knownOf column base n a own s) head tail
 
-unfoldable pub pairIn : List ℕ → List ℕ → ℕ → ℕ → ℕ → ℕ → ℕ → ℕ → ℕ → Bool
-pairIn column base n a own v b w s = not (eqb own v) || eqb (blockAt (knownOf column base n a own s) b) w
-
-unfoldable pub pointerIn : List ℕ → List ℕ → ℕ → ℕ → ℕ → ℕ → Bool
-pointerIn column base n a own s = empty own || leb (secondOf own) lastBlock && not (empty (blockAt (knownOf column base n a own s) (secondOf own)))
-
--- of it a check holds
-unfoldable pub holdsWith : List ℕ → Check → ℕ → Bool
-holdsWith disk (Range a) own = rangeHolds disk (firstOf own) (secondOf own)
-holdsWith disk (Pair a v b w) own = not (eqb own v) || eqb (blockAt disk b) w
-holdsWith disk (Pointer a) own = empty own || leb (secondOf own) lastBlock && not (empty (blockAt disk (secondOf own)))
-
 unfoldable pub holdsBy : List ℕ → List ℕ → ℕ → Check → ℕ → ℕ → Bool
-holdsBy column base n c own s = holdsWith (knownOf column base n (ownBlock c) own s) c own
+holdsBy column base n c own s = holds (knownOf column base n (ownBlock c) own s) c
 
 -- a known block is v
 unfoldable pub valued : ℕ → ℕ → Answer

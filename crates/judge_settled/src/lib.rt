@@ -9,9 +9,9 @@ ghost use mathlib.Core.Path.{_≡_};
 ghost use Prim.Native.Nat.{_<_, _≤_};
 ghost use lib.ListN.{length, take};
 ghost use Rattle.model.specs.Limits.{diskBlocks, mostMain, mostChecks};
-ghost use Rattle.judge_settled.specs.Settled.{Says, isYes, opposed, Names, agreed, isBlock, holdsIn, allHold, ownBlock, isKnown, isThere, rangeIn, pairIn, pointerIn, holdsBy, valued, Writers, Blank, Ready, Among, AlikeIf};
+ghost use Rattle.judge_settled.specs.Settled.{Says, isYes, opposed, Names, agreed, isBlock, holdsIn, allHold, ownBlock, isKnown, isThere, rangeIn, holdsBy, valued, Writers, Blank, Ready, Among, AlikeIf};
 
-// What all these schedules say: yes, no, or now this and now that, as a free write is flagged or not.
+// What all these schedules say: yes, or no; or nothing is said, and a free write is named on which it may hang.
 pub enum Answer {
     Yes,
     No,
@@ -186,7 +186,7 @@ fn known_is(
     block_is(base, stores, writers, n, chosen, free, k, v)
 }
 
-// Whether the block at k is not empty.
+// Whether the block at k is not empty, where the block at a is known.
 fn is_there(
     base: &[u32; DISK_BLOCKS],
     stores: &[u64; MOST_INITIAL],
@@ -204,7 +204,8 @@ fn is_there(
     opposite(known_is(base, stores, writers, n, chosen, free, a, own, k, 0))
 }
 
-// Whether head is at most tail and the blocks from head up to tail - 1 are there.
+// Whether a range holds with this head and tail, where the block at a is known: it is not damaged, and the
+// blocks from head up to tail - 1 are not empty.
 fn range_is(
     base: &[u32; DISK_BLOCKS],
     stores: &[u64; MOST_INITIAL],
@@ -234,7 +235,7 @@ fn range_is(
     Answer::Yes
 }
 
-// Whether the block at b is w, where the pair's own block is v.
+// Whether a pair holds, its own block known: if that is v, the block at b is w.
 fn pair_is(
     base: &[u32; DISK_BLOCKS],
     stores: &[u64; MOST_INITIAL],
@@ -248,8 +249,8 @@ fn pair_is(
     b: usize,
     w: u32,
 ) -> Answer
-    requires { ⌜ (b < diskBlocks) × Ready (now stores) (now base) n (now writers) ⌝ }
-    ensures { λ r. ⌜ Says (pairIn (now (stores .entry)) (now (base .entry)) n a own v b w) chosen free r ⌝ }
+    requires { ⌜ ((a < diskBlocks) × (b < diskBlocks)) × Ready (now stores) (now base) n (now writers) ⌝ }
+    ensures { λ r. ⌜ Says (holdsBy (now (stores .entry)) (now (base .entry)) n (Check.Pair a v b w) own) chosen free r ⌝ }
 {
     if own != v {
         return Answer::Yes;
@@ -257,7 +258,7 @@ fn pair_is(
     known_is(base, stores, writers, n, chosen, free, a, own, b, w)
 }
 
-// Whether a pointer's own block is empty or points to one that is there.
+// Whether a pointer holds, its own block known: that is empty, or points to one that is not.
 fn pointer_is(
     base: &[u32; DISK_BLOCKS],
     stores: &[u64; MOST_INITIAL],
@@ -268,8 +269,8 @@ fn pointer_is(
     a: usize,
     own: u32,
 ) -> Answer
-    requires { ⌜ Ready (now stores) (now base) n (now writers) ⌝ }
-    ensures { λ r. ⌜ Says (pointerIn (now (stores .entry)) (now (base .entry)) n a own) chosen free r ⌝ }
+    requires { ⌜ (a < diskBlocks) × Ready (now stores) (now base) n (now writers) ⌝ }
+    ensures { λ r. ⌜ Says (holdsBy (now (stores .entry)) (now (base .entry)) n (Check.Pointer a) own) chosen free r ⌝ }
 {
     if own == 0 {
         return Answer::Yes;
