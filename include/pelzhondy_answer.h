@@ -53,7 +53,7 @@ enum {
     PELZHONDY_LOG_PAST_DISK = 21,  /* the older name of the same number; not both in one switch */
     PELZHONDY_FILE_HAS_TESTS = 22,
     /* No call gives 23. */
-    PELZHONDY_TEST_TOO_LONG = 24 /* of find: a test has over 12 main writes; the others take 20 */
+    PELZHONDY_TEST_TOO_LONG = 24 /* of find: a test has over 12 main writes; other routines take 20 */
 };
 
 /* 1 if the call was refused, else 0. */

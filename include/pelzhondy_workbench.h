@@ -11,9 +11,10 @@
  *
  * Nothing here uses the heap. On the stack judge keeps a few disks of 1,024 bytes, a table of 2,048
  * and several of 512, and calls itself once more for each main write that it decides on; verdict
- * keeps, beside the disks, three tables of 8,192 bytes where the test has over 12 main writes, of 512 where
- * it has not; find a table of 32,768 bytes, two of 16,384 and one of 8,192. What the compiled code
- * needs beyond these is not proved: these routines are for a host, not for firmware.
+ * keeps, beside the disks, three tables of 8,192 bytes and three of 512, of which it fills those that
+ * the test needs; find a table of 32,768 bytes, two of 16,384 and one of 8,192. In all a call of
+ * judge, verdict or judge_lines has used less than 32 KiB, and one of find less than 96, in all cases
+ * that a test measures; this is not proved. These routines are for a host, not for firmware.
  */
 #ifndef PELZHONDY_WORKBENCH_H
 #define PELZHONDY_WORKBENCH_H
@@ -78,8 +79,10 @@ static inline uint32_t pelzhondy_judged_schedule(uint64_t answer)
 /*
  * Answers 0 if the test holds, or 1 + the number of some bad schedule, as soon as there is one. It
  * looks at one valid schedule after another, and where the test holds at all of them; judge does not.
- * So of a long test that holds under few rules, or none, verdict may take much longer than judge.
- * Refused as judge is.
+ * So of a long test that holds under few rules, or none, verdict may take much longer than judge: 20
+ * main writes without rules are 1,048,576 disks, some tenths of a second, where judge takes some
+ * microseconds to milliseconds. Whoever asks of a long test only whether it holds had better ask
+ * judge for the number of bad schedules. Refused as judge is.
  */
 uint64_t pelzhondy_verdict(const uint8_t *file, size_t file_length, uint64_t test);
 

@@ -1,7 +1,7 @@
 /*
  * Calls every routine of the tester's library: makes test K of the bench sheet by trace, asks all that
- * can be asked of it with and without rules, does the same with the longest log that a test can have,
- * and then shows each refusal. From the repository's root, after 'rt staticlib workbench':
+ * can be asked of it with and without rules, asks the same, but for rules, of a log with as many puts
+ * as a test can have, and then shows each refusal. From the repository's root, after 'rt staticlib workbench':
  *
  *     cc -std=c99 -Iinclude examples/workbench/tour.c target/staticlib/libworkbench.a -o target/tour
  *     target/tour
@@ -13,7 +13,7 @@
 #include "pelzhondy_workbench.h"
 
 /* A field is a tag, a length of two bytes and a body; a rule's has six bytes in all. */
-enum { RULE_FIELD = 6, WRITE_FIELD = 13, MOST_RULES = 32, MOST_MAIN = 20, TEST_K = 85 };
+enum { RULE_FIELD = 6, WRITE_FIELD = 13, MOST_RULES = 32, TEST_K = 85 };
 
 /* Test K: before it a put of (0,42); in it puts of (1,81) and (2,37). */
 static const uint8_t initial_puts[] = {0, 0, 0, 42};
@@ -165,7 +165,7 @@ static void print_refusals_of_reading(void)
     static const uint8_t unknown_predicate[] = {3, 0, 3, 2, 3, 1};
     static const uint8_t not_ended[] = {4, 0, 1, 0};
     static const uint8_t main_write[WRITE_FIELD] = {2, 0, 10, 1, 1, 0, 0, 0, 0, 0, 0, 0, 1};
-    uint8_t over_rules[RULE_FIELD * (MOST_RULES + 1)], over_main[WRITE_FIELD * (MOST_MAIN + 1)];
+    uint8_t over_rules[RULE_FIELD * (MOST_RULES + 1)], over_main[WRITE_FIELD * (PELZHONDY_MAIN_WRITES + 1)];
     size_t i;
     for (i = 0; i < sizeof over_rules; i += RULE_FIELD) {
         memcpy(over_rules + i, log_rules, RULE_FIELD);

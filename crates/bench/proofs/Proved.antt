@@ -4,7 +4,7 @@ use mathlib.Core.Bool.{Bool, true, false, cond, not, _||_}
 use mathlib.Core.List.{List, [], _∷_, _++_, append-nil}
 use mathlib.Core.Option.{Option}
 use Prim.{tt}
-use Prim.Native.Nat.{ℕ, zero, suc, _^_}
+use Prim.Native.Nat.{ℕ, _^_}
 use native.Mathlib.Omega.{arith}
 use lib.Count.{ones, onesIn}
 use lib.Dec.{eqb, ltb, lit<}
@@ -26,6 +26,7 @@ use Rattle.model.specs.Schedule.{store, run, written, noWrite, valid}
 use Rattle.model.specs.Check.{damaged, rangeHolds, holds, consistent}
 use Rattle.model.specs.Test.{Test, File, file, initialDisk, Bad, bad, testHolds, schedules, countBelow, validCount, badCount}
 use Rattle.model.specs.Find.{before, picked, pairing, inserted, fromWrite, fromTrace, candidatesOf, suffices, preferred, chosenBelow, chosen}
+use Rattle.model.proofs.CountLaws.{count-all}
 use Rattle.model.proofs.TestLaws.{bad-true, true-bad, bad-fails, count-holds}
 use Rattle.file_format.specs.Bytes.{half, word, blockIn, writeBytes, ruleBytes}
 use Rattle.file_format.specs.Encode.{fieldBytes, ruleFields, writeFields, checkFieldBytes, checkFields, testBytes, testsBytes, fileBytes}
@@ -193,6 +194,11 @@ asked : File → List ℕ → Found
 unfolding reads tooLong any findOf findIn
 asked f buffer = findOf (fileBytes f) buffer
 
+-- the finder's answer where it does look for rules
+twelve : ℕ → Test
+unfolding searched long
+twelve n = long n
+
 -- a program of puts traced
 put-traces : ℕ → List ℕ → Traced
 unfolding made puts
@@ -201,12 +207,6 @@ put-traces n buffer = traceOf [] (puts n) buffer
 ten-room : Roomed [] (puts 10) (logTest [] (putsOf (puts 10))) 267
 unfolding put-traces
 ten-room buffer = refl
-
--- a count of all numbers
-count-all : (p : ℕ → Bool) (n : ℕ) → ((s : ℕ) → p s ≡ true) → countBelow p n ≡ n
-unfolding countBelow
-count-all p zero h = refl
-count-all p (suc n) h = rw (h n, count-all p n h) (omega arith)
 
 unruled : (ws : List Write) (s : ℕ) → valid [] ws s ≡ true
 unfolding valid dependsOn any
@@ -233,9 +233,9 @@ requested =
       one-more-refused = unfold reads in refl;
       all-valid = all-valid;
       twenty-valid = λ t e. all-valid t ∙ ap (λ (n : ℕ). 2 ^ n) e;
-      longest-line = (unfold printed in refl, refl);
+      longest-line = (unfold printed in refl, refl, refl, refl);
       thirteen-refused = ((λ buffer. unfold asked in refl), (λ buffer. unfold asked in refl), λ buffer. unfold asked in refl);
-      twelve-taken = (unfold asked in refl, unfold asked in refl);
+      twelve-taken = (finding _ _ (unfold twelve in refl) (unfold twelve in refl) (λ buffer. unfold twelve in refl), unfold asked in refl);
       ten-traced = λ buffer l. rw (ten-room buffer, le-ltb (length buffer) 267 l);
       eleven-refused = λ buffer. unfold put-traces in refl;
     }

@@ -10,6 +10,7 @@ use mathlib.Core.Option.{Option, none, some}
 use lib.ListN.{length, drop, replicate}
 use Rattle.model.specs.declared.Rule.{Rule}
 use Rattle.model.specs.declared.Write.{Write}
+use Rattle.model.specs.Limits.{mostTests}
 use Rattle.model.specs.declared.Check.the-variants.{Range, Pair}
 use Rattle.model.specs.Answer.{Outcome, answer, refused}
 use Rattle.model.specs.Disk.{block, blockAt}
@@ -23,8 +24,7 @@ use Rattle.judge_cases.specs.Judge.{caseIn}
 use Rattle.log_get.specs.Puts.{Put, start, writesOf, logTest, traced, traceOf}
 use Rattle.log_get.specs.Get.{getOf}
 use Rattle.log_get.specs.Theorem.{filled, Meets}
-use Rattle.judge_text.specs.Lines.{refusedText, failsText, testLine, programText, textLength}
-use Rattle.find_candidates.specs.Tests.{tooLong}
+use Rattle.judge_text.specs.Lines.{refusedText, failsText, testLine, programText, testLength, textLength}
 use Rattle.find_call.specs.Finder.{Found, found, findOf, foundLength}
 use Rattle.cache_model.specs.State.{storedOn}
 use Rattle.cache_model.specs.Calls.{Left, openOf, handInOf, stepOf, given}
@@ -237,12 +237,12 @@ pub record Requested : Type 0 where
   -- without rules every schedule is valid, so 1,048,576 of 20 main writes are
   pub all-valid : (t : Test) → validCount [] t ≡ schedules t
   pub twenty-valid : (t : Test) → length (t .main) ≡ 20 → validCount [] t ≡ 1048576
-  -- a line of 25 bytes tells so of test 16; 16 such lines are a text of 400
-  pub longest-line : (length (testLine 16 1048576 1048576) ≡ 25) × (16 * 25 ≡ textLength)
+  -- a line of 25 bytes tells so of test 16, and none is longer: a buffer of 400 has room for one of that length for each of 16 tests
+  pub longest-line : (length (testLine 16 1048576 1048576) ≡ 25) × (testLength ≡ 25) × (mostTests * testLength ≡ textLength) × (textLength ≡ 400)
   -- finding takes 12 of a test: 13 are 24, with a buffer of 0 bytes too, and so they are behind a shorter test; with a rule it is 10
   pub thirteen-refused : FindRefused [] (long 13 ∷ []) 24 × FindRefused [] (K ∷ long 13 ∷ []) 24 × FindRefused K3-rules (long 13 ∷ []) 10
-  -- 12 are not 24: with a buffer of 0 bytes it is 12
-  pub twelve-taken : (tooLong (long 12 ∷ []) ≡ false) × (findOf (fileBytes (file [] (long 12 ∷ []))) [] ≡ found (refused 12 0) [])
+  -- 12 are taken, and no rules are needed for a test without checks; with a buffer of 0 bytes it is 12
+  pub twelve-taken : Finding (long 12) (λ buffer. found (answer 0) buffer) × (findOf (fileBytes (file [] (long 12 ∷ []))) [] ≡ found (refused 12 0) [])
   -- 10 main puts are traced, a test of 267 bytes; 11 are 6
   pub ten-traced : (buffer : List ℕ) → 267 ≤ length buffer → traceOf [] (puts 10) buffer .outcome ≡ answer 267
   pub eleven-refused : (buffer : List ℕ) → traceOf [] (puts 11) buffer ≡ traced (refused 6 0) buffer

@@ -10,7 +10,7 @@ use lib.Seq.{sets, ext-getD, length-take-le, getD-take, getD-drop, getD-set-same
 use Rattle.relation.specs.Lists.{tabulate}
 use Rattle.relation.proofs.ListLaws.{length-tabulate, getD-tabulate, below-suc}
 use Rattle.model.specs.Test.{countBelow}
-use Rattle.model.proofs.TestLaws.{count-ext}
+use Rattle.model.proofs.CountLaws.{count-ext}
 
 -- ---- lists
 

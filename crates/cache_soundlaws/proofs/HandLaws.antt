@@ -20,7 +20,7 @@ use Rattle.model.specs.declared.Rule.{Rule}
 use Rattle.model.specs.Rules.{DependsOn, labelOf}
 use Rattle.model.specs.Schedule.{noWrite, writeAt, labelAt}
 use Rattle.model.specs.Test.{countBelow}
-use Rattle.model.proofs.TestLaws.{count-ext}
+use Rattle.model.proofs.CountLaws.{count-ext}
 use Rattle.file_format.specs.Bytes.{byte, writeBytes}
 use Rattle.file_format.specs.File.{writeOf}
 use Rattle.file_format.specs.Encode.{WriteFits}

@@ -12,7 +12,7 @@ use Rattle.relation.proofs.ListLaws.{not-so, and-left, and-right, and-intro, al
 use Rattle.relation.proofs.MaskLaws.{implies, implied}
 use Rattle.model.specs.Rules.{known}
 use Rattle.model.specs.Cyclic.{cyclic}
-use Rattle.model.proofs.TestLaws.{count-most}
+use Rattle.model.proofs.CountLaws.{count-most}
 use Rattle.model.proofs.RuleLaws.{known-true, true-known}
 use Rattle.file_format.specs.Bytes.{byte}
 use Rattle.rule_cyclelaws.proofs.CyclicLaws.{cyclic-true, true-cyclic}

@@ -1,4 +1,4 @@
--- No answer reaches bit 63: each is bounded by the limits of files, tests, states and buffers.
+-- No answer reaches bit 63: each is bounded by the limits of files, tests, states and buffers. So are a judge's counts, and fit into their bits.
 use Prim.Native.Nat.{ℕ, zero, suc, _+_, _*_, _-_, _/_, _%_, _^_, _≤_, _<_}
 use mathlib.Core.Path.{_≡_, refl, sym}
 use mathlib.Core.Bool.{Bool, true, false, cond, not, _&&_, _||_, false≢true}
@@ -21,7 +21,7 @@ use Rattle.model.specs.Disk.{secondOf}
 use Rattle.model.specs.Find.{candidatesOf, chosen, picked}
 use Rattle.model.specs.Schedule.{valid}
 use Rattle.model.specs.Test.{Test, File, schedules, Bad, bad, validCount, badCount}
-use Rattle.model.proofs.TestLaws.{count-most}
+use Rattle.model.proofs.CountLaws.{count-most}
 use Rattle.file_format.specs.Bytes.{blockLength, diskLength, blockIn}
 use Rattle.file_format.specs.File.{putLength, endLength, readOf}
 use Rattle.file_format.specs.declared.Extent.{Extent}
@@ -29,10 +29,11 @@ use Rattle.file_format.specs.Held.{noTest, testOf, extentOf}
 use Rattle.file_format.specs.Scan.{Places, scanOf}
 use Rattle.file_reader.specs.Limits.{TestLimits}
 use Rattle.file_reader.proofs.CallerLaws.{holding-limits, refused-limits}
+use Rattle.judge_counting.specs.declared.Judgement.{Judgement}
 use Rattle.judge_search.specs.declared.Verdict.{Verdict}
 use Rattle.judge_search.specs.declared.Verdict.the-variants.{Holds, Fails}
-use Rattle.judge_cases.specs.Judge.{Case, caseOf, caseIn, Decides}
-use Rattle.judge_answers.specs.Judged.{judgementCode, verdictCode, JudgeAnswer, VerdictAnswer}
+use Rattle.judge_cases.specs.Judge.{Case, caseOf, caseIn, Judges, Decides}
+use Rattle.judge_answers.specs.Judged.{countBits, judgementCode, partsOf, verdictCode, JudgeAnswer, VerdictAnswer}
 use Rattle.file_calls.specs.File.{sizes, readAnswer, packedExtent, Packed, located, locateAnswer, cyclicIn, cyclicAnswer}
 use Rattle.file_calls.proofs.FileLaws.{placed-packed}
 use Rattle.judge_text.specs.Decimal.{decimal}
@@ -52,7 +53,7 @@ use Rattle.cache_model.specs.Calls.{Left, late, storing, checked, stepped, drai
 use Rattle.cache_soundness.proofs.SoundLaws.{sound-true}
 use Rattle.cache_soundlaws.proofs.ReadyLaws.{ready-earliest}
 use Rattle.cache_contents.proofs.ContentSteps.{writes-length}
-use Rattle.exports.specs.Theorem.{bit63, ToldApart, NoneReachesBit63}
+use Rattle.exports.specs.Theorem.{bit63, ToldApart, NoneReachesBit63, JudgeTakenApart}
 
 -- ---- outcomes by cases
 
@@ -209,18 +210,44 @@ few file k c = go (readOf file) refl
     go (refused number place) h q = unfold caseOf in let z : _≡_ {A = ℕ} 0 1 = cc in absurd (omega arith)
     go (answer f) h q = few-of f k c (holding-limits file f h .0 .each) (cyclic (f .rules)) (leb 1 k && leb k (length (f .tests))) (unfold caseOf in q)
 
+-- the three numbers of a judgement are no more than there are schedules
+module _ (file : List ℕ) (k : ℕ) (c : Case) (e : caseIn file k ≡ answer c) (j : Judgement) (p : Judges c j) where
+  valid-most : j .valid ≤ mostSchedules
+  unfolding validCount
+  valid-most = let m = few file k c e in let a = p .valid in let x = count-most (valid (c .rules) (c .test .main)) (schedules (c .test)) in omega arith
+
+  bad-most : j .bad ≤ mostSchedules
+  unfolding badCount
+  bad-most = let m = few file k c e in let b = p .bad in let y = count-most (bad (c .rules) (c .test)) (schedules (c .test)) in omega arith
+
+  shown-most : j .shown ≤ mostSchedules
+  unfolding Bad
+  shown-most = go (ℕ-discrete (j .bad) 0)
+    where
+      go : Dec (j .bad ≡ 0) → j .shown ≤ mostSchedules
+      go (yes z) = let n = p .none z in omega arith
+      go (no n) = let l = p .shown n .0 in let m = few file k c e in omega arith
+
 judge-below : (file : List ℕ) (k : ℕ) (c : Case) (r : ℕ) → caseIn file k ≡ answer c → JudgeAnswer (answer c) r → r < bit63
-unfolding JudgeAnswer judgementCode validCount badCount Bad
+unfolding JudgeAnswer judgementCode
 judge-below file k c r e (j, p, q) =
-    let m = few file k c e in
-    let a = p .valid in let x = count-most (valid (c .rules) (c .test .main)) (schedules (c .test)) in
-    let b = p .bad in let y = count-most (bad (c .rules) (c .test)) (schedules (c .test)) in
-    let s = shown (ℕ-discrete (j .bad) 0) in
+    let a = valid-most file k c e j p in
+    let b = bad-most file k c e j p in
+    let s = shown-most file k c e j p in
     omega arith
-  where
-    shown : Dec (j .bad ≡ 0) → j .shown ≤ mostSchedules
-    shown (yes z) = let n = p .none z in omega arith
-    shown (no n) = let l = p .shown n .0 in let m = few file k c e in omega arith
+
+pub judge-taken-apart : JudgeTakenApart
+unfolding JudgeAnswer judgementCode partsOf
+judge-taken-apart file k c r e (j, p, q) =
+    let a = valid-most file k c e j p in
+    let b = bad-most file k c e j p in
+    let s = shown-most file k c e j p in
+    let v : r % 2 ^ countBits ≡ j .valid = omega arith in
+    let t : r / 2 ^ countBits ≡ j .bad + 2 ^ countBits * j .shown = omega arith in
+    let u : r / 2 ^ (countBits + countBits) ≡ j .shown = omega arith in
+    let w : r / 2 ^ countBits % 2 ^ countBits ≡ j .bad = rw t (omega arith) in
+    let x : r / 2 ^ (countBits + countBits) % 2 ^ countBits ≡ j .shown = rw u (omega arith) in
+    rw (v, w, x) p
 
 verdict-below : (file : List ℕ) (k : ℕ) (c : Case) (r : ℕ) → caseIn file k ≡ answer c → VerdictAnswer (answer c) r → r < bit63
 unfolding VerdictAnswer verdictCode Decides Bad

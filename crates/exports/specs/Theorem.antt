@@ -1,4 +1,4 @@
--- What holds of the answers of all thirteen exported routines: bit 63 tells a refusal from an answer.
+-- What holds of the answers of all thirteen exported routines: bit 63 tells a refusal from an answer. And a judge's three numbers can be told from its one.
 use Prim.Native.Nat.{ℕ, _≤_, _<_}
 use mathlib.Core.Path.{_≡_}
 use mathlib.Core.List.{List, []}
@@ -9,8 +9,8 @@ use Rattle.model.specs.Answer.{Outcome, answer, refused, refusal}
 use Rattle.cache_model.specs.Calls.{openOf, handInOf, stepOf, drainOf}
 use Rattle.log_get.specs.Get.{getOf, valueCode}
 use Rattle.log_get.specs.Puts.{traceOf}
-use Rattle.judge_cases.specs.Judge.{Case, caseIn}
-use Rattle.judge_answers.specs.Judged.{JudgeAnswer, VerdictAnswer}
+use Rattle.judge_cases.specs.Judge.{Case, Judges, caseIn}
+use Rattle.judge_answers.specs.Judged.{partsOf, JudgeAnswer, VerdictAnswer}
 use Rattle.file_calls.specs.File.{readAnswer, locateAnswer, cyclicAnswer}
 use Rattle.find_call.specs.Finder.{findOf}
 use Rattle.judge_text.specs.Lines.{textLength}
@@ -41,3 +41,7 @@ pub record NoneReachesBit63 : Type 0 where
   pub lines : (file buffer : List ℕ) → textLength ≤ length buffer → printedOf file buffer .answer < bit63
   pub find : (file buffer : List ℕ) → ToldApart (findOf file buffer .outcome)
   pub trace : (initial main buffer : List ℕ) → ToldApart (traceOf initial main buffer .outcome)
+
+-- what the header's three functions take from a judge's answer, 21 bits each, judges the case: none of the numbers is cut, nor runs into the next (02, [8])
+abbrev pub JudgeTakenApart : Type 0
+JudgeTakenApart = (file : List ℕ) (k : ℕ) (c : Case) (r : ℕ) → caseIn file k ≡ answer c → JudgeAnswer (answer c) r → Judges c (partsOf r)

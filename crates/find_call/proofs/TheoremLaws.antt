@@ -1,9 +1,9 @@
 -- The finder's answers, its 13 and its 24 are right for all files: by the cases of `findOf`, and by what is chosen among the candidates.
 use mathlib.Core.Path.{_≡_, refl, sym, ap}
 use mathlib.Core.Bool.{Bool, true, false, cond, false≢true}
-use mathlib.Core.List.{List, [], _∷_, List·Memᴰ}
+use mathlib.Core.List.{List, [], _∷_}
 use mathlib.Core.Option.{Option, none, some}
-use Prim.Native.Nat.{ℕ, _<_}
+use Prim.Native.Nat.{ℕ}
 use native.Mathlib.Omega.{arith}
 use lib.Dec.{ltb}
 use lib.ListN.{length}
@@ -22,7 +22,7 @@ use Rattle.find_candidates.specs.Tests.{tooLong}
 use Rattle.find_laws.proofs.CandidateLaws.{collected}
 use Rattle.find_laws.proofs.ChosenLaws.{given, refused as unmet}
 use Rattle.find_call.specs.Finder.{foundLength, Found, found, over, wrote, findAmong, findIn, findOf}
-use Rattle.find_call.specs.Theorem.{FindsSmallest, Wanting, HasLongTest, LongRefused, LongAnyBuffer, RefusalLeaves}
+use Rattle.find_call.specs.Theorem.{FindsSmallest, Wanting, HasLongTest, LongDecided, LongRefused, LongAnyBuffer, RefusalLeaves}
 
 -- ---- outcomes told apart
 
@@ -131,17 +131,19 @@ no-rules : (l : List Rule) → ltb 0 (length l) ≡ false → l ≡ []
 no-rules [] e = refl
 no-rules (r ∷ rs) e = let h = ltb-false 0 (length (r ∷ rs)) e in absurd (omega arith)
 
-long-member : (tests : List Test) → tooLong tests ≡ true → (t : Test) × List·Memᴰ t tests × (mostFound < length (t .main))
+pub long-decided : LongDecided
 unfolding tooLong
-long-member tests e =
-    let (t, m, l) = any-true (λ (t : Test). ltb mostFound (length (t .main))) tests e in
-    (t, m, ltb-true mostFound (length (t .main)) l)
+long-decided tests = (found-long, long-found)
+  where
+    found-long : any (λ (t : Test). ltb mostFound (length (t .main))) tests ≡ true → HasLongTest tests
+    found-long e =
+        let (t, m, l) = any-true (λ (t : Test). ltb mostFound (length (t .main))) tests e in
+        (t, m, ltb-true mostFound (length (t .main)) l)
 
-member-long : (tests : List Test) (t : Test) → List·Memᴰ t tests → mostFound < length (t .main) → tooLong tests ≡ true
-unfolding tooLong
-member-long tests t m l = any-intro (λ (t : Test). ltb mostFound (length (t .main))) m (lt-ltb mostFound (length (t .main)) l)
+    long-found : HasLongTest tests → any (λ (t : Test). ltb mostFound (length (t .main))) tests ≡ true
+    long-found (t, m, l) = any-intro (λ (t : Test). ltb mostFound (length (t .main))) m (lt-ltb mostFound (length (t .main)) l)
 
-long-file : (f : File) (buffer : List ℕ) (place : ℕ) → findIn (answer f) buffer .outcome ≡ refused 24 place → (place ≡ 0) × HasLongTest f
+long-file : (f : File) (buffer : List ℕ) (place : ℕ) → findIn (answer f) buffer .outcome ≡ refused 24 place → (place ≡ 0) × (f .rules ≡ []) × HasLongTest (f .tests)
 unfolding findIn
 long-file f buffer place = go (ltb 0 (length (f .rules))) (tooLong (f .tests)) refl refl
   where
@@ -152,14 +154,14 @@ long-file f buffer place = go (ltb 0 (length (f .rules))) (tooLong (f .tests)) r
     other-rest = not24-cond (ltb (length buffer) foundLength) _ _ (not24-refused 12 buffer (λ (e : 12 ≡ 24). absurd (omega arith))) (not24-among (f .tests) buffer)
 
     go : (a b : Bool) → ltb 0 (length (f .rules)) ≡ a → tooLong (f .tests) ≡ b
-        → cond a (found (refused 10 0) buffer) (cond b (found (refused 24 0) buffer) rest) .outcome ≡ refused 24 place → (place ≡ 0) × HasLongTest f
+        → cond a (found (refused 10 0) buffer) (cond b (found (refused 24 0) buffer) rest) .outcome ≡ refused 24 place → (place ≡ 0) × (f .rules ≡ []) × HasLongTest (f .tests)
     go true b p l q = absurd (not24-refused 10 buffer (λ (e : 10 ≡ 24). absurd (omega arith)) (unfold numberOf in ap numberOf q))
-    go false true p l q = let (t, m, h) = long-member (f .tests) l in (unfold placeOf in sym (ap placeOf q), (no-rules (f .rules) p, t, m, h))
+    go false true p l q = (unfold placeOf in sym (ap placeOf q), no-rules (f .rules) p, long-decided (f .tests) .0 l)
     go false false p l q = absurd (other-rest (unfold numberOf in ap numberOf q))
 
-file-long : (f : File) (buffer : List ℕ) → HasLongTest f → findIn (answer f) buffer .outcome ≡ refused 24 0
+file-long : (f : File) (buffer : List ℕ) → f .rules ≡ [] → HasLongTest (f .tests) → findIn (answer f) buffer .outcome ≡ refused 24 0
 unfolding findIn
-file-long f buffer (e, t, m, l) = rw (e, member-long (f .tests) t m l)
+file-long f buffer e h = rw (e, long-decided (f .tests) .1 h)
 
 -- ---- all files
 
@@ -197,15 +199,15 @@ pub long-refused : LongRefused
 unfolding findOf
 long-refused s buffer place = (go (readOf s) refl, back (readOf s))
   where
-    go : (o : Outcome File) → readOf s ≡ o → findIn o buffer .outcome ≡ refused 24 place → (place ≡ 0) × (f : File) × (o ≡ answer f) × HasLongTest f
+    go : (o : Outcome File) → readOf s ≡ o → findIn o buffer .outcome ≡ refused 24 place → (place ≡ 0) × (f : File) × (o ≡ answer f) × (f .rules ≡ []) × HasLongTest (f .tests)
     go (refused number at) e q =
         let h = refused-limits s number at e .1 in
         let z : number ≡ 24 = unfold findIn numberOf in ap numberOf q in
         absurd (omega arith)
-    go (answer f) e q = let (z, h) = long-file f buffer place q in (z, f, refl, h)
+    go (answer f) e q = let (z, n, h) = long-file f buffer place q in (z, f, refl, n, h)
 
-    back : (o : Outcome File) → (place ≡ 0) × (f : File) × (o ≡ answer f) × HasLongTest f → findIn o buffer .outcome ≡ refused 24 place
-    back o (z, f, e, h) = rw (e, z) (file-long f buffer h)
+    back : (o : Outcome File) → (place ≡ 0) × (f : File) × (o ≡ answer f) × (f .rules ≡ []) × HasLongTest (f .tests) → findIn o buffer .outcome ≡ refused 24 place
+    back o (z, f, e, n, h) = rw (e, z) (file-long f buffer n h)
 
 pub long-any-buffer : LongAnyBuffer
 long-any-buffer s buffer other place q = long-refused s other place .1 (long-refused s buffer place .0 q)

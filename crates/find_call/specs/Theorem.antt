@@ -2,6 +2,7 @@
 use Prim.Native.Nat.{ℕ, _<_}
 use mathlib.Core.Path.{_≡_}
 use mathlib.Core.Logic.{_↔_}
+use mathlib.Core.Bool.{true}
 use mathlib.Core.List.{List, [], List·Memᴰ}
 use lib.ListN.{length}
 use Rattle.model.specs.Limits.{mostFound}
@@ -11,6 +12,7 @@ use Rattle.model.specs.Test.{Test, File}
 use Rattle.model.specs.Find.{Candidates, NoneSuffices, Fewest, picked, Chosen}
 use Rattle.file_format.specs.Encode.{ruleFields}
 use Rattle.file_format.specs.File.{readOf}
+use Rattle.find_candidates.specs.Tests.{tooLong}
 use Rattle.find_call.specs.Finder.{over, findOf}
 
 -- what is answered: with the candidates sorted, their set that is sufficient and has the fewest ones in its number, among equals the one with
@@ -33,13 +35,16 @@ FindsSmallest =
 abbrev pub Wanting : Type 0
 Wanting = (s buffer : List ℕ) (place : ℕ) → findOf s buffer .outcome ≡ refused 13 place → (f : File) × (readOf s ≡ answer f) × NoneSuffices (f .tests)
 
--- a file without rules, one of whose tests has more main writes than finding takes
-abbrev pub HasLongTest : File → Type 0
-HasLongTest f = (f .rules ≡ []) × (t : Test) × List·Memᴰ t (f .tests) × (mostFound < length (t .main))
+-- one of the tests has more main writes than finding takes (02, [8]); so decided
+abbrev pub HasLongTest : List Test → Type 0
+HasLongTest tests = (t : Test) × List·Memᴰ t tests × (mostFound < length (t .main))
 
--- 24 is reported exactly if such a file is read, and at place 0: neither the buffer nor the candidates are asked (02, [8])
+abbrev pub LongDecided : Type 0
+LongDecided = (tests : List Test) → (tooLong tests ≡ true) ↔ HasLongTest tests
+
+-- 24 is reported exactly if a file is read that has no rules and such a test, and at place 0: neither the buffer nor the candidates are asked
 abbrev pub LongRefused : Type 0
-LongRefused = (s buffer : List ℕ) (place : ℕ) → findOf s buffer .outcome ≡ refused 24 place ↔ ((place ≡ 0) × (f : File) × (readOf s ≡ answer f) × HasLongTest f)
+LongRefused = (s buffer : List ℕ) (place : ℕ) → findOf s buffer .outcome ≡ refused 24 place ↔ ((place ≡ 0) × (f : File) × (readOf s ≡ answer f) × (f .rules ≡ []) × HasLongTest (f .tests))
 
 -- so if it is reported with one buffer, then with every other
 abbrev pub LongAnyBuffer : Type 0

@@ -9,12 +9,13 @@ use native.Mathlib.Numerals.{add-one}
 use native.Mathlib.Omega.{arith}
 use lib.Bits.{bitAnd, bitOr}
 use lib.Dec.{eqb, ltb, lit<}
-use lib.ListN.{length, getD, take, drop, set, length-set, replicate, getD-replicate, drop-of-length-le}
+use lib.ListN.{length, getD, take, drop, set, length-set, drop-of-length-le}
 use lib.Pow.{pow-lt, pow-mono, pow-add, pow-pos, split, shr-lt}
 use lib.Seq.{getD-set-same, getD-set-other, drop-cons, length-take-le}
 use borrow.Author.Tests.{eq-eqb, ne-eqb, eqb-true, eqb-false, lt-ltb, ltb-false}
 use Rattle.relation.specs.Bits.{bit, withBit, maskOf}
 use Rattle.relation.specs.Lists.{any}
+use Rattle.relation.specs.Tables.{Blank}
 use Rattle.relation.proofs.BitLaws.{power-is, bit-zero, bit-or, bit-and, bit-with, bit-mask, bit-mod, bit-shift, with-below, with-most, parts-below}
 use Rattle.relation.proofs.ListLaws.{below-suc, bool-equal, or-cases, or-left, or-right, and-left, and-right, and-intro, anyBelow-true, anyBelow-intro, any-false, index-mem}
 use Rattle.model.specs.Limits.{mostRules, mostTests, mostCandidates, candidateSets, mostFound, foundSchedules}
@@ -35,7 +36,7 @@ use Rattle.judge_loading.specs.declared.Loaded.{Loaded}
 use Rattle.judge_loading.specs.Loaded.{LoadsTest, LoadsChecks}
 use Rattle.find_laws.specs.Hit.{allowed, marks, marked, spread}
 use Rattle.find_candidates.specs.Tests.{testsIn, tooLong}
-use Rattle.find_table.specs.Table.{setWords, wordsOf, markAt, pairs, Forbids, Sets, Bounded, spoils, setOf, setAfter, Adds, Joins, Blank, Shows, lacking, Lowered, Spreads}
+use Rattle.find_table.specs.Table.{setWords, wordsOf, markAt, pairs, Forbids, Sets, Bounded, spoils, setOf, setAfter, Adds, Joins, Shows, lacking, Lowered, Spreads}
 use Rattle.find_table.proofs.ForbidLaws.{power, sets-made, sets-bounded, sets-are}
 
 -- ---- one set
@@ -307,7 +308,7 @@ pub record Marking (cs : List Rule) (s : List ℕ) (t : ℕ) (l : List ℕ) : Ty
   pub shows : Shows (marked cs (drop t (testsIn s))) l candidateSets
 
 module _ (cs : List Rule) (s : List ℕ) (extents : List Extent) (many : ℕ) (placed : Placed s (testsIn s) extents many) where
-  pub marking-none : (l : List ℕ) → length l ≡ setWords → Blank l → Marking cs s many l
+  pub marking-none : (l : List ℕ) → length l ≡ setWords → Blank setWords l → Marking cs s many l
   unfolding marked any markAt
   marking-none l n b =
       let h = placed .count in
@@ -336,9 +337,6 @@ module _ (cs : List Rule) (s : List ℕ) (extents : List Extent) (many : ℕ) (p
 
 pub marking-all : (cs : List Rule) (s : List ℕ) (t : ℕ) (l : List ℕ) → Marking cs s t l → t ≤ 0 → Shows (marked cs (testsIn s)) l candidateSets
 marking-all cs s t l k h = let z : t ≡ 0 = omega arith in subst (λ (n : ℕ). Shows (marked cs (drop n (testsIn s))) l candidateSets) z (k .shows)
-
-pub blank-made : Blank (replicate setWords 0)
-blank-made = record { at = λ x h. getD-replicate {A = ℕ} setWords x 0 0 h }
 
 -- ---- handing down
 

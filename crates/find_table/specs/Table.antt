@@ -100,10 +100,6 @@ pub record Joins (f : ℕ → Bool) (old new : List ℕ) : Type 0 where
   pub size : length new ≡ length old
   pub at : (x : ℕ) → x < candidateSets → markAt new x ≡ f x || markAt old x
 
--- a table without marks
-pub record Blank (l : List ℕ) : Type 0 where
-  pub at : (i : ℕ) → i < setWords → getD l i 0 ≡ 0
-
 -- the marks of a table below n are those of f
 pub record Shows (f : ℕ → Bool) (l : List ℕ) (n : ℕ) : Type 0 where
   pub size : length l ≡ setWords

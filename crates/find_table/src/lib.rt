@@ -8,6 +8,7 @@ ghost use mathlib.Core.Bool.{false, cond};
 ghost use Prim.Native.Nat.{_+_, _/_, _%_, _^_, _<_, _≤_};
 ghost use lib.ListN.{length, take, set, getD};
 ghost use Rattle.relation.specs.Bits.{withBit};
+ghost use Rattle.relation.specs.Tables.{Blank};
 ghost use Rattle.model.specs.Limits.{diskBlocks, mostInitial, mostChecks, mostFound, foundSchedules, mostCandidates, candidateSets};
 ghost use Rattle.file_format.specs.Scan.{testAt};
 ghost use Rattle.file_format.specs.Held.{Inside, Placed};
@@ -15,7 +16,7 @@ ghost use Rattle.rule_match.specs.Held.{rulesOf};
 ghost use Rattle.judge_disks.specs.Packed.{labelled, heldFrom};
 ghost use Rattle.find_laws.specs.Hit.{marks, marked};
 ghost use Rattle.find_candidates.specs.Tests.{testsIn, tooLong};
-ghost use Rattle.find_table.specs.Table.{setWords, matching, pairs, Facing, Widened, Forbids, Bounded, spoils, setOf, setAfter, Adds, Joins, Blank, Shows, lacking, Lowered, Spreads};
+ghost use Rattle.find_table.specs.Table.{setWords, matching, pairs, Facing, Widened, Forbids, Bounded, spoils, setOf, setAfter, Adds, Joins, Shows, lacking, Lowered, Spreads};
 
 // The words of a table with a bit for each set.
 pub const SET_WORDS: usize = model::CANDIDATE_SETS / 64;
@@ -217,7 +218,7 @@ pub fn mark_all(
     tests: [Extent; model::MOST_TESTS],
     n: usize,
 )
-    requires { ⌜ (length (now table) ≡ setWords) × ((cands .count ≤ mostCandidates) × (Placed (now file) (testsIn (now file)) tests n × ((tooLong (testsIn (now file)) ≡ false) × Blank (now table)))) ⌝ }
+    requires { ⌜ (length (now table) ≡ setWords) × ((cands .count ≤ mostCandidates) × (Placed (now file) (testsIn (now file)) tests n × ((tooLong (testsIn (now file)) ≡ false) × Blank setWords (now table)))) ⌝ }
     ensures { λ _. ⌜ Shows (marked (rulesOf cands) (testsIn (now (file .entry)))) (now (table .exit)) candidateSets ⌝ }
 {
     let mut t: usize = n;

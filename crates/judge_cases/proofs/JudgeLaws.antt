@@ -23,7 +23,8 @@ use Rattle.model.specs.Rules.{dependsOn}
 use Rattle.model.specs.Cyclic.{cyclic}
 use Rattle.model.specs.Schedule.{valid}
 use Rattle.model.specs.Test.{Test, File, bad, testHolds, Bad, countBelow, validCount, badCount}
-use Rattle.model.proofs.TestLaws.{bad-true, testHolds-true, count-ext, count-most}
+use Rattle.model.proofs.CountLaws.{count-ext, count-most}
+use Rattle.model.proofs.TestLaws.{bad-true, testHolds-true}
 use Rattle.file_format.specs.declared.Extent.{Extent}
 use Rattle.file_format.specs.declared.Scan.{Scan}
 use Rattle.file_format.specs.declared.Scan.the-variants.{Accepted, Refused}

@@ -2,14 +2,13 @@
 use Prim.Native.Nat.{ℕ, _<_}
 use mathlib.Core.Path.{_≡_}
 use mathlib.Core.List.{List, [], _∷_}
-use Rattle.model.specs.declared.Write.{Write}
 use Rattle.model.specs.declared.Check.the-variants.{Range}
 use Rattle.model.specs.Answer.{answer, refused}
-use Rattle.model.specs.Disk.{block}
 use Rattle.model.specs.Cyclic.{Cyclic}
 use Rattle.model.specs.Test.{Test, test, File, file, TestHolds}
 use Rattle.rule_cyclelaws.specs.Examples.{rule}
 use Rattle.file_format.specs.File.{readOf}
+use Rattle.judge_rows.specs.Examples.{write}
 use Rattle.judge_search.specs.declared.Verdict.the-variants.{Fails}
 use Rattle.judge_cases.specs.Judge.{caseIn, Judges, Decides}
 use Rattle.judge_cases.specs.Theorem.{caseOfTest}
@@ -26,9 +25,6 @@ K3-bytes =
     ∷ 2 ∷ 0 ∷ 10 ∷ 0 ∷ 2 ∷ 0 ∷ 0 ∷ 0 ∷ 2 ∷ 0 ∷ 1 ∷ 0 ∷ 4
     ∷ 4 ∷ 0 ∷ 1 ∷ 0
     ∷ 7 ∷ 0 ∷ 0 ∷ []
-
-abbrev write : ℕ → ℕ → ℕ → ℕ → ℕ → Write
-write address name epoch first second = record { address = address; name = name; epoch = epoch; block = block first second }
 
 -- what these bytes hold
 unfoldable pub K3-test : Test

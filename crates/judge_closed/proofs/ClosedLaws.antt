@@ -22,10 +22,9 @@ use Rattle.relation.proofs.SetLaws.{bit-without, without-less}
 use Rattle.relation.proofs.WithoutLaws.{bit-most}
 use Rattle.model.specs.Limits.{mostMain, mostSchedules}
 use Rattle.model.specs.Test.{countBelow}
-use Rattle.model.proofs.TestLaws.{count-ext, count-most}
+use Rattle.model.proofs.CountLaws.{count-ext, count-most, count-split, count-one, count-turned}
 use Rattle.judge_schedules.specs.Halves.{validRows}
 use Rattle.judge_closed.specs.Closed.{Order, between, validBetween, Choice, alone}
-use Rattle.judge_closed.proofs.CountLaws.{count-split, count-one, count-turned}
 
 -- ---- Booleans
 

@@ -11,38 +11,22 @@ use native.Mathlib.Omega.{arith}
 use lib.Bits.{bitAnd, and-mask}
 use lib.Dec.{eqb}
 use lib.ListN.{length, getD, set}
-use lib.Seq.{getD-set-same, getD-set-other}
 use lib.Pow.{pow-pos}
 use borrow.Author.Needs.{needs}
 use borrow.Author.Tests.{eqb-true, eq-eqb, lt-ltb}
 use Rattle.relation.specs.Bits.{bit, withBit, maskOf}
 use Rattle.relation.specs.Finite.{Below, related, closed}
+use Rattle.relation.specs.Tables.{Filled}
 use Rattle.relation.specs.Transitive.{Plus, one, more}
 use Rattle.relation.proofs.BitLaws.{power-is, bit-with, bit-mod, bit-mask, mask-below}
 use Rattle.relation.proofs.FiniteLaws.{closed-plus, plus-closed}
-use Rattle.relation.proofs.ListLaws.{or-cases, or-left, or-right, bool-equal, below-suc}
+use Rattle.relation.proofs.ListLaws.{or-cases, or-left, or-right, bool-equal}
+use Rattle.relation.proofs.TableLaws.{filled-none, filled-more, filled-all}
 use Rattle.relation.proofs.TransitiveLaws.{plus-trans}
 use Rattle.model.specs.Limits.{mostMain}
 use Rattle.judge_schedules.specs.Halves.{validRows}
-use Rattle.judge_closed.specs.Closed.{Narrow, Orders, reachedRow, reachingRow, Filled, alone}
+use Rattle.judge_closed.specs.Closed.{Narrow, Orders, reachedRow, reachingRow, alone}
 use Rattle.judge_closed.proofs.ClosedLaws.{valid-has, has-valid, member-below}
-
--- ---- tables filled from the front
-
-module _ (f : ℕ → ℕ) where
-  pub filled-none : (table : List ℕ) → Filled f 0 table
-  filled-none table = record { at = λ i h. absurd (omega arith) }
-
-  pub filled-more : (k : ℕ) (table : List ℕ) (v : ℕ) → Filled f k table → k < length table → v ≡ f k → Filled f (k + 1) (set table k v)
-  filled-more k table v g h e =
-      record {
-        at = λ i l. ⊎-elim (λ (z : i ≡ k). rw (z, getD-set-same table k v 0 h) e)
-            (λ (m : i < k). getD-set-other table k i v 0 (λ (z : i ≡ k). absurd (omega (arith, z, m))) ∙ g .at i m)
-            (below-suc i k (omega arith));
-      }
-
-  pub filled-all : (k n : ℕ) (table : List ℕ) → Filled f k table → k ≤ n → n ≤ k → Filled f n table
-  filled-all k n table g a b = record { at = λ i l. g .at i (omega arith) }
 
 -- ---- the rows
 

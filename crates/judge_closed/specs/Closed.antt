@@ -56,10 +56,6 @@ reachedRow closed n i = withBit (getD closed i 0) i % 2 ^ n
 unfoldable pub reachingRow : List ℕ → ℕ → ℕ → ℕ
 reachingRow dependencies k j = maskOf (λ i. bit (getD dependencies i 0) j) k
 
--- the first k entries of a table are those of a function
-pub record Filled (f : ℕ → ℕ) (k : ℕ) (table : List ℕ) : Type 0 where
-  pub at : (i : ℕ) → i < k → getD table i 0 ≡ f i
-
 -- a set has no free member but h
 unfoldable pub alone : ℕ → ℕ → ℕ → Bool
 alone set free h = eqb (bitAnd set free) (2 ^ h)

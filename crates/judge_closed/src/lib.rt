@@ -6,11 +6,12 @@ ghost use mathlib.Core.Bool.{_&&_};
 ghost use Prim.Native.Nat.{_%_, _^_, _<_, _≤_};
 ghost use lib.ListN.{length};
 ghost use Rattle.relation.specs.Bits.{withBit};
+ghost use Rattle.relation.specs.Tables.{Filled};
 ghost use Rattle.model.specs.Limits.{mostMain};
 ghost use Rattle.model.specs.Test.{countBelow};
-ghost use Rattle.judge_closed.specs.Closed.{Narrow, Order, Orders, validBetween, Choice, reachedRow, reachingRow, Filled, alone};
+ghost use Rattle.judge_closed.specs.Closed.{Narrow, Order, Orders, validBetween, Choice, reachedRow, reachingRow, alone};
 
-// Write i with what a closed row says, of n writes.
+// Write i and what its closed row reaches, of n writes.
 fn dependency_row(row: u64, i: usize, n: usize) -> u64
     requires { ⌜ (i < n) × (n ≤ mostMain) ⌝ }
     ensures { λ r. ⌜ r ≡ withBit row i % 2 ^ n ⌝ }
@@ -44,6 +45,7 @@ fn dependent_row(dependencies: &[u64; 64], j: usize, n: usize) -> u64
     mask
 }
 
+// The dependents of each of n writes, itself among them, by the dependencies of all.
 fn fill_dependents(dependents: &mut [u64], dependencies: &[u64; 64], n: usize)
     requires { ⌜ (length (now dependents) ≡ 64) × (n ≤ mostMain) ⌝ }
     ensures { λ _. ⌜ Filled (reachingRow (now (dependencies .entry)) n) n (now (dependents .exit)) ⌝ }
@@ -75,18 +77,19 @@ fn is_alone(set: u64, free: u64, h: usize) -> bool
 }
 
 // Whether h is tied to no other free write: it depends on none, and none depends on it.
-fn is_untied(with: u64, by: u64, free: u64, h: usize) -> bool
+fn is_untied(required: u64, requiring: u64, free: u64, h: usize) -> bool
     requires { ⌜ h < 64 ⌝ }
-    ensures { λ r. ⌜ r ≡ alone with free h && alone by free h ⌝ }
+    ensures { λ r. ⌜ r ≡ alone required free h && alone requiring free h ⌝ }
 {
-    if !is_alone(with, free, h) {
+    if !is_alone(required, free, h) {
         return false;
     }
-    is_alone(by, free, h)
+    is_alone(requiring, free, h)
 }
 
 // How many valid schedules have all that is chosen, and nothing that is neither chosen nor free. A free write
-// that is tied to no other free one doubles them.
+// that is tied to no other free one doubles them. `n` and `chosen` are there for the contract: how many there
+// are hangs on what is free and how it is tied.
 pub fn count_between(
     dependencies: &[u64; 64],
     dependents: &[u64; 64],
@@ -101,16 +104,16 @@ pub fn count_between(
         return 1;
     }
     let h = relation::highest(free);
-    let with = dependencies[h];
-    let by = dependents[h];
+    let required = dependencies[h];
+    let requiring = dependents[h];
     let out = count_between(
         dependencies,
         dependents,
         n,
         chosen,
-        relation::without(free, by),
+        relation::without(free, requiring),
     );
-    if is_untied(with, by, free, h) {
+    if is_untied(required, requiring, free, h) {
         return 2 * out;
     }
     out
@@ -118,7 +121,7 @@ pub fn count_between(
             dependencies,
             dependents,
             n,
-            chosen | with,
-            relation::without(free, with),
+            chosen | required,
+            relation::without(free, required),
         )
 }

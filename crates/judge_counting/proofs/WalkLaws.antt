@@ -1,9 +1,9 @@
 -- The walk: where all checks are settled the valid schedules are counted at once, else those without a free write and those with it add up.
 use mathlib.Core.Path.{_≡_, refl, sym, ap, _∙_}
 use mathlib.Core.Logic.{_⊎_, inl, inr, ⊎-elim}
-use mathlib.Core.Bool.{Bool, true, false, cond, not, _&&_, false≢true}
+use mathlib.Core.Bool.{Bool, true, false, not, _&&_, false≢true}
 use mathlib.Core.List.{List}
-use Prim.Native.Nat.{ℕ, zero, suc, _+_, _-_, _*_, _%_, _^_, _≤_, _<_}
+use Prim.Native.Nat.{ℕ, _+_, _-_, _*_, _%_, _^_, _≤_, _<_}
 use native.Mathlib.Omega.{arith}
 use lib.Bits.{bitOr}
 use lib.ListN.{getD, take}
@@ -16,7 +16,7 @@ use Rattle.model.specs.declared.Check.{Check}
 use Rattle.model.specs.Limits.{mostMain, mostSchedules}
 use Rattle.model.specs.Check.{consistent}
 use Rattle.model.specs.Test.{countBelow}
-use Rattle.model.proofs.TestLaws.{count-ext, count-most, count-none, none-count}
+use Rattle.model.proofs.CountLaws.{count-ext, count-less, count-most, count-some, none-count}
 use Rattle.judge_checks.proofs.CheckSteps.{checks-start}
 use Rattle.judge_disks.specs.Packed.{heldFrom}
 use Rattle.judge_schedules.specs.Halves.{validRows, badRows}
@@ -27,25 +27,6 @@ use Rattle.judge_settled.specs.declared.Answer.the-variants.{Yes, No, Open}
 use Rattle.judge_settled.specs.Settled.{Says, isYes, opposed, Names, diskOf, allHold, Ready}
 use Rattle.judge_counting.specs.declared.Judgement.{Judgement}
 use Rattle.judge_counting.specs.Tally.{Tallies, withGood, withBad, badBetween, Room, Gains}
-
--- those that pass a narrower test are no more
-count-less : (p q : ℕ → Bool) (n : ℕ) → ((s : ℕ) → p s ≡ true → q s ≡ true) → countBelow p n ≤ countBelow q n
-unfolding countBelow
-count-less p q zero f = omega arith
-count-less p q (suc n) f = let h = count-less p q n f in let k = go (p n) (q n) refl refl in omega (arith, h, k)
-  where
-    go : (a b : Bool) → p n ≡ a → q n ≡ b → cond a 1 0 ≤ cond b 1 0
-    go true true e z = omega arith
-    go true false e z = clash (q n) (f n e) z
-    go false b e z = omega arith
-
--- one that passes is counted
-count-some : (p : ℕ → Bool) (n s : ℕ) → s < n → p s ≡ true → 0 < countBelow p n
-count-some p n s h e = go (countBelow p n) refl
-  where
-    go : (k : ℕ) → countBelow p n ≡ k → 0 < countBelow p n
-    go zero z = clash (p s) e (count-none p n z s h)
-    go (suc k) z = omega (arith, z)
 
 -- more in the counts
 pub good-is : (j : Judgement) (many : ℕ) → record { valid = j .valid + many; bad = j .bad; shown = j .shown } ≡ withGood j many

@@ -4,6 +4,7 @@ use judge_settled::Answer;
 use model::Check;
 use model::DISK_BLOCKS;
 use model::MOST_CHECKS;
+use model::MOST_INITIAL;
 ghost use mathlib.Core.Path.{_≡_};
 ghost use Prim.Native.Nat.{_+_, _^_, _≤_};
 ghost use lib.ListN.{take};
@@ -51,7 +52,7 @@ fn add_bad(j: Judgement, many: u64, s: u64) -> Judgement
 fn walk(
     j: Judgement,
     base: &[u32; DISK_BLOCKS],
-    stores: &[u64; model::MOST_INITIAL],
+    stores: &[u64; MOST_INITIAL],
     writers: &[u64; DISK_BLOCKS],
     dependencies: &[u64; 64],
     dependents: &[u64; 64],
@@ -66,7 +67,7 @@ fn walk(
     ensures { λ r. ⌜ Gains (validBetween (now (dependencies .entry)) n chosen free) (badBetween (now (stores .entry)) (now (base .entry)) n (take m checks) (now (dependencies .entry)) chosen free) (2 ^ n) j r ⌝ }
 {
     let asked = judge_settled::ask_checks(base, stores, writers, n, chosen, free, checks, m, k);
-    let from = asked.from;
+    let held = asked.held;
     let answer = asked.answer;
     if judge_settled::is_yes(answer) {
         return add_good(
@@ -82,7 +83,7 @@ fn walk(
         );
     }
     let h = judge_settled::open_at(answer);
-    let with = dependencies[h];
+    let required = dependencies[h];
     let out = relation::without(free, dependents[h]);
     let first = walk(
         j,
@@ -94,11 +95,11 @@ fn walk(
         n,
         checks,
         m,
-        from,
+        held,
         chosen,
         out,
     );
-    let rest = relation::without(free, with);
+    let rest = relation::without(free, required);
     walk(
         first,
         base,
@@ -109,8 +110,8 @@ fn walk(
         n,
         checks,
         m,
-        from,
-        chosen | with,
+        held,
+        chosen | required,
         rest,
     )
 }
@@ -119,7 +120,7 @@ fn walk(
 pub fn count_all(
     rows: &[u64; 64],
     base: [u32; DISK_BLOCKS],
-    stores: &[u64; model::MOST_INITIAL],
+    stores: &[u64; MOST_INITIAL],
     n: usize,
     checks: [Check; MOST_CHECKS],
     m: usize,

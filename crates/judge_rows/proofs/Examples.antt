@@ -4,7 +4,7 @@ use mathlib.Core.Logic.{_↔_}
 use mathlib.Core.Bool.{Bool, true, false, false≢true, not}
 use Prim.Native.Nat.{ℕ, zero, suc, _<_}
 use native.Mathlib.Omega.{arith}
-use lib.Dec.{lit<, lit≤}
+use lib.Dec.{lit<}
 use lib.ListN.{take}
 use Rattle.relation.specs.Bits.{bit, withBit, maskOf}
 use Rattle.relation.specs.Lists.{allBelow, tabulate}
@@ -16,11 +16,11 @@ use Rattle.model.specs.Schedule.{Valid}
 use Rattle.judge_disks.specs.Packed.{labelled, Labels}
 use Rattle.judge_schedules.specs.Halves.{needed, validBy, validRows, Validates}
 use Rattle.judge_rows.specs.Rows.{rowOf, rowsFrom}
-use Rattle.judge_rows.specs.Examples.{write, log-rules, K-main, K-column, K-rows, K-low, K-high, TestedK}
+use Rattle.judge_rows.specs.Examples.{log-rules, K-main, K-column, K-rows, K-low, K-high, TestedK}
 use Rattle.judge_rows.proofs.Theorems.{validity-tested}
 
 K-labels : Labels K-main K-column
-unfolding Labels K-main K-column labelled write
+unfolding Labels K-main K-column labelled
 K-labels zero h = refl
 K-labels (suc zero) h = refl
 K-labels (suc (suc zero)) h = refl
@@ -62,7 +62,7 @@ K-tables s h =
 -- what the theorem says of K's schedules
 tested : (s : ℕ) → s < 16 → (validBy K-low K-high 2 s ≡ true) ↔ Valid log-rules K-main s
 unfolding K-main
-tested s h = validity-tested log-rules K-main K-column K-rows K-low K-high (lit≤ tt) K-labels K-made K-tables s h
+tested s h = validity-tested log-rules K-main K-column K-rows K-low K-high K-labels K-made K-tables s h
 
 pub tested-K : TestedK
 tested-K =

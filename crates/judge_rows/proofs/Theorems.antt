@@ -7,6 +7,6 @@ use Rattle.judge_rows.proofs.RowLaws.{valid-rows}
 
 pub validity-tested : ValidityTested
 unfolding Validates
-validity-tested rules ws column rows low high few ls e v s h =
+validity-tested rules ws column rows low high ls e v s h =
     let same = v s h ∙ valid-rows rules ws column rows _ refl ls e s in
     (λ t. valid-true rules ws s (sym same ∙ t), λ t. same ∙ true-valid rules ws s t)

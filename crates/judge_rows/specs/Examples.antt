@@ -12,7 +12,7 @@ use Rattle.judge_disks.specs.Packed.{Labels}
 use Rattle.judge_schedules.specs.Halves.{Validates}
 use Rattle.judge_rows.specs.Rows.{rowsFrom}
 
-unfoldable pub write : ℕ → ℕ → ℕ → ℕ → ℕ → Write
+abbrev pub write : ℕ → ℕ → ℕ → ℕ → ℕ → Write
 write address name epoch first second = record { address = address; name = name; epoch = epoch; block = block first second }
 
 -- (2,=,1) and (2,>,2)

@@ -17,7 +17,7 @@ use Rattle.relation.specs.Union.{partOf}
 use Rattle.relation.proofs.ListLaws.{untrue, below-suc, and-left, and-right}
 use Rattle.relation.proofs.UnionLaws.{part-below, part-from}
 use Rattle.model.specs.Test.{countBelow}
-use Rattle.model.proofs.TestLaws.{count-ext}
+use Rattle.model.proofs.CountLaws.{count-ext}
 use Rattle.judge_schedules.specs.Halves.{validBy, mayBegin, mayEnd, thoseBelow, Lists}
 use Rattle.judge_schedules.proofs.HalfLaws.{valid-both, halves}
 

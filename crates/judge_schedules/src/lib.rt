@@ -11,8 +11,10 @@ const HALF: usize = (model::MOST_MAIN + 1) / 2;
 
 pub const HALF_SETS: usize = 1 << HALF;
 
-// The same of a test as short as finding takes: its tables are made in a fraction of the time.
-const SHORT_HALF: usize = (model::MOST_FOUND + 1) / 2;
+// The same of a short test, whose tables are made in a fraction of the time.
+pub const SHORT_MAIN: usize = 12;
+
+const SHORT_HALF: usize = (SHORT_MAIN + 1) / 2;
 
 pub const SHORT_SETS: usize = 1 << SHORT_HALF;
 

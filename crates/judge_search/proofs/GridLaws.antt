@@ -12,7 +12,7 @@ use Rattle.model.specs.declared.Check.{Check}
 use Rattle.model.specs.Schedule.{run}
 use Rattle.model.specs.Check.{consistent}
 use Rattle.model.specs.Test.{countBelow}
-use Rattle.model.proofs.TestLaws.{count-ext, none-count, count-append}
+use Rattle.model.proofs.CountLaws.{count-ext, none-count, count-append}
 use Rattle.judge_disks.specs.Packed.{heldFrom}
 use Rattle.judge_disks.proofs.DiskSteps.{run-parts}
 use Rattle.judge_schedules.specs.Halves.{badRows, firstHalf, mostHalf, validBy, Validates, mayBegin, mayEnd, Lists}

@@ -1,3 +1,3 @@
-pub mod CountLaws
+pub mod JoinLaws
 pub mod GridLaws
 pub mod SearchLaws

@@ -15,7 +15,7 @@ use Rattle.model.specs.declared.Check.{Check}
 use Rattle.model.specs.Schedule.{run}
 use Rattle.model.specs.Check.{consistent}
 use Rattle.model.specs.Test.{countBelow}
-use Rattle.model.proofs.TestLaws.{count-none, none-count}
+use Rattle.model.proofs.CountLaws.{count-none, none-count}
 use Rattle.judge_disks.proofs.RestoreLaws.{mid-length}
 use Rattle.judge_disks.specs.Packed.{heldFrom}
 use Rattle.judge_schedules.specs.Halves.{badRows, firstHalf, mostHalf, validBy, Validates, mayBegin, mayEnd, Lists}
@@ -23,7 +23,7 @@ use Rattle.judge_schedules.proofs.SetLaws.{sets-are, sets-most}
 use Rattle.judge_search.specs.declared.Verdict.{Verdict}
 use Rattle.judge_search.specs.declared.Verdict.the-variants.{Holds, Fails}
 use Rattle.judge_search.specs.Search.{Finds, badBy, after, listed}
-use Rattle.judge_search.proofs.CountLaws.{joined-is, many-most, end-below, end-inside, joined-end, badAt}
+use Rattle.judge_search.proofs.JoinLaws.{joined-is, many-most, end-below, end-inside, joined-end, badAt}
 use Rattle.judge_search.proofs.GridLaws.{countRows, rows-whole, bad, unbegun-bad, listed-bad, found, bad-rows}
 
 -- ---- one beginning

@@ -118,7 +118,7 @@ pub fn first_bad(
     requires { ⌜ (n ≤ mostMain) × (m ≤ mostChecks) ⌝ }
     ensures { λ r. ⌜ Finds (badRows (now (rows .entry)) n base (heldFrom (now (stores .entry)) 0 n) (take m checks)) (2 ^ n) r ⌝ }
 {
-    if n <= model::MOST_FOUND {
+    if n <= judge_schedules::SHORT_MAIN {
         let mut low = [0u64; SHORT_SETS];
         let mut high = [0u64; SHORT_SETS];
         let mut ends = [0u64; SHORT_SETS];

@@ -6,20 +6,19 @@ use Prim.Native.Nat.{ℕ, suc, _+_, _≤_, _<_}
 use native.Mathlib.Numerals.{add-one}
 use native.Mathlib.Omega.{arith}
 use lib.Dec.{eqb}
-use lib.ListN.{length, getD, set, replicate}
-use lib.ListN.{getD-replicate}
+use lib.ListN.{length, getD, set}
 use lib.Seq.{getD-set-same, getD-set-other}
 use borrow.Author.Needs.{needs}
 use borrow.Author.Tests.{eq-eqb, ne-eqb, eqb-true, eqb-false}
 use Rattle.relation.specs.Bits.{withBit, maskOf}
+use Rattle.relation.specs.Tables.{Filled, Blank}
 use Rattle.model.specs.declared.Check.{Check}
 use Rattle.model.specs.declared.Check.the-variants.{Range, Pair, Pointer}
 use Rattle.model.specs.Limits.{diskBlocks}
 use Rattle.judge_disks.specs.Packed.{unpacked}
-use Rattle.judge_closed.specs.Closed.{Filled}
 use Rattle.judge_settled.specs.declared.Answer.{Answer}
 use Rattle.judge_settled.specs.declared.Answer.the-variants.{Yes, No, Open}
-use Rattle.judge_settled.specs.Settled.{isYes, opposed, Names, agreed, ownBlock, valued, writersOf, Blank}
+use Rattle.judge_settled.specs.Settled.{isYes, opposed, Names, agreed, definite, ownBlock, valued, writersOf}
 
 module _ (a : Answer) where
   pub yes-is : a ≡ Yes → true ≡ isYes a
@@ -33,6 +32,18 @@ module _ (a : Answer) where
   pub yes-open : (h : ℕ) → a ≡ Open h → false ≡ isYes a
   unfolding isYes
   yes-open h e = rw e
+
+  pub definite-yes : a ≡ Yes → true ≡ definite a
+  unfolding definite
+  definite-yes e = rw e
+
+  pub definite-no : a ≡ No → true ≡ definite a
+  unfolding definite
+  definite-no e = rw e
+
+  pub definite-open : (h : ℕ) → a ≡ Open h → false ≡ definite a
+  unfolding definite
+  definite-open h e = rw e
 
   pub opposed-yes : a ≡ Yes → No ≡ opposed a
   unfolding opposed
@@ -93,11 +104,8 @@ module _ (c : Check) where
 
 -- ---- the writes to each address
 
-pub blank-made : Blank (replicate diskBlocks 0)
-blank-made = record { at = λ a h. getD-replicate {A = ℕ} diskBlocks a 0 0 h }
-
 module _ (column : List ℕ) where
-  pub writers-none : (writers : List ℕ) → Blank writers → Filled (writersOf column 0) diskBlocks writers
+  pub writers-none : (writers : List ℕ) → Blank diskBlocks writers → Filled (writersOf column 0) diskBlocks writers
   unfolding writersOf maskOf
   writers-none writers b = record { at = b .at }
 
@@ -118,4 +126,4 @@ module _ (column : List ℕ) where
   pub writers-all : (i n : ℕ) (writers : List ℕ) → Filled (writersOf column i) diskBlocks writers → i ≤ n → n ≤ i → Filled (writersOf column n) diskBlocks writers
   writers-all i n writers g a b = let z : i ≡ n = omega arith in rw z at g
 
-pub ruleset answering = (needs, yes-is, yes-no, yes-open, opposed-yes, opposed-no, opposed-open, agreed-yes, agreed-no, agreed-open, no-is, names-yes, names-no, names-open, valued-yes, valued-no, own-range, own-pair, own-pointer, writers-none, writers-more, writers-all)
+pub ruleset answering = (needs, yes-is, yes-no, yes-open, definite-yes, definite-no, definite-open, opposed-yes, opposed-no, opposed-open, agreed-yes, agreed-no, agreed-open, no-is, names-yes, names-no, names-open, valued-yes, valued-no, own-range, own-pair, own-pointer, writers-none, writers-more, writers-all)

@@ -1,11 +1,12 @@
 -- What all schedules between two sets say of a block, of a check, of all checks.
-use Prim.Native.Nat.{ℕ, _≤_, _<_}
+use Prim.Native.Nat.{ℕ, _≤_}
 use mathlib.Core.Path.{_≡_}
 use mathlib.Core.Bool.{Bool, true, false, cond, not}
 use mathlib.Core.List.{List}
 use lib.Dec.{eqb}
 use lib.ListN.{length, getD, set}
 use Rattle.relation.specs.Bits.{bit, maskOf}
+use Rattle.relation.specs.Tables.{Filled}
 use Rattle.model.specs.declared.Check.{Check}
 use Rattle.model.specs.declared.Check.the-variants.{Range, Pair, Pointer}
 use Rattle.model.specs.Limits.{diskBlocks, mostMain}
@@ -13,7 +14,7 @@ use Rattle.model.specs.Disk.{empty, blockAt}
 use Rattle.model.specs.Schedule.{run}
 use Rattle.model.specs.Check.{rangeHolds, holds, consistent}
 use Rattle.judge_disks.specs.Packed.{unpacked, heldFrom}
-use Rattle.judge_closed.specs.Closed.{between, Filled}
+use Rattle.judge_closed.specs.Closed.{between}
 use Rattle.judge_settled.specs.declared.Answer.{Answer}
 use Rattle.judge_settled.specs.declared.Answer.the-variants.{Yes, No, Open}
 
@@ -107,9 +108,6 @@ writersOf column n a = maskOf (λ i. eqb (unpacked (getD column i 0) .address) a
 -- a table of these, for each address
 abbrev pub Writers : List ℕ → ℕ → List ℕ → Type 0
 Writers column n writers = Filled (writersOf column n) diskBlocks writers
-
-pub record Blank (writers : List ℕ) : Type 0 where
-  pub at : (a : ℕ) → a < diskBlocks → getD writers a 0 ≡ 0
 
 -- a column, a base and that table
 pub record Ready (column base : List ℕ) (n : ℕ) (writers : List ℕ) : Type 0 where

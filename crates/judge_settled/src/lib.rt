@@ -1,6 +1,6 @@
 // Checks asked of many schedules at once: of all that have what is chosen and, beyond it, only what is free.
 // A block is what the last flagged write to it leaves there. So a check holds of all these schedules, or of
-// none, or what it looks at hangs on a free write.
+// none, or what it looks at hangs on a free write. `n` is there for the contracts: the code asks `writers`.
 use model::Check;
 use model::DISK_BLOCKS;
 use model::MOST_CHECKS;
@@ -8,8 +8,9 @@ use model::MOST_INITIAL;
 ghost use mathlib.Core.Path.{_≡_};
 ghost use Prim.Native.Nat.{_<_, _≤_};
 ghost use lib.ListN.{length, take};
+ghost use Rattle.relation.specs.Tables.{Blank};
 ghost use Rattle.model.specs.Limits.{diskBlocks, mostMain, mostChecks};
-ghost use Rattle.judge_settled.specs.Settled.{Says, isYes, opposed, Names, agreed, isBlock, holdsIn, allHold, ownBlock, isKnown, isThere, rangeIn, holdsBy, valued, Writers, Blank, Ready, Among, AlikeIf};
+ghost use Rattle.judge_settled.specs.Settled.{Says, isYes, opposed, Names, agreed, definite, isBlock, holdsIn, allHold, ownBlock, isKnown, isThere, rangeIn, holdsBy, valued, Writers, Ready, Among, AlikeIf};
 
 // What all these schedules say: yes, or no; or nothing is said, and a free write is named on which it may hang.
 pub enum Answer {
@@ -20,13 +21,13 @@ pub enum Answer {
 
 // The answer of the checks, and how many of them, from the first on, hold of all these schedules.
 pub struct Asked {
-    pub from: usize,
+    pub held: usize,
     pub answer: Answer,
 }
 
 // Which of the first n writes of a column go to each address.
 pub fn fill_writers(writers: &mut [u64], stores: &[u64; MOST_INITIAL], n: usize)
-    requires { ⌜ (length (now writers) ≡ diskBlocks) × ((n ≤ mostMain) × Blank (now writers)) ⌝ }
+    requires { ⌜ (length (now writers) ≡ diskBlocks) × ((n ≤ mostMain) × Blank diskBlocks (now writers)) ⌝ }
     ensures { λ _. ⌜ Writers (now (stores .entry)) n (now (writers .exit)) ⌝ }
 {
     let mut i: usize = 0;
@@ -61,6 +62,17 @@ pub fn open_at(answer: Answer) -> usize
         Answer::Yes => 0,
         Answer::No => 0,
         Answer::Open(h) => h,
+    }
+}
+
+// Whether an answer is yes or no.
+fn is_definite(answer: Answer) -> bool
+    ensures { λ r. ⌜ r ≡ definite answer ⌝ }
+{
+    match answer {
+        Answer::Yes => true,
+        Answer::No => true,
+        Answer::Open(_) => false,
     }
 }
 
@@ -425,6 +437,10 @@ fn ask_check(
     if relation::has_bit(chosen, h) {
         return first;
     }
+    // Others need not be asked: none agrees with an open answer.
+    if !is_definite(first) {
+        return Answer::Open(h);
+    }
     if checks_alike(
         base,
         stores,
@@ -441,7 +457,7 @@ fn ask_check(
     Answer::Open(h)
 }
 
-// The first m checks, of which the first k hold.
+// What the first m checks say, of which the first k are known to hold.
 pub fn ask_checks(
     base: &[u32; DISK_BLOCKS],
     stores: &[u64; MOST_INITIAL],
@@ -454,16 +470,16 @@ pub fn ask_checks(
     k: usize,
 ) -> Asked
     requires { ⌜ Ready (now stores) (now base) n (now writers) × (((k ≤ m) × (m ≤ mostChecks)) × Says (allHold (now stores) (now base) n (take k checks)) chosen free Answer.Yes) ⌝ }
-    ensures { λ r. ⌜ (r .from ≤ m) × (Says (allHold (now (stores .entry)) (now (base .entry)) n (take (r .from) checks)) chosen free Answer.Yes × Says (allHold (now (stores .entry)) (now (base .entry)) n (take m checks)) chosen free (r .answer)) ⌝ }
+    ensures { λ r. ⌜ (r .held ≤ m) × (Says (allHold (now (stores .entry)) (now (base .entry)) n (take (r .held) checks)) chosen free Answer.Yes × Says (allHold (now (stores .entry)) (now (base .entry)) n (take m checks)) chosen free (r .answer)) ⌝ }
 {
     let mut i = k;
     while i < m {
         let answer = ask_check(base, stores, writers, n, chosen, free, checks[i]);
         if !is_yes(answer) {
-            return Asked { from: i, answer };
+            return Asked { held: i, answer };
         }
         i += 1;
     }
     let answer = Answer::Yes;
-    Asked { from: i, answer }
+    Asked { held: i, answer }
 }

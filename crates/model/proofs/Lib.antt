@@ -1,5 +1,6 @@
 pub mod RuleLaws
 pub mod ScheduleLaws
 pub mod CheckLaws
+pub mod CountLaws
 pub mod TestLaws
 pub mod Theorems

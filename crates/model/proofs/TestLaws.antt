@@ -1,20 +1,19 @@
 -- The computed forms of a bad schedule and of a test that holds agree with their meaning, and so does the count of bad schedules.
 use mathlib.Core.Path.{_≡_, refl, sym, _∙_}
-use mathlib.Core.Logic.{_⊎_, inl, inr, ⊎-elim}
-use mathlib.Core.Bool.{Bool, true, false, cond, not, false≢true}
+use mathlib.Core.Logic.{_⊎_, inl, inr}
+use mathlib.Core.Bool.{Bool, true, false, not, false≢true}
 use mathlib.Core.List.{List}
-use Prim.Native.Nat.{ℕ, zero, suc, _+_, _≤_, _<_}
-use native.Mathlib.Nat.{add-zero, add-suc}
-use native.Mathlib.Omega.{arith}
+use Prim.Native.Nat.{ℕ, _<_}
 use borrow.Author.Tests.{not-true}
-use Rattle.relation.proofs.ListLaws.{not-so, and-left, and-right, and-intro, allBelow-true, allBelow-intro, anyBelow-true, anyBelow-false, below-suc}
+use Rattle.relation.proofs.ListLaws.{not-so, and-left, and-right, and-intro, allBelow-true, allBelow-intro, anyBelow-true, anyBelow-false}
 use Rattle.relation.specs.Lists.{anyBelow}
 use Rattle.model.specs.declared.Rule.{Rule}
 use Rattle.model.specs.Schedule.{valid}
 use Rattle.model.specs.Check.{Consistent, consistent}
-use Rattle.model.specs.Test.{Test, schedules, diskAfter, TestHolds, testHolds, Bad, bad, countBelow, badCount}
+use Rattle.model.specs.Test.{Test, schedules, diskAfter, TestHolds, testHolds, Bad, bad, badCount}
 use Rattle.model.proofs.ScheduleLaws.{valid-true, true-valid}
 use Rattle.model.proofs.CheckLaws.{consistent-true, true-consistent}
+use Rattle.model.proofs.CountLaws.{count-none, none-count}
 
 module _ (rules : List Rule) (t : Test) where
   pub bad-true : (s : ℕ) → s < schedules t → bad rules t s ≡ true → Bad rules t s
@@ -61,28 +60,6 @@ module _ (rules : List Rule) (t : Test) where
   unfolding Bad TestHolds
   bad-fails s b h = b .2 (h s (b .0) (b .1))
 
--- a count is 0 exactly if nothing below the bound passes
-pub count-none : (p : ℕ → Bool) (n : ℕ) → countBelow p n ≡ 0 → (s : ℕ) → s < n → p s ≡ false
-unfolding countBelow
-count-none p zero e s l = absurd (omega arith)
-count-none p (suc n) e s l = ⊎-elim
-    (λ (q : s ≡ n). rw q (here (p n) (countBelow p n) e))
-    (λ (q : s < n). count-none p n (there (p n) (countBelow p n) e) s q)
-    (below-suc s n l)
-  where
-    here : (b : Bool) (k : ℕ) → cond b 1 0 + k ≡ 0 → b ≡ false
-    here true k z = absurd (omega arith)
-    here false k z = refl
-
-    there : (b : Bool) (k : ℕ) → cond b 1 0 + k ≡ 0 → k ≡ 0
-    there true k z = absurd (omega arith)
-    there false k z = omega arith
-
-pub none-count : (p : ℕ → Bool) (n : ℕ) → ((s : ℕ) → s < n → p s ≡ false) → countBelow p n ≡ 0
-unfolding countBelow
-none-count p zero h = refl
-none-count p (suc n) h = rw (h n (omega arith), none-count p n (λ s l. h s (omega arith)))
-
 -- no bad schedule is counted exactly if the test holds
 pub count-holds : (rules : List Rule) (t : Test) → badCount rules t ≡ 0 → TestHolds rules t
 unfolding badCount
@@ -94,23 +71,3 @@ unfolding badCount
 holds-count rules t h =
     none-count (bad rules t) (schedules t)
     (λ s l. not-true _ (allBelow-true (λ x. not (bad rules t x)) (schedules t) (unfold testHolds in true-testHolds rules t h) s l))
-
-pub count-ext : (p q : ℕ → Bool) (n : ℕ) → ((s : ℕ) → s < n → p s ≡ q s) → countBelow p n ≡ countBelow q n
-unfolding countBelow
-count-ext p q zero h = refl
-count-ext p q (suc n) h = rw (h n (omega arith), count-ext p q n (λ s l. h s (omega arith)))
-
--- those below a sum are those below its first part, and those behind
-pub count-append : (p : ℕ → Bool) (a b : ℕ) → countBelow p (a + b) ≡ countBelow p a + countBelow (λ k. p (a + k)) b
-unfolding countBelow
-count-append p a zero = rw (add-zero a) (omega arith)
-count-append p a (suc b) = let h = count-append p a b in rw (add-suc a b) (omega arith)
-
-pub count-most : (p : ℕ → Bool) (n : ℕ) → countBelow p n ≤ n
-unfolding countBelow
-count-most p zero = omega arith
-count-most p (suc n) = go (p n) (count-most p n)
-  where
-    go : (b : Bool) → countBelow p n ≤ n → cond b 1 0 + countBelow p n ≤ suc n
-    go true h = omega arith
-    go false h = omega arith

@@ -8,3 +8,4 @@ pub mod MaskLaws
 pub mod UnionLaws
 pub mod WithoutLaws
 pub mod SetLaws
+pub mod TableLaws

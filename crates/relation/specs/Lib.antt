@@ -3,3 +3,4 @@ pub mod Lists
 pub mod Transitive
 pub mod Finite
 pub mod Union
+pub mod Tables

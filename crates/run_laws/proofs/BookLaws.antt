@@ -21,7 +21,7 @@ use Rattle.cache_soundlaws.proofs.ReadyLaws.{needs-left, needs-right, ready-ear
 use Rattle.cache_soundlaws.proofs.HandLaws.{closed-with}
 use Rattle.run_laws.specs.Book.{entry, Book, accepted, flagAt, appended, flagging, stepEntered}
 use Rattle.model.specs.Test.{countBelow}
-use Rattle.model.proofs.TestLaws.{count-ext}
+use Rattle.model.proofs.CountLaws.{count-ext}
 use Rattle.cache_model.specs.State.{rulesIn, writesIn, storedIn, acceptedCount}
 use Rattle.cache_model.specs.Sound.{Sound}
 use Rattle.run_laws.proofs.LayoutLaws.{stateOf, front, flagCount, length-state, state-rules, state-writes, state-accepted, state-stored, state-flags, rules-rest, writes-rest, flags-fit, third, flag-appended, flag-new, length-appended, length-flagging, flag-here, flag-else, accepted-flagging}

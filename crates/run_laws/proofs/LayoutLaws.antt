@@ -18,7 +18,7 @@ use Rattle.model.specs.declared.Rule.{Rule}
 use Rattle.model.specs.Cyclic.{noRule}
 use Rattle.model.specs.Schedule.{noWrite}
 use Rattle.model.specs.Test.{countBelow}
-use Rattle.model.proofs.TestLaws.{count-ext}
+use Rattle.model.proofs.CountLaws.{count-ext}
 use Rattle.file_format.specs.Bytes.{byte, writeBytes, ruleBytes}
 use Rattle.file_format.specs.File.{ruleOf, writeOf}
 use Rattle.file_format.specs.Encode.{WriteFits}

@@ -20,7 +20,7 @@ use Rattle.model.specs.declared.Rule.{Rule}
 use Rattle.model.specs.Answer.{Outcome, answer, refused}
 use Rattle.model.specs.Cyclic.{cyclic}
 use Rattle.model.specs.Test.{File}
-use Rattle.model.proofs.TestLaws.{count-none, none-count}
+use Rattle.model.proofs.CountLaws.{count-none, none-count}
 use Rattle.file_format.specs.Bytes.{diskLength}
 use Rattle.file_format.specs.File.{readOf}
 use Rattle.file_format.specs.Encode.{WriteFits}

@@ -156,6 +156,56 @@ pub fn holding_file(main: usize) -> Vec<u8> {
     file_of(&[], vec![test])
 }
 
+/// What a range of so many blocks from address 1 on has: blocks that are there, and at address 0 head
+/// and tail.
+fn filled_range(blocks: u16) -> impl Iterator<Item = Write> {
+    let filled = (1..=blocks as u8).map(|at| write(at, 1, 0, block(7, 7)));
+    filled.chain([write(0, 2, 0, block(1, 1 + blocks))])
+}
+
+/// 20 main writes and 16 checks of which many sets of schedules have to be told apart, and in each of
+/// these long ranges are looked at: five pairs, whose blocks are both changed and both put back, and
+/// eleven times a range of 53 blocks.
+pub fn ranges_file(tests: usize) -> Vec<u8> {
+    let (old, new) = (block(1, 1), block(2, 2));
+    let pair = |g: u8| (100 + 2 * g, 101 + 2 * g);
+    let test = Test {
+        initial: (0..5)
+            .flat_map(|g| [pair(g).0, pair(g).1].map(|at| write(at, 3, 0, old)))
+            .chain(filled_range(53))
+            .collect(),
+        main: (0..5)
+            .flat_map(|g| {
+                let (a, b) = pair(g);
+                [(a, new), (b, new), (a, old), (b, old)].map(|(at, to)| write(at, 3, 0, to))
+            })
+            .collect(),
+        checks: (0..5)
+            .map(|g| Check::Pair {
+                a: pair(g).0,
+                v: old,
+                b: pair(g).1,
+                w: old,
+            })
+            .chain([Check::Range { at: 0 }; 11])
+            .collect(),
+    };
+    file_of(&[], vec![test; tests])
+}
+
+/// 12 main writes of one superblock, each after the one before, and 16 times its range of some 60
+/// blocks: 13 schedules are valid.
+pub fn superblocks_file() -> Vec<u8> {
+    let test = Test {
+        initial: filled_range(63).collect(),
+        main: (0..MAIN as u16)
+            .map(|i| write(0, 1, i as u32, block(1, 63 - i % 2)))
+            .collect(),
+        checks: vec![Check::Range { at: 0 }; MOST_CHECKS],
+    };
+    file_of(&[rule(1, Predicate::Greater, 1)], vec![test])
+}
+
 /// The longest file that reading accepts, with rules that are not cyclic; in some of its tests the
 /// rules leave hundreds of schedules valid, some hold and some fail. Every fourth test asks of what a
 /// write leaves that it is that, and holds.

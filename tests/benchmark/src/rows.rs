@@ -70,6 +70,10 @@ fn on_tests(
         row("12 writes, 16 checks, 3 rules", inputs::settings_file(3)),
         row("12 writes, 16 checks, all hold", inputs::holding_file(12)),
         row(
+            "12 writes of a superblock, 16 long ranges",
+            inputs::superblocks_file(),
+        ),
+        row(
             "log of 10 puts, its rules",
             inputs::long_log_file(&log_rules()),
         ),
@@ -77,6 +81,7 @@ fn on_tests(
         row("20 writes, 16 checks, no rules", inputs::marks_file(0, 1)),
         row("20 writes, 16 checks, 3 rules", inputs::marks_file(3, 1)),
         row("20 writes, 16 checks, all hold", inputs::holding_file(20)),
+        row("20 writes, 5 pairs, 11 long ranges", inputs::ranges_file(1)),
     ]
 }
 
@@ -137,6 +142,10 @@ fn lines(proved: OnFile) -> Vec<Row> {
         row(
             "16 tests of 20 writes, 16 checks, no rules",
             inputs::marks_file(0, 16),
+        ),
+        row(
+            "16 tests of 20 writes, 5 pairs, 11 long ranges",
+            inputs::ranges_file(16),
         ),
     ]
 }

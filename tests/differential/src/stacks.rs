@@ -26,6 +26,10 @@ pub fn suites() -> Vec<Suite> {
     vec![
         suite("stack: judge", stack_of_judge),
         suite("stack: verdict", stack_of_verdict),
+        suite(
+            "stack: verdict, at most 12 main writes",
+            stack_of_short_verdict,
+        ),
         suite("stack: judge_lines", stack_of_lines),
         suite("stack: find", stack_of_find),
     ]
@@ -87,12 +91,13 @@ fn on_tests(
     routine: Option<OnTest>,
     usual: fn(&Lent, u64) -> u64,
     most: usize,
+    make: fn(&mut Random, u64) -> Vec<u8>,
 ) -> Outcome {
     let routine = routine.map(|routine| routine as *const ());
     let mut deepest = Deepest::new(most);
     for i in 0..run.times(cases) {
         let mut random = run.next_case();
-        let bytes = any_file(&mut random, i);
+        let bytes = make(&mut random, i);
         let lent = Lent::new(&mut random, &bytes);
         let (file, length) = (lent.pointer() as u64, lent.len() as u64);
         let arguments = [file, length, 1, 0, 0, 0, 0];
@@ -102,12 +107,25 @@ fn on_tests(
 }
 
 fn stack_of_judge(run: &mut Run) -> Outcome {
-    on_tests(run, 400, library::JUDGE, calls::judge, MOST_OF_JUDGING)
+    let (routine, usual) = (library::JUDGE, calls::judge);
+    on_tests(run, 400, routine, usual, MOST_OF_JUDGING, any_file)
 }
 
 fn stack_of_verdict(run: &mut Run) -> Outcome {
     // Without rules a verdict that holds takes long.
-    on_tests(run, 100, library::VERDICT, calls::verdict, MOST_OF_JUDGING)
+    let (routine, usual) = (library::VERDICT, calls::verdict);
+    on_tests(run, 100, routine, usual, MOST_OF_JUDGING, any_file)
+}
+
+/// Tests whose tables are short: no more main writes than there could be before 20 were allowed.
+fn short_file(random: &mut Random, _: u64) -> Vec<u8> {
+    let main = random.between(0, MOST_TO_FIND);
+    crashes::file_of(random, main).to_bytes()
+}
+
+fn stack_of_short_verdict(run: &mut Run) -> Outcome {
+    let (routine, usual) = (library::VERDICT, calls::verdict);
+    on_tests(run, 400, routine, usual, MOST_OF_JUDGING, short_file)
 }
 
 type OnFile = unsafe extern "C" fn(*const u8, usize, *mut u8, usize) -> u64;

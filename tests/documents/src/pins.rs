@@ -153,6 +153,7 @@ impl Sources {
             path.ends_with("/specs/Theorem.antt")
                 || *path == "bench/specs/Sheet.antt"
                 || *path == "judge_cases/specs/Examples.antt"
+                || *path == "judge_rows/specs/Examples.antt"
         };
         self.0.keys().filter(is).collect()
     }

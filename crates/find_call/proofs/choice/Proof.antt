@@ -1,5 +1,6 @@
 -- `find_call::choice` meets its contract. The sets that are not marked in the end are those that make all tests hold.
-use Rattle.find_table.proofs.MarkLaws.{blank-made}
+use Rattle.relation.proofs.TableLaws.{blank-made}
+use Rattle.find_table.specs.Table.{setWords}
 use Rattle.find_choice.proofs.ChoiceSteps.{choosing}
 use Rattle.find_call.proofs.choice.Statement.{statement}
 use Rattle.find_call.proofs.choice.Tie as tie
@@ -8,7 +9,7 @@ slice-aggregate-mark-all : tie.Need-slice-aggregate-mark-all
 slice-aggregate-mark-all c = search choosing
 
 mark-all-requires : tie.Need-mark-all-requires
-mark-all-requires c κs = (search choosing, (search choosing, (search choosing, (search choosing, blank-made))))
+mark-all-requires c κs = (search choosing, (search choosing, (search choosing, (search choosing, blank-made setWords))))
 
 slice-aggregate-lower-all : tie.Need-slice-aggregate-lower-all
 slice-aggregate-lower-all c = search choosing

@@ -51,7 +51,7 @@ count-between-highest-requires : (t : ℕ) → count-between-lts.Need-highest-re
 ) (count-between-at t) count-between.Post
 count-between-highest-requires t c κs = search counting
 
-count-between-mul-with : (t : ℕ) → count-between-lts.Need-mul-with (
+count-between-mul-required : (t : ℕ) → count-between-lts.Need-mul-required (
   highest-reads.Asked,
   highest-reads.Learnt,
   without-reads.Asked,
@@ -61,9 +61,9 @@ count-between-mul-with : (t : ℕ) → count-between-lts.Need-mul-with (
   is-untied-reads.Asked,
   is-untied-reads.Learnt,
 ) (count-between-at t) count-between.Post
-count-between-mul-with t c = search counting
+count-between-mul-required t c = search counting
 
-count-between-element-copy-out-with : (t : ℕ) → count-between-lts.Need-element-copy-out-with (
+count-between-element-copy-out-required : (t : ℕ) → count-between-lts.Need-element-copy-out-required (
   highest-reads.Asked,
   highest-reads.Learnt,
   without-reads.Asked,
@@ -73,9 +73,9 @@ count-between-element-copy-out-with : (t : ℕ) → count-between-lts.Need-eleme
   is-untied-reads.Asked,
   is-untied-reads.Learnt,
 ) (count-between-at t) count-between.Post
-count-between-element-copy-out-with t c = search counting
+count-between-element-copy-out-required t c = search counting
 
-count-between-mul-by : (t : ℕ) → count-between-lts.Need-mul-by (
+count-between-mul-requiring : (t : ℕ) → count-between-lts.Need-mul-requiring (
   highest-reads.Asked,
   highest-reads.Learnt,
   without-reads.Asked,
@@ -85,9 +85,9 @@ count-between-mul-by : (t : ℕ) → count-between-lts.Need-mul-by (
   is-untied-reads.Asked,
   is-untied-reads.Learnt,
 ) (count-between-at t) count-between.Post
-count-between-mul-by t c = search counting
+count-between-mul-requiring t c = search counting
 
-count-between-element-copy-out-by : (t : ℕ) → count-between-lts.Need-element-copy-out-by (
+count-between-element-copy-out-requiring : (t : ℕ) → count-between-lts.Need-element-copy-out-requiring (
   highest-reads.Asked,
   highest-reads.Learnt,
   without-reads.Asked,
@@ -97,7 +97,7 @@ count-between-element-copy-out-by : (t : ℕ) → count-between-lts.Need-element
   is-untied-reads.Asked,
   is-untied-reads.Learnt,
 ) (count-between-at t) count-between.Post
-count-between-element-copy-out-by t c = search counting
+count-between-element-copy-out-requiring t c = search counting
 
 count-between-without-requires : (t : ℕ) → count-between-lts.Need-without-requires (
   highest-reads.Asked,
@@ -222,10 +222,10 @@ pub +count-between-spec : {M : Type 1} → statement M
     count-between.Post
     (count-between-returns t)
     (count-between-highest-requires t)
-    (count-between-mul-with t)
-    (count-between-element-copy-out-with t)
-    (count-between-mul-by t)
-    (count-between-element-copy-out-by t)
+    (count-between-mul-required t)
+    (count-between-element-copy-out-required t)
+    (count-between-mul-requiring t)
+    (count-between-element-copy-out-requiring t)
     (count-between-without-requires t)
     (count-between-count-between-requires t)
     (count-between-is-untied-requires t)

@@ -248,7 +248,7 @@ walk-open-at-requires : (t : ℕ) → walk-lts.Need-open-at-requires (
 ) (walk-at t) walk.Post
 walk-open-at-requires t c κs = search walking
 
-walk-mul-with : (t : ℕ) → walk-lts.Need-mul-with (
+walk-mul-required : (t : ℕ) → walk-lts.Need-mul-required (
   ask-checks-reads.Asked,
   ask-checks-reads.Learnt,
   is-yes-reads.Asked,
@@ -268,13 +268,13 @@ walk-mul-with : (t : ℕ) → walk-lts.Need-mul-with (
   walk-below t,
   walk.Post,
 ) (walk-at t) walk.Post
-walk-mul-with t c =
+walk-mul-required t c =
     let o = c in
     let start = c .before .before .before .before .before .before in
     let k = fork _ _ _ _ _ _ _ _ _ _ _ _ _ (start .pre .1 .0 .0) (start .pre .1 .0 .1 .0) (start .pre .1 .0 .1 .1) (o .before .before .before .before .before .ask-checks .ensures .1 .1) (o .before .before .before .before .is-yes .ensures) (search needs) (o .before .before .is-no .ensures) (search needs) (o .open-at .ensures) in
     search (needs, open-below _ _ _ _ _ _ k)
 
-walk-element-copy-out-with : (t : ℕ) → walk-lts.Need-element-copy-out-with (
+walk-element-copy-out-required : (t : ℕ) → walk-lts.Need-element-copy-out-required (
   ask-checks-reads.Asked,
   ask-checks-reads.Learnt,
   is-yes-reads.Asked,
@@ -294,7 +294,7 @@ walk-element-copy-out-with : (t : ℕ) → walk-lts.Need-element-copy-out-with (
   walk-below t,
   walk.Post,
 ) (walk-at t) walk.Post
-walk-element-copy-out-with t c =
+walk-element-copy-out-required t c =
     let o = c in
     let start = c .before .before .before .before .before .before in
     let k = fork _ _ _ _ _ _ _ _ _ _ _ _ _ (start .pre .1 .0 .0) (start .pre .1 .0 .1 .0) (start .pre .1 .0 .1 .1) (o .before .before .before .before .before .ask-checks .ensures .1 .1) (o .before .before .before .before .is-yes .ensures) (search needs) (o .before .before .is-no .ensures) (search needs) (o .open-at .ensures) in
@@ -511,8 +511,8 @@ pub +walk-spec : {M : Type 1} → statement M
     (walk-add-bad-requires t)
     (walk-returns-2 t)
     (walk-open-at-requires t)
-    (walk-mul-with t)
-    (walk-element-copy-out-with t)
+    (walk-mul-required t)
+    (walk-element-copy-out-required t)
     (walk-mul-without t)
     (walk-element-copy-out-without t)
     (walk-without-requires t)

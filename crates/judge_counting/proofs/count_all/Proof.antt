@@ -1,6 +1,7 @@
 -- `judge_counting::count_all` meets its contract. It walks from nothing chosen and all free.
 use mathlib.Core.Path.{refl}
-use Rattle.judge_settled.proofs.AnswerLaws.{blank-made}
+use Rattle.relation.proofs.TableLaws.{blank-made}
+use Rattle.model.specs.Limits.{diskBlocks}
 use Rattle.judge_counting.proofs.WalkLaws.{start-choice, start-says, start-room, walking}
 use Rattle.judge_counting.proofs.count_all.Statement.{statement}
 use Rattle.judge_counting.proofs.count_all.Tie as tie
@@ -12,7 +13,7 @@ slice-aggregate-fill-writers : tie.Need-slice-aggregate-fill-writers
 slice-aggregate-fill-writers c = search walking
 
 fill-writers-requires : tie.Need-fill-writers-requires
-fill-writers-requires c κs = (search walking, (search walking, blank-made))
+fill-writers-requires c κs = (search walking, (search walking, blank-made diskBlocks))
 
 shl-walk : tie.Need-shl-walk
 shl-walk c = search walking

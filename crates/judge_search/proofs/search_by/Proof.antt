@@ -13,7 +13,7 @@ use Rattle.judge_checks.proofs.CheckSteps.{checks-start, checks-more, checks-st
 use Rattle.judge_disks.proofs.RestoreLaws.{restored-run, ran, mid-length}
 use Rattle.judge_schedules.specs.Halves.{halfSets, validBy}
 use Rattle.judge_search.specs.declared.Verdict.the-variants.{Holds}
-use Rattle.judge_search.proofs.CountLaws.{badAt, end-inside, joined-end}
+use Rattle.judge_search.proofs.JoinLaws.{badAt, end-inside, joined-end}
 use Rattle.judge_search.proofs.SearchLaws.{searching, clearing, Clear, clear-skip, clear-pass, stops-here, stops-none, Cleared, cleared-skip, cleared-more, finds-bad}
 use Rattle.judge_search.proofs.search_by.Statement.{statement}
 use Rattle.judge_search.proofs.search_by.Tie as tie

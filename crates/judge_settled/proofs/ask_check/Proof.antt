@@ -46,6 +46,12 @@ has-bit-requires c κs = search checking
 returns-2 : tie.Need-returns-2
 returns-2 c = search checking
 
+is-definite-requires : tie.Need-is-definite-requires
+is-definite-requires c κs = search checking
+
+returns-3 : tie.Need-returns-3
+returns-3 c = search checking
+
 shl-without : tie.Need-shl-without
 shl-without c = search checking
 
@@ -54,16 +60,16 @@ without-requires c κs = search checking
 
 checks-alike-requires : tie.Need-checks-alike-requires
 checks-alike-requires c κs =
-    let start = c .before .before .before .before .before .before .before .before .before .before in
-    let own = c .before .before .before .before .before .before .before .before .before .own-block .ensures in
-    let top = c .before .before .before .before .before .before .highest .ensures .0 in
+    let start = c .before .before .before .before .before .before .before .before .before .before .before .before in
+    let own = c .before .before .before .before .before .before .before .before .before .before .before .own-block .ensures in
+    let top = c .before .before .before .before .before .before .before .before .highest .ensures .0 in
     (search checking, check-rest _ _ _ _ (start .args .chosen) (start .args .free) _ _ _ (own .0) (own .1) (start .pre) refl _ top _ (c .without .ensures))
-
-returns-3 : tie.Need-returns-3
-returns-3 c = search checking
 
 returns-4 : tie.Need-returns-4
 returns-4 c = search checking
+
+returns-5 : tie.Need-returns-5
+returns-5 c = search checking
 
 pub ask-check-spec : {M : Type 1} → statement M
 ask-check-spec =
@@ -83,8 +89,10 @@ ask-check-spec =
     check-with-requires-2
     has-bit-requires
     returns-2
+    is-definite-requires
+    returns-3
     shl-without
     without-requires
     checks-alike-requires
-    returns-3
-    returns-4)
+    returns-4
+    returns-5)

@@ -1,5 +1,4 @@
 -- `judge_settled::ask_checks` meets its contract. The invariant: the first i checks hold.
-use mathlib.Core.Path.{_≡_}
 use Prim.Native.Nat.{_-_, _≤_}
 use lib.ListN.{take}
 use Rattle.judge_settled.specs.declared.Answer.the-variants.{Yes}

@@ -3,7 +3,7 @@ use mathlib.Core.Path.{_≡_}
 use Prim.Native.Nat.{_-_, _≤_}
 use lib.ListN.{length}
 use Rattle.model.specs.Limits.{diskBlocks}
-use Rattle.judge_closed.specs.Closed.{Filled}
+use Rattle.relation.specs.Tables.{Filled}
 use Rattle.judge_settled.specs.Settled.{writersOf}
 use Rattle.judge_settled.proofs.AnswerLaws.{answering}
 use Rattle.judge_settled.proofs.fill_writers.Statement.{statement}

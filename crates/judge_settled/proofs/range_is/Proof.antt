@@ -1,5 +1,4 @@
 -- `judge_settled::range_is` meets its contract. The invariant: the blocks below k are there.
-use mathlib.Core.Path.{_≡_}
 use Prim.Native.Nat.{_-_, _≤_}
 use Rattle.judge_settled.proofs.AskLaws.{There, asking}
 use Rattle.judge_settled.proofs.range_is.Statement.{statement}

@@ -1,19 +1,85 @@
--- Counts of numbers that pass a test: split by a second test, of one number alone, and of two tests that a bit turns into each other.
--- By induction on the bound, the last one by blocks of 2 ^ (h + 1) numbers.
+-- Counts of the numbers below a bound that pass a test: none, all, some or one of them; of tests that agree, and of a narrower one; of a sum; split by a second test; and
+-- of two tests that a bit turns into each other. By induction on the bound, the last one by blocks of 2 ^ (h + 1) numbers.
 use mathlib.Core.Path.{_≡_, refl, sym, ap, _∙_}
 use mathlib.Core.Logic.{_⊎_, ⊎-elim}
 use mathlib.Core.Bool.{Bool, true, false, cond, not, _&&_, false≢true}
-use Prim.Native.Nat.{ℕ, zero, suc, _+_, _-_, _*_, _^_, _<_}
-use native.Mathlib.Nat.{zero-mul, suc-mul, pow-suc}
+use Prim.Native.Nat.{ℕ, zero, suc, _+_, _-_, _*_, _^_, _≤_, _<_}
+use native.Mathlib.Nat.{add-zero, add-suc, zero-mul, suc-mul, pow-suc}
 use native.Mathlib.Omega.{arith}
 use lib.Arith.{digits-mod}
 use lib.Pow.{pow-add}
 use Rattle.relation.specs.Bits.{bit}
 use Rattle.relation.proofs.BitLaws.{bit-mod}
-use Rattle.relation.proofs.ListLaws.{untrue, below-suc}
+use Rattle.relation.proofs.ListLaws.{clash, untrue, below-suc}
 use Rattle.relation.proofs.UnionLaws.{bit-past, bit-top}
 use Rattle.model.specs.Test.{countBelow}
-use Rattle.model.proofs.TestLaws.{count-ext, none-count, count-append}
+
+-- a count is 0 exactly if nothing below the bound passes
+pub count-none : (p : ℕ → Bool) (n : ℕ) → countBelow p n ≡ 0 → (s : ℕ) → s < n → p s ≡ false
+unfolding countBelow
+count-none p zero e s l = absurd (omega arith)
+count-none p (suc n) e s l = ⊎-elim
+    (λ (q : s ≡ n). rw q (here (p n) (countBelow p n) e))
+    (λ (q : s < n). count-none p n (there (p n) (countBelow p n) e) s q)
+    (below-suc s n l)
+  where
+    here : (b : Bool) (k : ℕ) → cond b 1 0 + k ≡ 0 → b ≡ false
+    here true k z = absurd (omega arith)
+    here false k z = refl
+
+    there : (b : Bool) (k : ℕ) → cond b 1 0 + k ≡ 0 → k ≡ 0
+    there true k z = absurd (omega arith)
+    there false k z = omega arith
+
+pub none-count : (p : ℕ → Bool) (n : ℕ) → ((s : ℕ) → s < n → p s ≡ false) → countBelow p n ≡ 0
+unfolding countBelow
+none-count p zero h = refl
+none-count p (suc n) h = rw (h n (omega arith), none-count p n (λ s l. h s (omega arith)))
+
+-- all pass
+pub count-all : (p : ℕ → Bool) (n : ℕ) → ((s : ℕ) → p s ≡ true) → countBelow p n ≡ n
+unfolding countBelow
+count-all p zero h = refl
+count-all p (suc n) h = rw (h n, count-all p n h) (omega arith)
+
+pub count-ext : (p q : ℕ → Bool) (n : ℕ) → ((s : ℕ) → s < n → p s ≡ q s) → countBelow p n ≡ countBelow q n
+unfolding countBelow
+count-ext p q zero h = refl
+count-ext p q (suc n) h = rw (h n (omega arith), count-ext p q n (λ s l. h s (omega arith)))
+
+-- those below a sum are those below its first part, and those behind
+pub count-append : (p : ℕ → Bool) (a b : ℕ) → countBelow p (a + b) ≡ countBelow p a + countBelow (λ k. p (a + k)) b
+unfolding countBelow
+count-append p a zero = rw (add-zero a) (omega arith)
+count-append p a (suc b) = let h = count-append p a b in rw (add-suc a b) (omega arith)
+
+pub count-most : (p : ℕ → Bool) (n : ℕ) → countBelow p n ≤ n
+unfolding countBelow
+count-most p zero = omega arith
+count-most p (suc n) = go (p n) (count-most p n)
+  where
+    go : (b : Bool) → countBelow p n ≤ n → cond b 1 0 + countBelow p n ≤ suc n
+    go true h = omega arith
+    go false h = omega arith
+
+-- those that pass a narrower test are no more
+pub count-less : (p q : ℕ → Bool) (n : ℕ) → ((s : ℕ) → p s ≡ true → q s ≡ true) → countBelow p n ≤ countBelow q n
+unfolding countBelow
+count-less p q zero f = omega arith
+count-less p q (suc n) f = let h = count-less p q n f in let k = go (p n) (q n) refl refl in omega (arith, h, k)
+  where
+    go : (a b : Bool) → p n ≡ a → q n ≡ b → cond a 1 0 ≤ cond b 1 0
+    go true true e z = omega arith
+    go true false e z = clash (q n) (f n e) z
+    go false b e z = omega arith
+
+-- one that passes is counted
+pub count-some : (p : ℕ → Bool) (n s : ℕ) → s < n → p s ≡ true → 0 < countBelow p n
+count-some p n s h e = go (countBelow p n) refl
+  where
+    go : (k : ℕ) → countBelow p n ≡ k → 0 < countBelow p n
+    go zero z = clash (p s) e (count-none p n z s h)
+    go (suc k) z = omega (arith, z)
 
 -- by a second test
 pub count-split : (p t : ℕ → Bool) (n : ℕ) → countBelow p n ≡ countBelow (λ s. p s && not (t s)) n + countBelow (λ s. p s && t s) n

@@ -41,4 +41,4 @@ joined-end s x near y size e h l = rw (e, add-mul-div-left x y (pow-pos near), d
 abbrev pub badAt : (ℕ → Bool) → ℕ → ℕ → List ℕ → List Write → List Check → List ℕ → ℕ → Bool
 badAt v x rows mid ws cs ends k = listed ends (badBy (after v x rows) mid ws cs) k
 
-pub ruleset counts = (needs, joined-is, many-most, end-below, end-inside, joined-end)
+pub ruleset joins = (needs, joined-is, many-most, end-below, end-inside, joined-end)
