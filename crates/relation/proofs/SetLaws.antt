@@ -100,8 +100,8 @@ without-falls a b h l ea eb =
 pub leading-fits : (m : ℕ) → leadingZeros 64 m < 2 ^ 64
 leading-fits m = omega (arith, leading-le 64 m)
 
-pub leading-most : (m : ℕ) → 0 < m → m < 2 ^ 64 → leadingZeros 64 m ≤ 63
-leading-most m p h = let t = leading-top 64 m p h in omega (arith, t .1)
+pub leading-most : (m k : ℕ) → 0 < m → m < 2 ^ 64 → 63 ≤ k → leadingZeros 64 m ≤ k
+leading-most m k p h l = let t = leading-top 64 m p h in omega (arith, t .1, l)
 
 pub highest-is : (m : ℕ) → 0 < m → m < 2 ^ 64 → Highest m (63 - leadingZeros 64 m)
 unfolding Highest
