@@ -12,7 +12,7 @@ ghost use Rattle.model.specs.Limits.{mostMain, mostChecks, mostSchedules};
 ghost use Rattle.judge_disks.specs.Packed.{heldFrom};
 ghost use Rattle.judge_schedules.specs.Halves.{validRows, badRows};
 ghost use Rattle.judge_closed.specs.Closed.{Narrow, Order, validBetween, Choice};
-ghost use Rattle.judge_settled.specs.Settled.{Says, allHold, Ready};
+ghost use Rattle.judge_settled.specs.Settled.{Says, allHold, Ready, Runs};
 ghost use Rattle.judge_counting.specs.Tally.{Tallies, withGood, withBad, badBetween, Room, Gains};
 
 // The judge's three numbers: valid schedules, bad ones, and one of these, or 0 where there is none.
@@ -54,6 +54,7 @@ fn walk(
     base: &[u32; DISK_BLOCKS],
     stores: &[u64; MOST_INITIAL],
     writers: &[u64; DISK_BLOCKS],
+    runs: &[usize; DISK_BLOCKS],
     dependencies: &[u64; 64],
     dependents: &[u64; 64],
     n: usize,
@@ -63,10 +64,21 @@ fn walk(
     chosen: u64,
     free: u64,
 ) -> Judgement
-    requires { ⌜ (Ready (now stores) (now base) n (now writers) × (Order n (now dependencies) (now dependents) × Choice (now dependencies) n chosen free)) × (((k ≤ m) × (m ≤ mostChecks)) × (Says (allHold (now stores) (now base) n (take k checks)) chosen free Answer.Yes × Room (now dependencies) n chosen free j)) ⌝ }
+    requires { ⌜ ((Ready (now stores) (now base) n (now writers) × Runs (now base) (now writers) 0 (now runs)) × (Order n (now dependencies) (now dependents) × Choice (now dependencies) n chosen free)) × (((k ≤ m) × (m ≤ mostChecks)) × (Says (allHold (now stores) (now base) n (take k checks)) chosen free Answer.Yes × Room (now dependencies) n chosen free j)) ⌝ }
     ensures { λ r. ⌜ Gains (validBetween (now (dependencies .entry)) n chosen free) (badBetween (now (stores .entry)) (now (base .entry)) n (take m checks) (now (dependencies .entry)) chosen free) (2 ^ n) j r ⌝ }
 {
-    let asked = judge_settled::ask_checks(base, stores, writers, n, chosen, free, checks, m, k);
+    let asked = judge_settled::ask_checks(
+        base,
+        stores,
+        writers,
+        runs,
+        n,
+        chosen,
+        free,
+        checks,
+        m,
+        k,
+    );
     let held = asked.held;
     let answer = asked.answer;
     if judge_settled::is_yes(answer) {
@@ -90,6 +102,7 @@ fn walk(
         base,
         stores,
         writers,
+        runs,
         dependencies,
         dependents,
         n,
@@ -105,6 +118,7 @@ fn walk(
         base,
         stores,
         writers,
+        runs,
         dependencies,
         dependents,
         n,
@@ -133,6 +147,8 @@ pub fn count_all(
     judge_closed::order(&mut dependencies, &mut dependents, rows, n);
     let mut writers = [0u64; DISK_BLOCKS];
     judge_settled::fill_writers(&mut writers, stores, n);
+    let mut runs = [0usize; DISK_BLOCKS];
+    judge_settled::fill_runs(&mut runs, &base, &writers, n);
     let none = Judgement {
         valid: 0,
         bad: 0,
@@ -143,6 +159,7 @@ pub fn count_all(
         &base,
         stores,
         &writers,
+        &runs,
         &dependencies,
         &dependents,
         n,

@@ -2,7 +2,8 @@
 use mathlib.Core.Path.{_≡_, refl, sym, ap, _∙_}
 use mathlib.Core.Bool.{Bool, true, false, cond, not, false≢true}
 use mathlib.Core.List.{List}
-use Prim.Native.Nat.{ℕ, suc, _+_, _-_, _≤_, _<_}
+use Prim.Native.Nat.{ℕ, _+_, _-_, _≤_, _<_}
+use native.Mathlib.Decide.{ℕ-discrete, decLt}
 use native.Mathlib.Omega.{arith}
 use lib.Dec.{eqb}
 use lib.ListN.{length, getD, take}
@@ -10,7 +11,7 @@ use lib.Seq.{getD-set-same, getD-set-other}
 use borrow.Author.Needs.{needs}
 use borrow.Author.Tests.{eq-eqb, ne-eqb, le-leb, lt-leb, not-true, not-false}
 use Rattle.relation.specs.Lists.{allBelow}
-use Rattle.relation.proofs.ListLaws.{untrue, allBelow-true, clash}
+use Rattle.relation.proofs.ListLaws.{untrue, allBelow-true, allBelow-intro, clash}
 use Rattle.model.specs.declared.Check.{Check}
 use Rattle.model.specs.declared.Check.the-variants.{Range, Pair, Pointer}
 use Rattle.model.specs.Limits.{diskBlocks, lastBlock, mostChecks}
@@ -23,7 +24,9 @@ use Rattle.judge_checks.proofs.CheckSteps.{checks-stop, checks-more}
 use Rattle.judge_closed.specs.Closed.{between}
 use Rattle.judge_settled.specs.declared.Answer.{Answer}
 use Rattle.judge_settled.specs.declared.Answer.the-variants.{Yes, No, Open}
-use Rattle.judge_settled.specs.Settled.{Says, isYes, opposed, diskOf, laid, isBlock, holdsIn, allHold, ownBlock, knownOf, isKnown, isThere, rangeIn, holdsBy, valued, Ready}
+use Rattle.judge_settled.specs.Settled.{Says, isYes, opposed, diskOf, laid, isBlock, holdsIn, allHold, ownBlock, knownOf, isKnown, isThere, rangeIn, holdsBy, valued, Ready, Runs, laterOf}
+use Rattle.judge_settled.proofs.SettledLaws.{fixed-there}
+use Rattle.judge_settled.proofs.RunLaws.{Passes, later-passes}
 
 -- ---- answers handed on
 
@@ -88,6 +91,19 @@ module _ (column base : List ℕ) (n chosen free : ℕ) where
 
     -- ---- a range
 
+    module _ (writers runs : List ℕ) (k tail r : ℕ) (rs : Runs base writers 0 runs) (l : k < tail) (m : tail ≤ diskBlocks) (e : r ≡ laterOf runs a k tail) where
+      passed : Passes base writers a k tail r
+      passed = later-passes base writers runs a k tail r rs l m e
+
+      pub passed-from : (head : ℕ) → head ≤ k → head ≤ r
+      passed-from head h = omega (arith, h, passed .over)
+
+      pub passed-most : r ≤ tail
+      passed-most = passed .most
+
+      pub passed-falls : tail - r < tail - k
+      passed-falls = omega (arith, passed .over, l)
+
     -- the blocks from head up to k - 1 are there
     pub record There (head k : ℕ) : Type 0 where
       pub at : (s : ℕ) → between chosen free s ≡ true → allBelow (λ i. not (empty (blockAt (knownOf column base n a own s) (head + i)))) (k - head) ≡ true
@@ -97,15 +113,25 @@ module _ (column base : List ℕ) (n chosen free : ℕ) where
       unfolding allBelow
       there-none = record { at = λ s b. ap (allBelow (λ i. not (empty (blockAt (knownOf column base n a own s) (head + i))))) {x = head - head} {y = 0} (omega arith) }
 
-      pub there-more : (k : ℕ) (answer : Answer) (y : Bool) → There head k → head ≤ k → Says (isThere column base n a own k) chosen free answer → y ≡ isYes answer → not y ≡ false → There head (k + 1)
-      unfolding allBelow isThere
-      there-more k answer y g h says q z =
+      -- one block that is there, and those that are passed behind it
+      pub there-passed : (writers runs : List ℕ) (k tail r : ℕ) (answer : Answer) (y : Bool) → Ready column base n writers → Runs base writers 0 runs → There head k → head ≤ k → k < tail → tail ≤ diskBlocks
+          → Says (isThere column base n a own k) chosen free answer → y ≡ isYes answer → not y ≡ false → r ≡ laterOf runs a k tail → There head r
+      unfolding isThere
+      there-passed writers runs k tail r answer y ready rs g h l m says q z e =
+          let p = later-passes base writers runs a k tail r rs l m e in
           record {
             at = λ s b.
-                let here : not (empty (blockAt (knownOf column base n a own s) k)) ≡ true = says-yes (isThere column base n a own k) chosen free answer says (sym q ∙ not-false y z) s b in
-                let next : k + 1 - head ≡ suc (k - head) = omega (arith, h) in
-                let place : head + (k - head) ≡ k = omega (arith, h) in
-                rw (next, place, g .at s b) here;
+                allBelow-intro (λ i. not (empty (blockAt (knownOf column base n a own s) (head + i)))) (r - head)
+                (λ i x. elim (decLt (head + i) k) [
+                  | yes o ↦ allBelow-true (λ i. not (empty (blockAt (knownOf column base n a own s) (head + i)))) (k - head) (g .at s b) i (omega (arith, o))
+                  | no o ↦ elim (ℕ-discrete (head + i) k) [
+                    | yes w ↦ rw w (says-yes (isThere column base n a own k) chosen free answer says (sym q ∙ not-false y z) s b)
+                    | no w ↦ (
+                        let (fixed, other) = p .at (head + i) (omega (arith, o, w)) (omega (arith, x, h, p .over)) in
+                        let same : blockAt (knownOf column base n a own s) (head + i) ≡ blockAt (diskOf column base n s) (head + i) = getD-set-other (diskOf column base n s) a (head + i) own 0 other in
+                        rw (same, fixed-there column base n writers ready (head + i) s (omega (arith, x, h, p .over, p .most, m)) fixed))
+                  ]
+                ]);
           }
 
     module _ (head tail : ℕ) (t : Bool) (d : t ≡ damaged head tail) where
@@ -119,6 +145,9 @@ module _ (column base : List ℕ) (n chosen free : ℕ) where
 
         pub range-inside : (k : ℕ) → head ≤ k → k < tail → k < diskBlocks
         range-inside k x y = undamaged-inside head tail k (sym d ∙ whole) x y
+
+        pub range-most : (k : ℕ) → head ≤ k → k < tail → tail ≤ diskBlocks
+        range-most k x y = let z = undamaged-inside head tail (tail - 1) (sym d ∙ whole) (omega (arith, x, y)) (omega (arith, y)) in omega (arith, z)
 
         pub there-stop : (k : ℕ) (answer : Answer) (y : Bool) → head ≤ k → k < tail → Says (isThere column base n a own k) chosen free answer → y ≡ isYes answer → not y ≡ true
             → Says (rangeIn column base n a own head tail) chosen free answer
@@ -192,4 +221,4 @@ module _ (column base : List ℕ) (n chosen free : ℕ) where
   pub ask-all : (checks : List Check) (m i : ℕ) (answer : Answer) → i ≤ m → m ≤ i → answer ≡ Yes → Says (allHold column base n (take i checks)) chosen free Yes → Says (allHold column base n (take m checks)) chosen free answer
   ask-all checks m i answer a b e g = let z : i ≡ m = omega arith in rw (e, ← z) g
 
-pub ruleset asking = (needs, known-own, known-other, there-says, range-damaged, range-inside, there-none, there-more, there-stop, there-all, range-ordered, pair-other, pair-same, pointer-none, pointer-past, pointer-to, with-range, with-form, ask-more, ask-stop, ask-all)
+pub ruleset asking = (needs, known-own, known-other, there-says, range-damaged, range-inside, range-most, there-none, there-passed, passed-from, passed-most, passed-falls, there-stop, there-all, range-ordered, pair-other, pair-same, pointer-none, pointer-past, pointer-to, with-range, with-form, ask-more, ask-stop, ask-all)

@@ -1,3 +1,4 @@
 pub mod AnswerLaws
 pub mod SettledLaws
+pub mod RunLaws
 pub mod AskLaws

@@ -11,21 +11,21 @@ use lib.Dec.{eqb, ltb}
 use lib.ListN.{length, getD}
 use lib.Seq.{set-getD}
 use borrow.Author.Needs.{needs}
-use borrow.Author.Tests.{eqb-true, eq-eqb, ltb-true, lt-ltb, not-false}
+use borrow.Author.Tests.{eqb-true, eq-eqb, ne-eqb, ltb-true, lt-ltb, not-false}
 use Rattle.relation.specs.Bits.{bit, without, Highest}
 use Rattle.relation.proofs.BitLaws.{bit-and, bit-or, bit-zero, bit-pow, bit-mask, power-is}
 use Rattle.relation.proofs.ListLaws.{untrue, or-cases, and-left, and-right, and-intro, clash}
 use Rattle.relation.proofs.SetLaws.{without-member, member-without, without-falls}
 use Rattle.model.specs.declared.Check.{Check}
 use Rattle.model.specs.Limits.{diskBlocks, mostMain}
-use Rattle.model.specs.Disk.{blockAt}
+use Rattle.model.specs.Disk.{empty, blockAt}
 use Rattle.judge_disks.specs.Packed.{unpacked}
 use Rattle.judge_disks.proofs.LastLaws.{column-none, column-last}
 use Rattle.judge_closed.specs.Closed.{between}
 use Rattle.judge_closed.proofs.ClosedLaws.{between-has, between-may}
 use Rattle.judge_settled.specs.declared.Answer.{Answer}
 use Rattle.judge_settled.specs.declared.Answer.the-variants.{Yes, No, Open}
-use Rattle.judge_settled.specs.Settled.{Says, isYes, opposed, agreed, diskOf, laid, isBlock, holdsIn, ownBlock, holdsBy, valued, writersOf, Ready, Among, Only, definite, Agrees, AlikeIf}
+use Rattle.judge_settled.specs.Settled.{Says, isYes, opposed, agreed, diskOf, laid, isBlock, holdsIn, ownBlock, holdsBy, valued, writersOf, Ready, Fixed, Among, Only, definite, Agrees, AlikeIf}
 
 -- ---- the writes to an address
 
@@ -55,6 +55,15 @@ module _ (column : List ℕ) (n a : ℕ) where
     laid-base : set ≡ 0 → laid column base n a s ≡ blockAt base a
     unfolding laid Only
     laid-base z = column-none column base n s a (λ j k b q. clash (bit set j) (only j (is-writer j k q) b) (rw z (bit-zero j)))
+
+-- a block that is there, and that no write goes to, is there whatever is stored
+pub fixed-there : (column base : List ℕ) (n : ℕ) (writers : List ℕ) → Ready column base n writers → (j s : ℕ) → j < diskBlocks → Fixed base writers j
+    → empty (blockAt (diskOf column base n s) j) ≡ false
+unfolding empty laid Only
+fixed-there column base n writers ready j s inside f =
+    let none : writersOf column n j ≡ 0 = sym (ready .at .at j inside) ∙ f .none in
+    let base-is : laid column base n j s ≡ blockAt base j = laid-base column n j base (omega (arith, inside, ready .size)) s 0 (λ i w b. rw none at w) refl in
+    rw base-is (ne-eqb (getD base j 0) 0 (f .there))
 
 -- all but the one at hand
 module _ (column : List ℕ) (n a set h rest : ℕ) (few : n ≤ mostMain) (l : h < 64) (e : rest ≡ without set (1 * 2 ^ h % 18446744073709551616)) where

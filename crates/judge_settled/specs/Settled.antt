@@ -1,9 +1,9 @@
 -- What all schedules between two sets say of a block, of a check, of all checks.
-use Prim.Native.Nat.{ℕ, _≤_}
+use Prim.Native.Nat.{ℕ, _+_, _≤_, _<_}
 use mathlib.Core.Path.{_≡_}
 use mathlib.Core.Bool.{Bool, true, false, cond, not}
 use mathlib.Core.List.{List}
-use lib.Dec.{eqb}
+use lib.Dec.{eqb, leb, ltb}
 use lib.ListN.{length, getD, set}
 use Rattle.relation.specs.Bits.{bit, maskOf}
 use Rattle.relation.specs.Tables.{Filled}
@@ -114,6 +114,35 @@ pub record Ready (column base : List ℕ) (n : ℕ) (writers : List ℕ) : Type 
   pub few : n ≤ mostMain
   pub size : length base ≡ diskBlocks
   pub at : Writers column n writers
+
+-- ---- runs of blocks that are there whatever is stored
+
+-- a block that is there, and that no write goes to
+pub record Fixed (base writers : List ℕ) (k : ℕ) : Type 0 where
+  pub none : getD writers k 0 ≡ 0
+  pub there : getD base k 0 ≡ 0 → ⊥
+
+-- all blocks from k up to `to` - 1, if there are any
+pub record Run (base writers : List ℕ) (k to : ℕ) : Type 0 where
+  pub at : (j : ℕ) → k ≤ j → j < to → Fixed base writers j
+
+-- a table of these, for each block from `from` on
+pub record Runs (base writers : List ℕ) (from : ℕ) (runs : List ℕ) : Type 0 where
+  pub at : (k : ℕ) → from ≤ k → k < diskBlocks → Run base writers k (getD runs k 0)
+
+-- where the run at k ends, before one that ends at `to`
+unfoldable pub runEnd : List ℕ → List ℕ → ℕ → ℕ → ℕ
+runEnd base writers k to = cond (eqb (getD writers k 0) 0) (cond (eqb (getD base k 0) 0) k to) k
+
+unfoldable pub leastOf : ℕ → ℕ → ℕ
+leastOf x y = cond (leb x y) x y
+
+-- the next block behind k: of a run the end, but no further than `tail`, and than the block at a
+unfoldable pub laterOf : List ℕ → ℕ → ℕ → ℕ → ℕ
+laterOf runs a k tail =
+    cond (eqb (k + 1) tail) tail
+    (cond (leb (leastOf (getD runs (k + 1) 0) tail) (k + 1)) (k + 1)
+    (cond (ltb a (k + 1)) (leastOf (getD runs (k + 1) 0) tail) (leastOf (leastOf (getD runs (k + 1) 0) tail) a)))
 
 -- a set has no others than writes to a
 unfoldable pub Among : List ℕ → ℕ → ℕ → ℕ → Type 0

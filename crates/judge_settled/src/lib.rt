@@ -10,7 +10,7 @@ ghost use Prim.Native.Nat.{_<_, _≤_};
 ghost use lib.ListN.{length, take};
 ghost use Rattle.relation.specs.Tables.{Blank};
 ghost use Rattle.model.specs.Limits.{diskBlocks, mostMain, mostChecks};
-ghost use Rattle.judge_settled.specs.Settled.{Says, isYes, opposed, Names, agreed, definite, isBlock, holdsIn, allHold, ownBlock, isKnown, isThere, rangeIn, holdsBy, valued, Writers, Ready, Among, AlikeIf};
+ghost use Rattle.judge_settled.specs.Settled.{Says, isYes, opposed, Names, agreed, definite, isBlock, holdsIn, allHold, ownBlock, isKnown, isThere, rangeIn, holdsBy, valued, Writers, Ready, runEnd, leastOf, laterOf, Runs, Among, AlikeIf};
 
 // What all these schedules say: yes, or no; or nothing is said, and a free write is named on which it may hang.
 pub enum Answer {
@@ -36,6 +36,75 @@ pub fn fill_writers(writers: &mut [u64], stores: &[u64; MOST_INITIAL], n: usize)
         writers[a] = relation::with_bit(writers[a], i);
         i += 1;
     }
+}
+
+// Where the run of blocks ends that begins at k, before one that ends at `to`: none of them is empty, and no
+// write goes to one, so that they are there whatever is stored.
+fn run_end(base: &[u32; DISK_BLOCKS], writers: &[u64; DISK_BLOCKS], k: usize, to: usize) -> usize
+    requires { ⌜ k < diskBlocks ⌝ }
+    ensures { λ r. ⌜ r ≡ runEnd (now (base .entry)) (now (writers .entry)) k to ⌝ }
+{
+    if writers[k] != 0 {
+        return k;
+    }
+    if base[k] == 0 {
+        return k;
+    }
+    to
+}
+
+// Of so few writes a range is asked too seldom for a table of runs to pay.
+const FEW_WRITES: usize = 4;
+
+// Where a run ends that begins at each block, so that a range passes over it at once; an entry of 0 is no run.
+pub fn fill_runs(
+    runs: &mut [usize],
+    base: &[u32; DISK_BLOCKS],
+    writers: &[u64; DISK_BLOCKS],
+    n: usize,
+)
+    requires { ⌜ (length (now runs) ≡ diskBlocks) × Blank diskBlocks (now runs) ⌝ }
+    ensures { λ _. ⌜ Runs (now (base .entry)) (now (writers .entry)) 0 (now (runs .exit)) ⌝ }
+{
+    if n <= FEW_WRITES {
+        return;
+    }
+    let mut to: usize = DISK_BLOCKS;
+    let mut k: usize = DISK_BLOCKS;
+    while 0 < k {
+        k -= 1;
+        to = run_end(base, writers, k, to);
+        runs[k] = to;
+    }
+}
+
+fn least(x: usize, y: usize) -> usize
+    ensures { λ r. ⌜ r ≡ leastOf x y ⌝ }
+{
+    if x <= y {
+        return x;
+    }
+    y
+}
+
+// The next block of a range behind k that has to be looked at, or its tail: those of a run are passed over,
+// up to the one at a, which is known and may be another than the disk's.
+fn later(runs: &[usize; DISK_BLOCKS], a: usize, k: usize, tail: usize) -> usize
+    requires { ⌜ (k < tail) × (tail ≤ diskBlocks) ⌝ }
+    ensures { λ r. ⌜ r ≡ laterOf (now (runs .entry)) a k tail ⌝ }
+{
+    let next = k + 1;
+    if next == tail {
+        return tail;
+    }
+    let to = least(runs[next], tail);
+    if to <= next {
+        return next;
+    }
+    if a < next {
+        return to;
+    }
+    least(to, a)
 }
 
 // Whether an answer is yes; whether it is no; the free write that an open one names.
@@ -222,6 +291,7 @@ fn range_is(
     base: &[u32; DISK_BLOCKS],
     stores: &[u64; MOST_INITIAL],
     writers: &[u64; DISK_BLOCKS],
+    runs: &[usize; DISK_BLOCKS],
     n: usize,
     chosen: u64,
     free: u64,
@@ -230,7 +300,7 @@ fn range_is(
     head: usize,
     tail: usize,
 ) -> Answer
-    requires { ⌜ Ready (now stores) (now base) n (now writers) ⌝ }
+    requires { ⌜ Ready (now stores) (now base) n (now writers) × Runs (now base) (now writers) 0 (now runs) ⌝ }
     ensures { λ r. ⌜ Says (rangeIn (now (stores .entry)) (now (base .entry)) n a own head tail) chosen free r ⌝ }
 {
     if judge_checks::is_damaged(head, tail) {
@@ -242,7 +312,7 @@ fn range_is(
         if !is_yes(there) {
             return there;
         }
-        k += 1;
+        k = later(runs, a, k, tail);
     }
     Answer::Yes
 }
@@ -299,13 +369,14 @@ fn check_with(
     base: &[u32; DISK_BLOCKS],
     stores: &[u64; MOST_INITIAL],
     writers: &[u64; DISK_BLOCKS],
+    runs: &[usize; DISK_BLOCKS],
     n: usize,
     chosen: u64,
     free: u64,
     c: Check,
     own: u32,
 ) -> Answer
-    requires { ⌜ Ready (now stores) (now base) n (now writers) ⌝ }
+    requires { ⌜ Ready (now stores) (now base) n (now writers) × Runs (now base) (now writers) 0 (now runs) ⌝ }
     ensures { λ r. ⌜ Says (holdsBy (now (stores .entry)) (now (base .entry)) n c own) chosen free r ⌝ }
 {
     match c {
@@ -316,6 +387,7 @@ fn check_with(
                 base,
                 stores,
                 writers,
+                runs,
                 n,
                 chosen,
                 free,
@@ -365,6 +437,7 @@ fn checks_alike(
     base: &[u32; DISK_BLOCKS],
     stores: &[u64; MOST_INITIAL],
     writers: &[u64; DISK_BLOCKS],
+    runs: &[usize; DISK_BLOCKS],
     n: usize,
     chosen: u64,
     free: u64,
@@ -372,7 +445,7 @@ fn checks_alike(
     set: u64,
     first: Answer,
 ) -> bool
-    requires { ⌜ Ready (now stores) (now base) n (now writers) × Among (now stores) n (ownBlock c) set ⌝ }
+    requires { ⌜ (Ready (now stores) (now base) n (now writers) × Runs (now base) (now writers) 0 (now runs)) × Among (now stores) n (ownBlock c) set ⌝ }
     ensures { λ r. ⌜ AlikeIf r (holdsIn (now (stores .entry)) (now (base .entry)) n c) (now (stores .entry)) n chosen free (ownBlock c) set first ⌝ }
 {
     let a = own_block(c);
@@ -385,6 +458,7 @@ fn checks_alike(
                 base,
                 stores,
                 writers,
+                runs,
                 n,
                 chosen,
                 free,
@@ -401,7 +475,7 @@ fn checks_alike(
     }
     agree(
         first,
-        check_with(base, stores, writers, n, chosen, free, c, base[a]),
+        check_with(base, stores, writers, runs, n, chosen, free, c, base[a]),
     )
 }
 
@@ -410,24 +484,26 @@ fn ask_check(
     base: &[u32; DISK_BLOCKS],
     stores: &[u64; MOST_INITIAL],
     writers: &[u64; DISK_BLOCKS],
+    runs: &[usize; DISK_BLOCKS],
     n: usize,
     chosen: u64,
     free: u64,
     c: Check,
 ) -> Answer
-    requires { ⌜ Ready (now stores) (now base) n (now writers) ⌝ }
+    requires { ⌜ Ready (now stores) (now base) n (now writers) × Runs (now base) (now writers) 0 (now runs) ⌝ }
     ensures { λ r. ⌜ Says (holdsIn (now (stores .entry)) (now (base .entry)) n c) chosen free r ⌝ }
 {
     let a = own_block(c);
     let may = writers[a] & (chosen | free);
     if may == 0 {
-        return check_with(base, stores, writers, n, chosen, free, c, base[a]);
+        return check_with(base, stores, writers, runs, n, chosen, free, c, base[a]);
     }
     let h = relation::highest(may);
     let first = check_with(
         base,
         stores,
         writers,
+        runs,
         n,
         chosen,
         free,
@@ -445,6 +521,7 @@ fn ask_check(
         base,
         stores,
         writers,
+        runs,
         n,
         chosen,
         free,
@@ -462,6 +539,7 @@ pub fn ask_checks(
     base: &[u32; DISK_BLOCKS],
     stores: &[u64; MOST_INITIAL],
     writers: &[u64; DISK_BLOCKS],
+    runs: &[usize; DISK_BLOCKS],
     n: usize,
     chosen: u64,
     free: u64,
@@ -469,12 +547,12 @@ pub fn ask_checks(
     m: usize,
     k: usize,
 ) -> Asked
-    requires { ⌜ Ready (now stores) (now base) n (now writers) × (((k ≤ m) × (m ≤ mostChecks)) × Says (allHold (now stores) (now base) n (take k checks)) chosen free Answer.Yes) ⌝ }
+    requires { ⌜ (Ready (now stores) (now base) n (now writers) × Runs (now base) (now writers) 0 (now runs)) × (((k ≤ m) × (m ≤ mostChecks)) × Says (allHold (now stores) (now base) n (take k checks)) chosen free Answer.Yes) ⌝ }
     ensures { λ r. ⌜ (r .held ≤ m) × (Says (allHold (now (stores .entry)) (now (base .entry)) n (take (r .held) checks)) chosen free Answer.Yes × Says (allHold (now (stores .entry)) (now (base .entry)) n (take m checks)) chosen free (r .answer)) ⌝ }
 {
     let mut i = k;
     while i < m {
-        let answer = ask_check(base, stores, writers, n, chosen, free, checks[i]);
+        let answer = ask_check(base, stores, writers, runs, n, chosen, free, checks[i]);
         if !is_yes(answer) {
             return Asked { held: i, answer };
         }

@@ -19,14 +19,14 @@ use Rattle.relation.proofs.without.Reads as without-reads
 use Rattle.judge_counting.proofs.+walk.{statement}
 use Rattle.judge_counting.proofs.+walk.Tie.{close}
 
-abbrev μ-walk : Measures 5 walk-kinds.ps ℕ
-μ-walk κs a = a .1 .1 .1 .1 .1 .1 .1 .1 .1 .1 .1 .0
+abbrev μ-walk : Measures 6 walk-kinds.ps ℕ
+μ-walk κs a = a .1 .1 .1 .1 .1 .1 .1 .1 .1 .1 .1 .1 .0
 
-abbrev walk-at : ℕ → In 5 walk-kinds.ps
-walk-at t = and 5 walk-kinds.ps (is 5 walk-kinds.ps μ-walk t) walk.Pre
+abbrev walk-at : ℕ → In 6 walk-kinds.ps
+walk-at t = and 6 walk-kinds.ps (is 6 walk-kinds.ps μ-walk t) walk.Pre
 
-abbrev walk-below : ℕ → In 5 walk-kinds.ps
-walk-below t = and 5 walk-kinds.ps (falls 5 walk-kinds.ps _<_ μ-walk t) walk.Pre
+abbrev walk-below : ℕ → In 6 walk-kinds.ps
+walk-below t = and 6 walk-kinds.ps (falls 6 walk-kinds.ps _<_ μ-walk t) walk.Pre
 
 walk-ask-checks-requires : (t : ℕ) → walk-lts.Need-ask-checks-requires (
   ask-checks-reads.Asked,
@@ -271,7 +271,7 @@ walk-mul-required : (t : ℕ) → walk-lts.Need-mul-required (
 walk-mul-required t c =
     let o = c in
     let start = c .before .before .before .before .before .before in
-    let k = fork _ _ _ _ _ _ _ _ _ _ _ _ _ (start .pre .1 .0 .0) (start .pre .1 .0 .1 .0) (start .pre .1 .0 .1 .1) (o .before .before .before .before .before .ask-checks .ensures .1 .1) (o .before .before .before .before .is-yes .ensures) (search needs) (o .before .before .is-no .ensures) (search needs) (o .open-at .ensures) in
+    let k = fork _ _ _ _ _ _ _ _ _ _ _ _ _ (start .pre .1 .0 .0 .0) (start .pre .1 .0 .1 .0) (start .pre .1 .0 .1 .1) (o .before .before .before .before .before .ask-checks .ensures .1 .1) (o .before .before .before .before .is-yes .ensures) (search needs) (o .before .before .is-no .ensures) (search needs) (o .open-at .ensures) in
     search (needs, open-below _ _ _ _ _ _ k)
 
 walk-element-copy-out-required : (t : ℕ) → walk-lts.Need-element-copy-out-required (
@@ -297,7 +297,7 @@ walk-element-copy-out-required : (t : ℕ) → walk-lts.Need-element-copy-out-re
 walk-element-copy-out-required t c =
     let o = c in
     let start = c .before .before .before .before .before .before in
-    let k = fork _ _ _ _ _ _ _ _ _ _ _ _ _ (start .pre .1 .0 .0) (start .pre .1 .0 .1 .0) (start .pre .1 .0 .1 .1) (o .before .before .before .before .before .ask-checks .ensures .1 .1) (o .before .before .before .before .is-yes .ensures) (search needs) (o .before .before .is-no .ensures) (search needs) (o .open-at .ensures) in
+    let k = fork _ _ _ _ _ _ _ _ _ _ _ _ _ (start .pre .1 .0 .0 .0) (start .pre .1 .0 .1 .0) (start .pre .1 .0 .1 .1) (o .before .before .before .before .before .ask-checks .ensures .1 .1) (o .before .before .before .before .is-yes .ensures) (search needs) (o .before .before .is-no .ensures) (search needs) (o .open-at .ensures) in
     search (needs, open-below _ _ _ _ _ _ k)
 
 walk-mul-without : (t : ℕ) → walk-lts.Need-mul-without (
@@ -323,7 +323,7 @@ walk-mul-without : (t : ℕ) → walk-lts.Need-mul-without (
 walk-mul-without t c =
     let o = c .before in
     let start = c .before .before .before .before .before .before .before in
-    let k = fork _ _ _ _ _ _ _ _ _ _ _ _ _ (start .pre .1 .0 .0) (start .pre .1 .0 .1 .0) (start .pre .1 .0 .1 .1) (o .before .before .before .before .before .ask-checks .ensures .1 .1) (o .before .before .before .before .is-yes .ensures) (search needs) (o .before .before .is-no .ensures) (search needs) (o .open-at .ensures) in
+    let k = fork _ _ _ _ _ _ _ _ _ _ _ _ _ (start .pre .1 .0 .0 .0) (start .pre .1 .0 .1 .0) (start .pre .1 .0 .1 .1) (o .before .before .before .before .before .ask-checks .ensures .1 .1) (o .before .before .before .before .is-yes .ensures) (search needs) (o .before .before .is-no .ensures) (search needs) (o .open-at .ensures) in
     search (needs, open-below _ _ _ _ _ _ k)
 
 walk-element-copy-out-without : (t : ℕ) → walk-lts.Need-element-copy-out-without (
@@ -349,7 +349,7 @@ walk-element-copy-out-without : (t : ℕ) → walk-lts.Need-element-copy-out-wit
 walk-element-copy-out-without t c =
     let o = c .before in
     let start = c .before .before .before .before .before .before .before in
-    let k = fork _ _ _ _ _ _ _ _ _ _ _ _ _ (start .pre .1 .0 .0) (start .pre .1 .0 .1 .0) (start .pre .1 .0 .1 .1) (o .before .before .before .before .before .ask-checks .ensures .1 .1) (o .before .before .before .before .is-yes .ensures) (search needs) (o .before .before .is-no .ensures) (search needs) (o .open-at .ensures) in
+    let k = fork _ _ _ _ _ _ _ _ _ _ _ _ _ (start .pre .1 .0 .0 .0) (start .pre .1 .0 .1 .0) (start .pre .1 .0 .1 .1) (o .before .before .before .before .before .ask-checks .ensures .1 .1) (o .before .before .before .before .is-yes .ensures) (search needs) (o .before .before .is-no .ensures) (search needs) (o .open-at .ensures) in
     search (needs, open-below _ _ _ _ _ _ k)
 
 walk-without-requires : (t : ℕ) → walk-lts.Need-without-requires (
@@ -397,7 +397,7 @@ walk-walk-requires : (t : ℕ) → walk-lts.Need-walk-requires (
 walk-walk-requires t c κs =
     let o = c .before .before .before in
     let start = c .before .before .before .before .before .before .before .before .before in
-    let k = fork _ _ _ _ _ _ _ _ _ _ _ _ _ (start .pre .1 .0 .0) (start .pre .1 .0 .1 .0) (start .pre .1 .0 .1 .1) (o .before .before .before .before .before .ask-checks .ensures .1 .1) (o .before .before .before .before .is-yes .ensures) (search needs) (o .before .before .is-no .ensures) (search needs) (o .open-at .ensures) in
+    let k = fork _ _ _ _ _ _ _ _ _ _ _ _ _ (start .pre .1 .0 .0 .0) (start .pre .1 .0 .1 .0) (start .pre .1 .0 .1 .1) (o .before .before .before .before .before .ask-checks .ensures .1 .1) (o .before .before .before .before .is-yes .ensures) (search needs) (o .before .before .is-no .ensures) (search needs) (o .open-at .ensures) in
     let p = start .pre .1 in
     let e = c .without .ensures in
     (out-falls _ _ _ _ _ _ k _ e _ (start .pre .0), ((p .0 .0, (p .0 .1 .0, out-free _ _ _ _ _ _ k _ e)), ((o .before .before .before .before .before .ask-checks .ensures .0, p .1 .0 .1), (out-says _ _ _ _ _ _ k _ e _ (o .before .before .before .before .before .ask-checks .ensures .1 .0), room-left _ _ _ _ _ _ k _ _ e refl _ (p .1 .1 .1)))))
@@ -447,7 +447,7 @@ walk-walk-requires-2 : (t : ℕ) → walk-lts.Need-walk-requires-2 (
 walk-walk-requires-2 t c κs =
     let o = c .before .before .before .before .before in
     let start = c .before .before .before .before .before .before .before .before .before .before .before in
-    let k = fork _ _ _ _ _ _ _ _ _ _ _ _ _ (start .pre .1 .0 .0) (start .pre .1 .0 .1 .0) (start .pre .1 .0 .1 .1) (o .before .before .before .before .before .ask-checks .ensures .1 .1) (o .before .before .before .before .is-yes .ensures) (search needs) (o .before .before .is-no .ensures) (search needs) (o .open-at .ensures) in
+    let k = fork _ _ _ _ _ _ _ _ _ _ _ _ _ (start .pre .1 .0 .0 .0) (start .pre .1 .0 .1 .0) (start .pre .1 .0 .1 .1) (o .before .before .before .before .before .ask-checks .ensures .1 .1) (o .before .before .before .before .is-yes .ensures) (search needs) (o .before .before .is-no .ensures) (search needs) (o .open-at .ensures) in
     let p = start .pre .1 in
     let e = c .without2 .ensures in
     (in-falls _ _ _ _ _ _ k _ e _ (start .pre .0), ((p .0 .0, (p .0 .1 .0, in-free _ _ _ _ _ _ k _ e)), ((o .before .before .before .before .before .ask-checks .ensures .0, p .1 .0 .1), (in-says _ _ _ _ _ _ k _ e _ (o .before .before .before .before .before .ask-checks .ensures .1 .0), room-right _ _ _ _ _ _ k _ _ (c .before .before .without .ensures) e _ (p .1 .1 .1) _ _ _ _ (c .before .walk .ensures)))))
@@ -475,7 +475,7 @@ walk-returns-3 : (t : ℕ) → walk-lts.Need-returns-3 (
 walk-returns-3 t c =
     let o = c .before .before .before .before .before .before in
     let start = c .before .before .before .before .before .before .before .before .before .before .before .before in
-    let k = fork _ _ _ _ _ _ _ _ _ _ _ _ _ (start .pre .1 .0 .0) (start .pre .1 .0 .1 .0) (start .pre .1 .0 .1 .1) (o .before .before .before .before .before .ask-checks .ensures .1 .1) (o .before .before .before .before .is-yes .ensures) (search needs) (o .before .before .is-no .ensures) (search needs) (o .open-at .ensures) in
+    let k = fork _ _ _ _ _ _ _ _ _ _ _ _ _ (start .pre .1 .0 .0 .0) (start .pre .1 .0 .1 .0) (start .pre .1 .0 .1 .1) (o .before .before .before .before .before .ask-checks .ensures .1 .1) (o .before .before .before .before .is-yes .ensures) (search needs) (o .before .before .is-no .ensures) (search needs) (o .open-at .ensures) in
     walk-both _ _ _ _ _ _ k _ _ (c .before .before .before .without .ensures) (c .before .without2 .ensures) _ (start .pre .1 .1 .1 .1) _ _ _ _ (c .before .before .walk .ensures) _ (c .walk2 .ensures)
 
 pub +walk-spec : {M : Type 1} → statement M

@@ -15,6 +15,12 @@ slice-aggregate-fill-writers c = search walking
 fill-writers-requires : tie.Need-fill-writers-requires
 fill-writers-requires c κs = (search walking, (search walking, blank-made diskBlocks))
 
+slice-aggregate-fill-runs : tie.Need-slice-aggregate-fill-runs
+slice-aggregate-fill-runs c = search walking
+
+fill-runs-requires : tie.Need-fill-runs-requires
+fill-runs-requires c κs = (search walking, blank-made diskBlocks)
+
 shl-walk : tie.Need-shl-walk
 shl-walk c = search walking
 
@@ -23,10 +29,13 @@ sub-walk c = search walking
 
 walk-requires : tie.Need-walk-requires
 walk-requires c κs =
-    let p = c .before .before .before .before .before .before .before .before .before .before .pre in
-    let o = c .before .before .before .before .before .before .before .order .ensures in (
-      (record { few = p .0; size = search walking; at = c .before .before .before .before .before .fill-writers .ensures }, (o .order, start-choice _ _ _ _ (p .0) o)),
-      ((search walking, p .1 .0), (start-says _ _ _ _ (p .0) o _ _ (c .before .before .before .before .before .before .before .before .before .before .args .checks) _ _, start-room _ _ _ _ (p .0) o _ refl refl)),
+    let start = c .before .before .before .before .before .before .before .before .before .before .before .before .before .before .before .before in
+    let p = start .pre in
+    let o = c .before .before .before .before .before .before .before .before .before .before .before .before .before .order .ensures in
+    let w = c .before .before .before .before .before .before .before .before .before .before .before .fill-writers .ensures in
+    let r = c .before .before .before .before .before .before .fill-runs .ensures in (
+      ((record { few = p .0; size = search walking; at = w }, r), (o .order, start-choice _ _ _ _ (p .0) o)),
+      ((search walking, p .1 .0), (start-says _ _ _ _ (p .0) o _ _ (start .args .checks) _ _, start-room _ _ _ _ (p .0) o _ refl refl)),
     )
 
 returns : tie.Need-returns
@@ -39,6 +48,8 @@ count-all-spec =
     order-requires
     slice-aggregate-fill-writers
     fill-writers-requires
+    slice-aggregate-fill-runs
+    fill-runs-requires
     shl-walk
     sub-walk
     walk-requires

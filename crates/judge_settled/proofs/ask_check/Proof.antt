@@ -63,7 +63,7 @@ checks-alike-requires c κs =
     let start = c .before .before .before .before .before .before .before .before .before .before .before .before in
     let own = c .before .before .before .before .before .before .before .before .before .before .before .own-block .ensures in
     let top = c .before .before .before .before .before .before .before .before .highest .ensures .0 in
-    (search checking, check-rest _ _ _ _ (start .args .chosen) (start .args .free) _ _ _ (own .0) (own .1) (start .pre) refl _ top _ (c .without .ensures))
+    (search checking, check-rest _ _ _ _ (start .args .chosen) (start .args .free) _ _ _ (own .0) (own .1) (start .pre .0) refl _ top _ (c .without .ensures))
 
 returns-4 : tie.Need-returns-4
 returns-4 c = search checking

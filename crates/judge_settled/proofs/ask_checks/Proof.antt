@@ -8,10 +8,10 @@ use Rattle.judge_settled.proofs.ask_checks.Statement.{statement}
 use Rattle.judge_settled.proofs.ask_checks.Tie as tie
 
 abbrev Inv-loop : tie.InvT-loop
-Inv-loop base stores writers n chosen free m k checks i₀ i = (i ≤ m) × Says (allHold stores base n (take i checks)) chosen free Yes
+Inv-loop base stores writers runs n chosen free m k checks i₀ i = (i ≤ m) × Says (allHold stores base n (take i checks)) chosen free Yes
 
 abbrev μ-loop : tie.MeasureT-loop
-μ-loop base stores writers n chosen free m k checks i₀ i = m - i
+μ-loop base stores writers runs n chosen free m k checks i₀ i = m - i
 
 loop-holds : tie.Need-loop-holds Inv-loop μ-loop
 loop-holds c = search asking

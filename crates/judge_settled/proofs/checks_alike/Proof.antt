@@ -6,10 +6,10 @@ use Rattle.judge_settled.proofs.checks_alike.Statement.{statement}
 use Rattle.judge_settled.proofs.checks_alike.Tie as tie
 
 abbrev Inv-loop : tie.InvT-loop
-Inv-loop base stores writers n chosen free c set first a left₀ left = Going (holdsIn stores base n c) stores base n chosen free (ownBlock c) first set left
+Inv-loop base stores writers runs n chosen free c set first a left₀ left = Going (holdsIn stores base n c) stores base n chosen free (ownBlock c) first set left
 
 abbrev μ-loop : tie.MeasureT-loop
-μ-loop base stores writers n chosen free c set first a left₀ left = left
+μ-loop base stores writers runs n chosen free c set first a left₀ left = left
 
 own-block-requires : tie.Need-own-block-requires Inv-loop μ-loop
 own-block-requires c κs = search checking

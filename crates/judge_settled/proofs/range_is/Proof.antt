@@ -5,10 +5,10 @@ use Rattle.judge_settled.proofs.range_is.Statement.{statement}
 use Rattle.judge_settled.proofs.range_is.Tie as tie
 
 abbrev Inv-loop : tie.InvT-loop
-Inv-loop base stores writers n chosen free a own head tail k₀ k = (head ≤ k) × (k ≤ tail) × There stores base n chosen free a own head k
+Inv-loop base stores writers runs n chosen free a own head tail k₀ k = (head ≤ k) × (k ≤ tail) × There stores base n chosen free a own head k
 
 abbrev μ-loop : tie.MeasureT-loop
-μ-loop base stores writers n chosen free a own head tail k₀ k = tail - k
+μ-loop base stores writers runs n chosen free a own head tail k₀ k = tail - k
 
 is-damaged-requires : tie.Need-is-damaged-requires Inv-loop μ-loop
 is-damaged-requires c κs = search asking
@@ -28,14 +28,14 @@ is-yes-requires c κs = search asking
 returns-2 : tie.Need-returns-2 Inv-loop μ-loop
 returns-2 c = search asking
 
-add-k : tie.Need-add-k Inv-loop μ-loop
-add-k c = search asking
+later-requires : tie.Need-later-requires Inv-loop μ-loop
+later-requires c κs = search asking
 
 loop-less : tie.Need-loop-less Inv-loop μ-loop
 loop-less c = search asking
 
 loop-again : tie.Need-loop-again Inv-loop μ-loop
-loop-again c = search asking
+loop-again c = (search asking, search asking, search asking)
 
 returns-3 : tie.Need-returns-3 Inv-loop μ-loop
 returns-3 c = search asking
@@ -52,7 +52,7 @@ range-is-spec =
     is-there-requires
     is-yes-requires
     returns-2
-    add-k
+    later-requires
     loop-less
     loop-again
     returns-3)
