@@ -9,8 +9,8 @@
  * file's length. A file may have any length: one of over 21,040 bytes is refused, by what stands in
  * it.
  *
- * Nothing here uses the heap. On the stack judge keeps a few disks of 1,024 bytes, a table of 2,048
- * and several of 512, and calls itself once more for each main write that it decides on; verdict
+ * Nothing here uses the heap. On the stack judge keeps a few disks of 1,024 bytes, two tables of
+ * 2,048 and several of 512, and calls itself once more for each main write that it decides on; verdict
  * keeps, beside the disks, three tables of 8,192 bytes and three of 512, of which it fills those that
  * the test needs; find a table of 32,768 bytes, two of 16,384 and one of 8,192. In all a call of
  * judge, verdict or judge_lines has used less than 32 KiB, and one of find less than 96, in all cases

@@ -43,6 +43,7 @@ pub fn suites() -> Vec<Suite> {
             "judge: 13 to 20 main writes that all meet",
             tangled_up_to_20_main_writes,
         ),
+        suite("judge: long ranges", long_ranges),
         suite(
             "judge: 13 to 20 main writes, schedule by schedule",
             schedule_by_schedule,
@@ -536,6 +537,24 @@ fn tangled_up_to_20_main_writes(run: &mut Run) -> Outcome {
         let main = random.between(FEW + 1, MOST_MAIN);
         let file = crashes::tangled_file_of(&mut random, main);
         let known = counts::judge_test(&file.rules, &file.tests[0]);
+        kinds.add(&file.tests[0], &known);
+        same_as_known(&mut random, &file, &known)?;
+    }
+    kinds.spread(run)
+}
+
+/// Up to 12 main writes schedule by schedule, beyond by diagrams.
+fn long_ranges(run: &mut Run) -> Outcome {
+    let mut kinds = Kinds::default();
+    for i in 0..run.times(4_000) {
+        let mut random = run.next_case();
+        let main = match i % 8 {
+            0 => random.between(FEW + 1, MOST_MAIN),
+            1 => random.between(9, FEW),
+            _ => random.between(0, 8),
+        };
+        let file = crashes::long_ranges_file_of(&mut random, main);
+        let known = expected(&file.rules, &file.tests[0]);
         kinds.add(&file.tests[0], &known);
         same_as_known(&mut random, &file, &known)?;
     }

@@ -61,6 +61,8 @@ pub struct Sources {
     filled: [Filled; MOST_CHECKS],
     filled_count: usize,
     holes: [u64; HOLES],
+    /// The sources of ranges and of pointers whose holes stand there.
+    known: [u64; 2],
 }
 
 /// The members of a mask, rising.
@@ -84,6 +86,7 @@ impl Sources {
         filled: [Filled::NONE; MOST_CHECKS],
         filled_count: 0,
         holes: [0; HOLES],
+        known: [0; 2],
     };
 
     pub fn fill(&mut self, test: &Test) {
@@ -137,11 +140,14 @@ impl Sources {
             at => {
                 filled.at = at;
                 filled.holes_from = of_kind;
-                for source in members(at) {
+                let known = &mut self.known[of_kind / OF_POINTERS];
+                for source in members(at & !*known) {
                     // With it no other one is seen at its own address.
-                    let holes = holes_of(blocks.of_source[source]) & !at;
-                    self.holes[of_kind + source] = holes;
-                    all_holes |= holes;
+                    self.holes[of_kind + source] = holes_of(blocks.of_source[source]) & !at;
+                }
+                *known |= at;
+                for source in members(at) {
+                    all_holes |= self.holes[of_kind + source];
                 }
             }
         }

@@ -9,7 +9,7 @@ use crate::log;
 use crate::random::Random;
 use crate::samples::log_rules;
 use crate::schedule::dependencies;
-use crate::writes::{Block, Predicate, Rule, Write, EMPTY, PREDICATES};
+use crate::writes::{block, write, Block, Predicate, Rule, Write, EMPTY, PREDICATES};
 
 /// Up to `most` rules that are not cyclic.
 pub fn acyclic_rules(random: &mut Random, values: &Values, most: usize) -> Vec<Rule> {
@@ -226,6 +226,73 @@ pub fn range_file_of(random: &mut Random, main: usize) -> File {
             initial,
             main,
             checks: vec![Check::Range { at }],
+        }],
+    }
+}
+
+/// A test of this many main writes and of ranges over long rows of blocks that are there, some of them
+/// up to the disk's last block. Of the main writes some are heads and tails about the row's ends, at
+/// addresses before, in and behind it, and some change a block of it, or take one away.
+pub fn long_ranges_file_of(random: &mut Random, main: usize) -> File {
+    let many = random.between(1, 60) as u16;
+    let from = match random.below(4) {
+        0 => 256 - many,
+        1 => random.below(3) as u16,
+        _ => random.between(0, 256 - many as usize) as u16,
+    };
+    let in_row = |random: &mut Random| (from as usize + random.below(many as usize)) as u8;
+    let near = |random: &mut Random, at: u16| match random.below(8) {
+        0 => at + 1,
+        1 => at.saturating_sub(1),
+        _ => at,
+    };
+    let ends = |random: &mut Random| {
+        let middle = in_row(random) as u16;
+        let head = random.pick(&[from, from, middle]);
+        let tail = random.pick(&[from + many, from + many, middle]);
+        block(near(random, head), near(random, tail))
+    };
+    let places: Vec<u8> = (0..random.between(1, 3))
+        .map(|_| match random.below(3) {
+            0 => random.byte(),
+            1 => from.saturating_sub(1) as u8,
+            _ => in_row(random),
+        })
+        .collect();
+    let label = |random: &mut Random| (random.between(1, 3) as u8, random.below(3) as u32);
+    let mut initial: Vec<Write> = (from..from + many)
+        .filter(|_| !random.one_in(60))
+        .map(|at| write(at as u8, 1, 0, block(7, at)))
+        .collect();
+    for &place in &places {
+        initial.push(write(place, 1, 0, ends(random)));
+    }
+    let main = (0..main)
+        .map(|_| {
+            let (name, epoch) = label(random);
+            match random.below(4) {
+                0 => write(in_row(random), name, epoch, EMPTY),
+                1 => write(in_row(random), name, epoch, block(1, 1)),
+                _ => write(random.pick(&places), name, epoch, ends(random)),
+            }
+        })
+        .collect();
+    let checks = (0..random.between(1, 4))
+        .map(|_| Check::Range {
+            at: random.pick(&places),
+        })
+        .collect();
+    let values = Values {
+        names: vec![1, 2, 3],
+        ..Values::small(random)
+    };
+    let most = random.pick(&[0, 2, 6]);
+    File {
+        rules: acyclic_rules(random, &values, most),
+        tests: vec![Test {
+            initial,
+            main,
+            checks,
         }],
     }
 }
