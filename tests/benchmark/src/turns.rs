@@ -21,6 +21,10 @@ const HALF: usize = (MOST_MAIN + 1) / 2;
 /// The entries of a table of unions: the sets of so many writes.
 const HALF_SETS: usize = 1 << HALF;
 
+/// The same of a test whose tables are short.
+const SHORT_HALF: usize = (inputs::MAIN + 1) / 2;
+const SHORT_SETS: usize = 1 << SHORT_HALF;
+
 /// `judge_schedules::first_half`, with the same words; a test of the documents compares them, and those of
 /// the five below.
 fn first_half(n: usize) -> usize {
@@ -155,8 +159,7 @@ impl<T: Index<usize, Output = u64>> Tables<T> {
 
     /// Asks about each end, and lists those that a valid schedule can have.
     #[inline(always)]
-    fn list_ends(&self, mut tell: impl FnMut(About, bool)) -> (Plain, usize) {
-        let mut ends = [0; HALF_SETS];
+    fn list_ends(&self, ends: &mut [u64], mut tell: impl FnMut(About, bool)) -> usize {
         let mut many = 0;
         for y in 0..1 << self.far {
             let may = may_end(&self.high, self.near, y);
@@ -166,7 +169,7 @@ impl<T: Index<usize, Output = u64>> Tables<T> {
                 many += 1;
             }
         }
-        (ends, many)
+        many
     }
 
     /// Asks about each beginning, and where a valid schedule can have it about those with the ends
@@ -174,7 +177,16 @@ impl<T: Index<usize, Output = u64>> Tables<T> {
     #[inline(always)]
     fn by_halves(&self, mut tell: impl FnMut(About, bool)) {
         let (low, high, near) = (&self.low, &self.high, self.near);
-        let (ends, many) = self.list_ends(&mut tell);
+        // Made for each test, and short for a short one, as there.
+        let (mut short, mut long);
+        let ends: &mut [u64] = if near <= SHORT_HALF {
+            short = [0; SHORT_SETS];
+            &mut short
+        } else {
+            long = [0; HALF_SETS];
+            &mut long
+        };
+        let many = self.list_ends(ends, &mut tell);
         for x in 0..1 << near {
             let may = may_begin(low, near, x);
             tell(About::Beginning(x), may);
@@ -553,7 +565,7 @@ mod tests {
         let [_, (_, file), ..] = files();
         let tables = Tables::of(&dependencies(&file.rules, &file.tests[0].main));
         let after_ends = watched(&tables, |noted, tell| {
-            noted.list_ends(&mut *tell);
+            noted.list_ends(&mut [0; HALF_SETS], &mut *tell);
             Form::Now.ask(noted, tell);
         });
         let after_beginnings = watched(&tables, |noted, tell| {
