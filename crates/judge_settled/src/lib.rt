@@ -78,6 +78,7 @@ pub fn fill_runs(
     }
 }
 
+// The lesser of two numbers.
 fn least(x: usize, y: usize) -> usize
     ensures { λ r. ⌜ r ≡ leastOf x y ⌝ }
 {

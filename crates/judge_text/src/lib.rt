@@ -57,7 +57,7 @@ fn put_text(out: &mut [u8], at: usize, text: &[u8]) -> usize
     at + i
 }
 
-// A number of a line, which has so many digits at most.
+// A number of a line, which has so many digits at most: that is for the contract, nothing is padded.
 fn put_number(out: &mut [u8], at: usize, n: u64, digits: usize) -> usize
     requires { ⌜ Digits digits n × (at + digits ≤ length (now out)) ⌝ }
     ensures { λ r. ⌜ Wrote (now (out .entry)) at (decimal n) (now (out .exit)) r × (r ≤ at + digits) ⌝ }
