@@ -80,9 +80,10 @@ static inline uint32_t pelzhondy_judged_schedule(uint64_t answer)
  * Answers 0 if the test holds, or 1 + the number of some bad schedule, as soon as there is one. It
  * looks at one valid schedule after another, and where the test holds at all of them; judge does not.
  * So of a long test that holds under few rules, or none, verdict may take much longer than judge: 20
- * main writes without rules are 1,048,576 disks, some tenths of a second, where judge takes some
- * microseconds to milliseconds. Whoever asks of a long test only whether it holds had better ask
- * judge for the number of bad schedules. Refused as judge is.
+ * main writes without rules are 1,048,576 disks, a tenth of a second, and more where the checks look
+ * at many blocks; judge takes microseconds there, and less than a millisecond in all that is measured.
+ * Whoever asks of a long test only whether it holds had better ask judge for the number of bad
+ * schedules. Refused as judge is.
  */
 uint64_t pelzhondy_verdict(const uint8_t *file, size_t file_length, uint64_t test);
 

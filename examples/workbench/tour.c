@@ -1,7 +1,8 @@
 /*
  * Calls every routine of the tester's library: makes test K of the bench sheet by trace, asks all that
  * can be asked of it with and without rules, asks the same, but for rules, of a log with as many puts
- * as a test can have, and then shows each refusal. From the repository's root, after 'rt staticlib workbench':
+ * as a test can have, and then shows each refusal. From the repository's root, after
+ * 'rt staticlib workbench':
  *
  *     cc -std=c99 -Iinclude examples/workbench/tour.c target/staticlib/libworkbench.a -o target/tour
  *     target/tour

@@ -1,6 +1,6 @@
 -- No answer reaches bit 63: each is bounded by the limits of files, tests, states and buffers. So are a judge's counts, and fit into their bits.
 use Prim.Native.Nat.{ℕ, zero, suc, _+_, _*_, _-_, _/_, _%_, _^_, _≤_, _<_}
-use mathlib.Core.Path.{_≡_, refl, sym}
+use mathlib.Core.Path.{_≡_, refl, sym, _∙_}
 use mathlib.Core.Bool.{Bool, true, false, cond, not, _&&_, _||_, false≢true}
 use mathlib.Core.List.{List, [], _∷_, _++_, List·Memᴰ, List·Memᴰ·head, List·Memᴰ·tail}
 use mathlib.Core.Option.{Option, none, some}
@@ -236,18 +236,25 @@ judge-below file k c r e (j, p, q) =
     let s = shown-most file k c e j p in
     omega arith
 
+-- the same three numbers judge the same case
+judges-same : (c : Case) (j i : Judgement) → Judges c j → i .valid ≡ j .valid → i .bad ≡ j .bad → i .shown ≡ j .shown → Judges c i
+judges-same c j i p v w x =
+    record {
+      valid = v ∙ p .valid;
+      bad = w ∙ p .bad;
+      shown = λ some. rw x (p .shown (λ z. some (w ∙ z)));
+      none = λ z. x ∙ p .none (sym w ∙ z);
+    }
+
 pub judge-taken-apart : JudgeTakenApart
 unfolding JudgeAnswer judgementCode partsOf
 judge-taken-apart file k c r e (j, p, q) =
     let a = valid-most file k c e j p in
     let b = bad-most file k c e j p in
     let s = shown-most file k c e j p in
-    let v : r % 2 ^ countBits ≡ j .valid = omega arith in
     let t : r / 2 ^ countBits ≡ j .bad + 2 ^ countBits * j .shown = omega arith in
     let u : r / 2 ^ (countBits + countBits) ≡ j .shown = omega arith in
-    let w : r / 2 ^ countBits % 2 ^ countBits ≡ j .bad = rw t (omega arith) in
-    let x : r / 2 ^ (countBits + countBits) % 2 ^ countBits ≡ j .shown = rw u (omega arith) in
-    rw (v, w, x) p
+    judges-same c j _ p (omega arith) (rw t (omega arith)) (rw u (omega arith))
 
 verdict-below : (file : List ℕ) (k : ℕ) (c : Case) (r : ℕ) → caseIn file k ≡ answer c → VerdictAnswer (answer c) r → r < bit63
 unfolding VerdictAnswer verdictCode Decides Bad

@@ -42,6 +42,6 @@ pub record NoneReachesBit63 : Type 0 where
   pub find : (file buffer : List ℕ) → ToldApart (findOf file buffer .outcome)
   pub trace : (initial main buffer : List ℕ) → ToldApart (traceOf initial main buffer .outcome)
 
--- what the header's three functions take from a judge's answer, 21 bits each, judges the case: none of the numbers is cut, nor runs into the next (02, [8])
+-- what the header's three functions take from a judge's answer, 21 bits each, judges the case: none of the numbers is cut, and none runs into the next (02, [8])
 abbrev pub JudgeTakenApart : Type 0
 JudgeTakenApart = (file : List ℕ) (k : ℕ) (c : Case) (r : ℕ) → caseIn file k ≡ answer c → JudgeAnswer (answer c) r → Judges c (partsOf r)

@@ -35,6 +35,10 @@ mostHalf = firstHalf mostMain
 abbrev pub halfSets : ℕ
 halfSets = 2 ^ mostHalf
 
+-- the most writes of a short test, whose tables are short
+abbrev pub shortMain : ℕ
+shortMain = 12
+
 -- all that the flagged writes of a schedule depend on, by the unions of the rows of the first `near` writes and of those behind
 unfoldable pub needed : List ℕ → List ℕ → ℕ → ℕ → ℕ
 needed low high near s = bitOr (getD low (s % 2 ^ near) 0) (getD high (s / 2 ^ near) 0)

@@ -122,11 +122,11 @@ pub record Fixed (base writers : List ℕ) (k : ℕ) : Type 0 where
   pub none : getD writers k 0 ≡ 0
   pub there : getD base k 0 ≡ 0 → ⊥
 
--- all blocks from k up to `to` - 1, if there are any
+-- all blocks from k up to `to` - 1 are such, if there are any
 pub record Run (base writers : List ℕ) (k to : ℕ) : Type 0 where
   pub at : (j : ℕ) → k ≤ j → j < to → Fixed base writers j
 
--- a table of these, for each block from `from` on
+-- a table of where these end, for each block from `from` on
 pub record Runs (base writers : List ℕ) (from : ℕ) (runs : List ℕ) : Type 0 where
   pub at : (k : ℕ) → from ≤ k → k < diskBlocks → Run base writers k (getD runs k 0)
 

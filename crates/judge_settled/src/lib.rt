@@ -1,6 +1,7 @@
 // Checks asked of many schedules at once: of all that have what is chosen and, beyond it, only what is free.
 // A block is what the last flagged write to it leaves there. So a check holds of all these schedules, or of
-// none, or what it looks at hangs on a free write. `n` is there for the contracts: the code asks `writers`.
+// none, or what it looks at hangs on a free write. Once the two tables are filled, `n` is there for the
+// contracts: the code asks `writers`.
 use model::Check;
 use model::DISK_BLOCKS;
 use model::MOST_CHECKS;
@@ -56,7 +57,8 @@ fn run_end(base: &[u32; DISK_BLOCKS], writers: &[u64; DISK_BLOCKS], k: usize, to
 // Of so few writes a range is asked too seldom for a table of runs to pay.
 const FEW_WRITES: usize = 4;
 
-// Where a run ends that begins at each block, so that a range passes over it at once; an entry of 0 is no run.
+// Where a run ends that begins at each block, so that a range passes over it at once; where the entry is not
+// above the block, there is none.
 pub fn fill_runs(
     runs: &mut [usize],
     base: &[u32; DISK_BLOCKS],

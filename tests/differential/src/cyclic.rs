@@ -8,6 +8,7 @@ use reference::random::Random;
 use reference::writes::{Rule, PREDICATES};
 
 use crate::answer;
+use crate::around::{file_with, AROUND};
 use crate::calls;
 use crate::harness::{require, same_answer, Outcome, Run, Suite};
 use crate::lent::Lent;
@@ -21,6 +22,7 @@ pub fn suites() -> Vec<Suite> {
         suite("cyclic: every list of up to three rules", every_list),
         suite("cyclic: 32 rules", most_rules),
         suite("cyclic: files with tests", files_with_tests),
+        suite("cyclic: 12, 13, 19, 20 and 21 main writes", around_20),
         suite("cyclic: damaged files", damaged_files),
     ]
 }
@@ -191,6 +193,21 @@ fn files_with_tests(run: &mut Run) -> Outcome {
         let mut random = run.next_case();
         let bytes = generate::file(&mut random).to_bytes();
         same_answer_for(&mut random, &bytes)?;
+    }
+    Ok(())
+}
+
+/// Rules of either kind before a test that has as many, or one too many.
+fn around_20(run: &mut Run) -> Outcome {
+    for main in AROUND {
+        for _ in 0..run.times(60) {
+            let mut random = run.next_case();
+            let (mut file, _) = file_with(&mut random, main);
+            if random.one_in(2) {
+                file.rules = generate::nearly_cyclic_rules(&mut random);
+            }
+            same_answer_for(&mut random, &file.to_bytes())?;
+        }
     }
     Ok(())
 }

@@ -1,8 +1,8 @@
 -- `judge_search::first_bad` meets its contract: the tables that it lends are long enough.
 use Prim.Native.Nat.{_^_}
 use native.Mathlib.Omega.{arith}
-use Rattle.model.specs.Limits.{mostFound, mostMain}
-use Rattle.judge_schedules.specs.Halves.{firstHalf}
+use Rattle.model.specs.Limits.{mostMain}
+use Rattle.judge_schedules.specs.Halves.{firstHalf, shortMain}
 use Rattle.judge_search.proofs.SearchLaws.{long-enough, searching}
 use Rattle.judge_search.proofs.first_bad.Statement.{statement}
 use Rattle.judge_search.proofs.first_bad.Tie as tie
@@ -19,7 +19,7 @@ slice-aggregate-find-by-3 c = search searching
 find-by-requires : tie.Need-find-by-requires
 find-by-requires c κs =
     let n = c .before .before .before .before .before .args .n in
-    let l = long-enough n mostFound (2 ^ firstHalf mostFound) (omega arith) (omega arith) in
+    let l = long-enough n shortMain (2 ^ firstHalf shortMain) (omega arith) (omega arith) in
     ((l, l .1), (search searching, (search searching, search searching)))
 
 returns : tie.Need-returns
