@@ -11,10 +11,10 @@
  *
  * Nothing here uses the heap. On the stack judge keeps a few disks of 1,024 bytes, two tables of
  * 2,048 and several of 512, and calls itself once more for each main write that it decides on; verdict
- * keeps, beside the disks, three tables of 8,192 bytes and three of 512, of which it fills those that
- * the test needs; find a table of 32,768 bytes, two of 16,384 and one of 8,192. In all a call of
- * judge, verdict or judge_lines has used less than 32 KiB, and one of find less than 96, in all cases
- * that a test measures; this is not proved. These routines are for a host, not for firmware.
+ * keeps, beside the disks, several tables of 512 bytes and the list of the schedules that it looks at;
+ * find a table of 32,768 bytes, two of 16,384 and one of 8,192. In all a call of judge, verdict or
+ * judge_lines has used less than 32 KiB, and one of find less than 96, in all cases that a test
+ * measures; this is not proved. These routines are for a host, not for firmware.
  */
 #ifndef PELZHONDY_WORKBENCH_H
 #define PELZHONDY_WORKBENCH_H
@@ -52,11 +52,16 @@ uint64_t pelzhondy_cyclic(const uint8_t *file, size_t file_length);
 /*
  * Judges a test, counted from 1, over all its crash schedules. Answers the number of valid schedules
  * + 2^21 * the number of bad ones, which are valid and leave an inconsistent disk + 2^42 * the number
- * of some bad schedule, or 0 where there is none; the three functions below take it apart. Bit i - 1
- * of a schedule's number is set if main write i is stored. 20 main writes have 1,048,576 schedules,
- * so either count may be 1,048,576 and takes 21 bits: 20 would cut it to 0. Which bad schedule is
- * shown is left free; judge and verdict need not show the same. Refused, in this order: by reading;
- * 8; 9.
+ * of the smallest bad one, or 0 where there is none; the three functions below take it apart. Bit i - 1
+ * of a schedule's number is set if main write i is flagged, that is, stored. 20 main writes have
+ * 1,048,576 schedules, so either count may be 1,048,576 and takes 21 bits: 20 would cut it to 0.
+ *
+ * The smallest bad schedule is the one with the fewest flagged writes, and among those the one with the
+ * smallest number. No other is shown, and verdict shows the same. It need not have the smallest number
+ * of all bad ones: where these are write 3 alone, number 4, and writes 1 and 2 together, number 3, it
+ * is 4. Schedule 0, in which nothing is stored, has the fewest flags of all; where it is bad, 0 is shown
+ * with a count of bad ones above 0. So it is that count which tells whether the test holds, and not the
+ * number shown. Refused, in this order: by reading; 8; 9.
  */
 uint64_t pelzhondy_judge(const uint8_t *file, size_t file_length, uint64_t test);
 
@@ -70,20 +75,21 @@ static inline uint32_t pelzhondy_judged_bad(uint64_t answer)
     return (uint32_t)(answer >> 21) & UINT32_C(0x1FFFFF);
 }
 
-/* Some bad schedule, if there is one: 0 may be one, so ask for the count of bad ones first. */
+/* The smallest bad schedule, if there is one. It may be 0: ask for the count of bad ones first. */
 static inline uint32_t pelzhondy_judged_schedule(uint64_t answer)
 {
     return (uint32_t)(answer >> 42) & UINT32_C(0x1FFFFF);
 }
 
 /*
- * Answers 0 if the test holds, or 1 + the number of some bad schedule, as soon as there is one. It
- * looks at one valid schedule after another, and where the test holds at all of them; judge does not.
- * So of a long test that holds under few rules, or none, verdict may take much longer than judge: 20
- * main writes without rules are 1,048,576 disks, a tenth of a second, and more where the checks look
- * at many blocks; judge takes microseconds there, and less than a millisecond in all that is measured.
- * Whoever asks of a long test only whether it holds had better ask judge for the number of bad
- * schedules. Refused as judge is.
+ * The verdict alone. Answers 0 if the test holds, or 1 + the number of the smallest bad schedule, the
+ * one that judge shows; so 1 if that is schedule 0. Refused as judge is.
+ *
+ * It looks only at schedules that can be the smallest bad one: the empty one, and those in which one
+ * write or two are flagged, with all that they depend on, directly or by way of others, and no more. For
+ * a check fails by two blocks at most, and each of them is from one write at most: what these writes
+ * bring with them is bad by itself. Of 20 main writes these are at most 211 schedules. It takes them in
+ * order, those with fewer flags first and among equals by number, and ends at the first bad one.
  */
 uint64_t pelzhondy_verdict(const uint8_t *file, size_t file_length, uint64_t test);
 

@@ -1,7 +1,8 @@
 /*
- * Explains a test file: for each test its verdict, and the main writes that are on the disk in some
- * bad schedule; then the fewest rules under which all tests would hold. From the repository's root,
- * after 'rt staticlib workbench':
+ * Explains a test file, as one would to a colleague. Of each test that fails it tells the bad schedule
+ * with the fewest writes on the disk: which main writes are there and which are not, the first check
+ * that fails, and what stands in the blocks that this check looks at, and why. Then it tells the fewest
+ * rules under which all tests would hold. From the repository's root, after 'rt staticlib workbench':
  *
  *     cc -std=c99 -Iinclude examples/workbench/explain.c target/staticlib/libworkbench.a -o target/explain
  *     target/explain < samples/k3.bin
@@ -14,54 +15,361 @@
 /* A file that is accepted has at most 21,040 bytes; a longer one is refused by what stands before. */
 static uint8_t file[21504];
 
-/* Fields: tag 1, length 2, body. A rule's body has 3 bytes, a write's 10. */
-enum { RULE_FIELD = 6, WRITE_FIELD = 13 };
+/* Fields: tag 1, length 2, body. A rule's field has 6 bytes in all, a write's 13. Tags of checks. */
+enum { BODY = 3, RULE_FIELD = 6, WRITE_FIELD = 13, RANGE = 4, PAIR = 5, POINTER = 6 };
 
-static void print_refusal(const char *call, uint64_t answer)
+enum { BLOCKS = 256 };
+
+/* What is wrong with the field at a place, by the refusal's number, from 1. */
+static const char *const faults[] = {"",
+                                     "is cut by the file's end",
+                                     "has an unknown tag",
+                                     "has another length than its tag asks for",
+                                     "comes after one that it must precede",
+                                     "has a predicate above 2",
+                                     "is one more than a file or a test may have"};
+
+/* A file that is not judged: the line that the judging program prints, and what it means. */
+static void print_refusal(uint32_t number, uint32_t place)
 {
-    printf("%s: refused %u %u\n", call, (unsigned)pelzhondy_refusal_number(answer),
-           (unsigned)pelzhondy_refusal_place(answer));
+    printf("refused %u %u: ", (unsigned)number, (unsigned)place);
+    if (PELZHONDY_CUT <= number && number <= PELZHONDY_OVER_LIMIT) {
+        printf("the field at offset %u %s\n", (unsigned)place, faults[number]);
+    } else if (number == PELZHONDY_TEST_NOT_ENDED) {
+        printf("the file ends at %u, and its last test has no end\n", (unsigned)place);
+    } else if (number == PELZHONDY_CYCLIC_RULES) {
+        printf("the rules are cyclic\n");
+    } else {
+        printf("see pelzhondy_answer.h\n");
+    }
 }
 
-/* A write's field: tag, length, address, name, epoch, block, each number big-endian. */
-static void print_write(unsigned number, const uint8_t *field)
+/* ---- a test, and what a cut leaves of it */
+
+struct block {
+    unsigned first, second;
+};
+
+/* The fields of a test. Its checks are of different lengths. */
+struct test {
+    const uint8_t *initial_writes, *main_writes, *checks;
+    unsigned initial_count, main_count, check_count;
+};
+
+/*
+ * A test after a cut. Bit i - 1 of the schedule is set if main write i is stored. The writer of a block
+ * is the number of the main write that it is from; 0 says that it is from the start, before all of these.
+ */
+struct cut {
+    struct test test;
+    uint64_t schedule;
+    struct block disk[BLOCKS];
+    unsigned writer[BLOCKS];
+};
+
+/* Numbers are big-endian. */
+static unsigned half_in(const uint8_t *bytes)
 {
-    unsigned long epoch = (unsigned long)field[5] << 24 | (unsigned long)field[6] << 16 |
-                          (unsigned long)field[7] << 8 | field[8];
-    unsigned first = (unsigned)field[9] << 8 | field[10], second = (unsigned)field[11] << 8 | field[12];
-    printf("    write %u: address %u, name %u, epoch %lu, block (%u, %u)\n", number, field[3],
-           field[4], epoch, first, second);
+    return (unsigned)bytes[0] << 8 | bytes[1];
 }
 
-/* The main writes of a test that a schedule has on the disk. */
-static void print_schedule(size_t length, uint64_t test, uint64_t schedule)
+static struct block block_in(const uint8_t *bytes)
 {
-    uint64_t where = pelzhondy_locate(file, length, test);
-    size_t main_writes = (size_t)(where & 0xFFFF) + WRITE_FIELD * (size_t)(where >> 16 & 0xFF);
-    unsigned i, count = (unsigned)(where >> 24 & 0xFF);
-    for (i = 0; i < count; i++) {
-        if (schedule >> i & 1) {
-            print_write(i + 1, file + main_writes + WRITE_FIELD * i);
+    struct block block = {half_in(bytes), half_in(bytes + 2)};
+    return block;
+}
+
+static int is_empty(struct block block)
+{
+    return block.first == 0 && block.second == 0;
+}
+
+static int is_same(struct block block, struct block other)
+{
+    return block.first == other.first && block.second == other.second;
+}
+
+/* A write's field: tag, length, address 1, name 1, epoch 4, block 4. */
+static unsigned address_of(const uint8_t *field)
+{
+    return field[BODY];
+}
+
+static struct block block_of(const uint8_t *field)
+{
+    return block_in(field + BODY + 6);
+}
+
+/* The test of that number, from 1, which the file has. */
+static struct test test_in(size_t length, uint64_t number)
+{
+    uint64_t where = pelzhondy_locate(file, length, number);
+    struct test test;
+    test.initial_count = (unsigned)(where >> 16 & 0xFF);
+    test.main_count = (unsigned)(where >> 24 & 0xFF);
+    test.check_count = (unsigned)(where >> 32);
+    test.initial_writes = file + (where & 0xFFFF);
+    test.main_writes = test.initial_writes + WRITE_FIELD * (size_t)test.initial_count;
+    test.checks = test.main_writes + WRITE_FIELD * (size_t)test.main_count;
+    return test;
+}
+
+static const uint8_t *main_write(const struct test *test, unsigned i)
+{
+    return test->main_writes + WRITE_FIELD * (size_t)i;
+}
+
+static const uint8_t *next_check(const uint8_t *field)
+{
+    return field + BODY + half_in(field + 1);
+}
+
+/* Whether write i, from 0, is in a set of writes. */
+static int has(uint64_t writes, unsigned i)
+{
+    return (int)(writes >> i & 1);
+}
+
+/* Of a set that is not empty. */
+static int is_single(uint64_t writes)
+{
+    return (writes & (writes - 1)) == 0;
+}
+
+/* The disk: all initial writes, then the main writes that are stored, each over what was there. */
+static void make_disk(struct cut *cut)
+{
+    static const struct block empty = {0, 0};
+    const struct test *test = &cut->test;
+    unsigned i;
+    for (i = 0; i < BLOCKS; i++) {
+        cut->disk[i] = empty;
+        cut->writer[i] = 0;
+    }
+    for (i = 0; i < test->initial_count; i++) {
+        const uint8_t *field = test->initial_writes + WRITE_FIELD * (size_t)i;
+        cut->disk[address_of(field)] = block_of(field);
+    }
+    for (i = 0; i < test->main_count; i++) {
+        const uint8_t *field = main_write(test, i);
+        if (has(cut->schedule, i)) {
+            cut->disk[address_of(field)] = block_of(field);
+            cut->writer[address_of(field)] = i + 1;
         }
     }
 }
 
-/* The verdict on a test. 0 if it was refused. */
-static int explain(size_t length, uint64_t test)
+/* The first empty block from head to tail - 1, or tail if none of these is empty. */
+static unsigned first_empty(const struct block *disk, unsigned head, unsigned tail)
 {
-    uint64_t verdict = pelzhondy_verdict(file, length, test);
+    while (head < tail && !is_empty(disk[head])) {
+        head++;
+    }
+    return head;
+}
+
+/* Whether a check holds of a disk. */
+static int holds(const struct block *disk, const uint8_t *check)
+{
+    const uint8_t *body = check + BODY;
+    struct block own = disk[body[0]];
+    switch (check[0]) {
+    case RANGE:
+        return own.first == own.second || (own.first < own.second && own.second <= BLOCKS &&
+                                           first_empty(disk, own.first, own.second) == own.second);
+    case PAIR:
+        return !is_same(own, block_in(body + 1)) || is_same(disk[body[5]], block_in(body + 6));
+    default: /* POINTER */
+        return is_empty(own) || (own.second < BLOCKS && !is_empty(disk[own.second]));
+    }
+}
+
+/* ---- in words */
+
+/* A set of writes by their numbers: `write 2`, or `writes 1, 3 to 6`. */
+static void print_numbers(uint64_t writes)
+{
+    const char *before = is_single(writes) ? "write " : "writes ";
+    unsigned i = 0, last;
+    while (writes >> i != 0) {
+        if (has(writes, i)) {
+            for (last = i; has(writes, last + 1); last++) {
+            }
+            printf("%s%u", before, i + 1);
+            if (last > i) {
+                printf("%s%u", last == i + 1 ? ", " : " to ", last + 1);
+            }
+            before = ", ";
+            i = last;
+        }
+        i++;
+    }
+}
+
+static void print_block(struct block block)
+{
+    if (is_empty(block)) {
+        printf("empty");
+    } else {
+        printf("(%u, %u)", block.first, block.second);
+    }
+}
+
+static void print_write(unsigned number, const uint8_t *field)
+{
+    unsigned long epoch = (unsigned long)half_in(field + BODY + 2) << 16 | half_in(field + BODY + 4);
+    struct block block = block_of(field);
+    printf("    write %u: address %u, name %u, epoch %lu, block (%u, %u)\n", number, address_of(field),
+           field[BODY + 1], epoch, block.first, block.second);
+}
+
+/* The main writes that are on the disk, one by one, and the numbers of those that are not. */
+static void print_schedule(const struct cut *cut, uint64_t number)
+{
+    uint64_t left_out = (((uint64_t)1 << cut->test.main_count) - 1) & ~cut->schedule;
+    unsigned i;
+    printf("test %u fails with ", (unsigned)number);
+    if (cut->schedule == 0) {
+        printf("no main write on the disk\n");
+        return;
+    }
+    if (left_out == 0) {
+        printf("all its main writes on the disk:\n");
+    } else if (is_single(cut->schedule)) {
+        printf("this write alone on the disk:\n");
+    } else {
+        printf("these writes alone on the disk:\n");
+    }
+    for (i = 0; i < cut->test.main_count; i++) {
+        if (has(cut->schedule, i)) {
+            print_write(i + 1, main_write(&cut->test, i));
+        }
+    }
+    if (left_out != 0) {
+        printf("  not on the disk: ");
+        print_numbers(left_out);
+        printf("\n");
+    }
+}
+
+/*
+ * What stands in a block and where it is from. A later main write to it would have replaced that, so none
+ * is on the disk; the first of them is told. Earlier ones make no difference.
+ */
+static void print_found(const struct cut *cut, unsigned address)
+{
+    unsigned writer = cut->writer[address], next = 0, later = 0, i;
+    for (i = cut->test.main_count; i > writer; i--) {
+        if (address_of(main_write(&cut->test, i - 1)) == address) {
+            next = i;
+            later++;
+        }
+    }
+    printf("    block %u is ", address);
+    print_block(cut->disk[address]);
+    if (writer == 0) {
+        printf(", from the start");
+    } else {
+        printf(", by write %u", writer);
+    }
+    if (later == 1) {
+        printf(": write %u is not on the disk", next);
+    } else if (later > 1) {
+        printf(": write %u and later ones to it are not on the disk", next);
+    } else if (writer == 0) {
+        printf(": no main write goes there");
+    }
+    printf("\n");
+}
+
+/* Why a check fails, and the one or two blocks that show it. */
+static void print_failure(const struct cut *cut, const uint8_t *check)
+{
+    const uint8_t *body = check + BODY;
+    unsigned at = body[0], other = at;
+    struct block own = cut->disk[at];
+    switch (check[0]) {
+    case RANGE:
+        printf("a range at %u: head is %u, ", at, own.first);
+        if (own.first > own.second) {
+            printf("past its tail, %u", own.second);
+        } else if (own.second > BLOCKS) {
+            printf("and tail is %u, above %d", own.second, BLOCKS);
+        } else {
+            other = first_empty(cut->disk, own.first, own.second);
+            printf("tail is %u, and block %u is empty", own.second, other);
+        }
+        break;
+    case PAIR:
+        other = body[5];
+        printf("a pair: if block %u is ", at);
+        print_block(block_in(body + 1));
+        printf(", block %u must be ", other);
+        print_block(block_in(body + 6));
+        break;
+    default: /* POINTER */
+        printf("a pointer at %u: it leads to block %u, ", at, own.second);
+        if (own.second < BLOCKS) {
+            other = own.second;
+            printf("which is empty");
+        } else {
+            printf("above %d", BLOCKS - 1);
+        }
+    }
+    printf("\n");
+    print_found(cut, at);
+    if (other != at) {
+        print_found(cut, other);
+    }
+}
+
+/* The first check that fails, in the file's order, and how many do. */
+static void print_checks(const struct cut *cut)
+{
+    const uint8_t *check = cut->test.checks, *first = NULL;
+    unsigned i, number = 0, failing = 0, count = cut->test.check_count;
+    for (i = 0; i < count; i++) {
+        if (!holds(cut->disk, check)) {
+            failing++;
+            if (first == NULL) {
+                first = check;
+                number = i + 1;
+            }
+        }
+        check = next_check(check);
+    }
+    if (first == NULL) {
+        return; /* of a bad schedule some check fails */
+    }
+    if (failing > 1) {
+        printf("  %u of %u checks fail; the first is check %u, ", failing, count, number);
+    } else if (count > 1) {
+        printf("  check %u of %u fails, ", number, count);
+    } else {
+        printf("  its check fails, ");
+    }
+    print_failure(cut, first);
+}
+
+/* The verdict on a test. 0 if it was refused. */
+static int explain(size_t length, uint64_t number)
+{
+    static struct cut cut;
+    uint64_t verdict = pelzhondy_verdict(file, length, number);
     if (pelzhondy_is_refused(verdict)) {
-        print_refusal("verdict", verdict);
+        print_refusal(pelzhondy_refusal_number(verdict), pelzhondy_refusal_place(verdict));
         return 0;
     }
     if (verdict == 0) {
-        printf("test %u holds\n", (unsigned)test);
-    } else if (verdict == 1) {
-        printf("test %u fails with no main write on the disk\n", (unsigned)test);
-    } else {
-        printf("test %u fails with these alone on the disk:\n", (unsigned)test);
-        print_schedule(length, test, verdict - 1);
+        printf("test %u holds\n", (unsigned)number);
+        return 1;
     }
+    /* One more than the schedule's number: schedule 0, nothing stored, may be bad too. */
+    cut.schedule = verdict - 1;
+    cut.test = test_in(length, number);
+    make_disk(&cut);
+    print_schedule(&cut, number);
+    print_checks(&cut);
     return 1;
 }
 
@@ -80,13 +388,13 @@ static void advise(size_t length, size_t rules)
         } else if (pelzhondy_refusal_number(count) == PELZHONDY_TOO_MANY_CANDIDATES) {
             printf("rules were not sought: over 16 candidates\n");
         } else {
-            print_refusal("find", count);
+            print_refusal(pelzhondy_refusal_number(count), pelzhondy_refusal_place(count));
         }
         return;
     }
     printf("the fewest rules that do:%s", count == 0 ? " none" : "");
     for (i = 0; i < count; i++) {
-        const uint8_t *body = found + RULE_FIELD * i + 3;
+        const uint8_t *body = found + RULE_FIELD * i + BODY;
         printf(" (%u,%c,%u)", body[0], predicates[body[1]], body[2]);
     }
     printf("\n");
@@ -101,7 +409,12 @@ int main(void)
         return EXIT_FAILURE;
     }
     if (pelzhondy_is_refused(counts)) {
-        print_refusal("read", counts);
+        print_refusal(pelzhondy_refusal_number(counts), pelzhondy_refusal_place(counts));
+        return EXIT_FAILURE;
+    }
+    /* A file is refused for its rules even if it has no test to ask a verdict of. */
+    if (pelzhondy_cyclic(file, length) == 1) {
+        print_refusal(PELZHONDY_CYCLIC_RULES, 0);
         return EXIT_FAILURE;
     }
     for (test = 1; test <= counts / 256; test++) {

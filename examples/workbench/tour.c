@@ -65,8 +65,9 @@ static size_t make_rig(const uint8_t *rules, size_t rules_length)
 }
 
 /*
- * All that can be asked of a file whose rules are not cyclic, and of its first test. Which bad schedule
- * is shown is left free: judge and verdict need not show the same.
+ * All that can be asked of a file whose rules are not cyclic, and of its first test. Of the bad schedules
+ * judge and verdict show the same one, the smallest: that with the fewest flagged writes, and among those
+ * the smallest number.
  */
 static void print_all(const char *what, size_t length)
 {
@@ -84,7 +85,7 @@ static void print_all(const char *what, size_t length)
     printf("    judge: %u valid schedules, %u of them bad", (unsigned)pelzhondy_judged_valid(judged),
            (unsigned)pelzhondy_judged_bad(judged));
     if (pelzhondy_judged_bad(judged) > 0) {
-        printf(", such as %u", (unsigned)pelzhondy_judged_schedule(judged));
+        printf(", the smallest %u", (unsigned)pelzhondy_judged_schedule(judged));
     }
     if (verdict == 0) {
         printf("\n    verdict: holds\n");

@@ -11,6 +11,7 @@ use lib.Dec.{eqb, ltb, lit<}
 use lib.ListN.{length, drop}
 use lib.Seq.{drop-length}
 use borrow.Author.Tests.{eqb-true, lt-ltb, le-ltb}
+use Rattle.relation.specs.Best.{taken, bestBelow, fewer}
 use Rattle.relation.specs.Bits.{bit, withBit, maskOf}
 use Rattle.relation.specs.Lists.{any, all, anyBelow, allBelow, tabulate}
 use Rattle.relation.specs.Finite.{related, rowsOf, joined, round, closed, loops, hasRing}
@@ -24,10 +25,10 @@ use Rattle.model.specs.Rules.{stands, matches, dependsOn, known}
 use Rattle.model.specs.Cyclic.{noRule, leads, has, equalLeads, meets, cyclic}
 use Rattle.model.specs.Schedule.{store, run, written, noWrite, valid}
 use Rattle.model.specs.Check.{damaged, rangeHolds, holds, consistent}
-use Rattle.model.specs.Test.{Test, File, file, initialDisk, Bad, bad, testHolds, schedules, countBelow, validCount, badCount}
-use Rattle.model.specs.Find.{before, picked, pairing, inserted, fromWrite, fromTrace, candidatesOf, suffices, preferred, chosenBelow, chosen}
+use Rattle.model.specs.Test.{Test, File, file, initialDisk, Bad, bad, testHolds, smallestBad, schedules, countBelow, validCount, badCount}
+use Rattle.model.specs.Find.{before, picked, pairing, inserted, fromWrite, fromTrace, candidatesOf, suffices, preferred, chosen}
 use Rattle.model.proofs.CountLaws.{count-all}
-use Rattle.model.proofs.TestLaws.{bad-true, true-bad, bad-fails, count-holds}
+use Rattle.model.proofs.TestLaws.{bad-true, true-bad, bad-fails, count-holds, computed-smallest}
 use Rattle.file_format.specs.Bytes.{half, word, blockIn, writeBytes, ruleBytes}
 use Rattle.file_format.specs.Encode.{fieldBytes, ruleFields, writeFields, checkFieldBytes, checkFields, testBytes, testsBytes, fileBytes}
 use Rattle.file_format.specs.File.{isTag, isCheck, bodyLength, ruleOf, writeOf, checkOf, countsOf, outOfOrder, overTest, overLimit, ruleFault, bodyFault, faultOf, grown, finished, readFrom, nothing, readOf}
@@ -56,7 +57,7 @@ judged rules t s = bad rules t s
 
 -- those of test K
 counted : List Rule → ℕ
-unfolding judged K logTest writesOf afterAll putWrites after start validCount badCount countBelow
+unfolding judged K logTest writesOf afterAll putWrites after start validCount badCount countBelow smallestBad bestBelow taken fewer ones onesIn
 counted rules = badCount rules K
 
 -- rings of rules and of needs
@@ -76,7 +77,7 @@ caseRead f = caseIn (fileBytes f) 1
 
 -- the finder's choice
 searched : List Test → List ℕ → Found
-unfolding counted together ringed fileRead tooLong any findAmong wrote over candidatesOf fromTrace fromWrite inserted pairing before chosen chosenBelow preferred suffices picked testHolds ones onesIn
+unfolding counted together ringed fileRead tooLong any findAmong wrote over candidatesOf fromTrace fromWrite inserted pairing before chosen preferred suffices picked testHolds ones onesIn
 searched tests buffer = findAmong tests buffer
 
 -- calls of the cache
@@ -120,10 +121,10 @@ pub sheet : Sheet
 sheet =
     record {
       K1 = ((unfold caseRead in refl, unfold counted in refl, unfold counted in refl), count-holds _ _ (unfold counted in refl));
-      K2 = ((unfold caseRead in refl, unfold counted in refl, unfold counted in refl), bad-fails [] K 2 (bad-true [] K 2 (unfold counted in lit< tt) (unfold counted in refl)));
+      K2 = ((unfold caseRead in refl, unfold counted in refl, unfold counted in refl), bad-fails [] K 2 (bad-true [] K 2 (unfold counted in lit< tt) (unfold counted in refl)), computed-smallest _ _ _ (unfold counted in refl));
       K3 = (
         (unfold caseRead in refl, unfold counted in refl, unfold counted in refl),
-        bad-true _ _ _ (unfold counted in lit< tt) (unfold counted in refl),
+        computed-smallest _ _ _ (unfold counted in refl),
         only _ _ _ (unfold counted in refl),
       );
       K4 = finding _ _ (unfold searched in refl) (unfold searched in refl) (λ buffer. unfold searched in refl);

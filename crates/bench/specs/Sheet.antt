@@ -16,7 +16,7 @@ use Rattle.model.specs.Answer.{Outcome, answer, refused}
 use Rattle.model.specs.Disk.{block, blockAt}
 use Rattle.model.specs.Cyclic.{Cyclic, cyclic}
 use Rattle.model.specs.Check.{holds}
-use Rattle.model.specs.Test.{Test, test, file, schedules, TestHolds, Bad, validCount, badCount}
+use Rattle.model.specs.Test.{Test, test, file, schedules, TestHolds, Bad, SmallestBad, validCount, badCount}
 use Rattle.rule_cyclelaws.specs.Examples.{rule}
 use Rattle.file_format.specs.Encode.{ruleFields, testBytes, fileBytes}
 use Rattle.file_format.specs.File.{readOf}
@@ -132,10 +132,10 @@ Calling cs outcomes disk = calls cs blank blank ≡ gave outcomes disk
 pub record Sheet : Type 0 where
   -- rules (2,=,1), (2,>,2): 7 valid, 0 bad
   pub K1 : Judged K1-rules 7 0 × TestHolds K1-rules K
-  -- no rules: 16, 8
-  pub K2 : Judged [] 16 8 × (TestHolds [] K → ⊥)
+  -- no rules: 16, 8; the smallest bad schedule is the first superblock without its block
+  pub K2 : Judged [] 16 8 × (TestHolds [] K → ⊥) × SmallestBad [] K 2
   -- (2,=,1) only: 9, 1, schedule 12
-  pub K3 : Judged K3-rules 9 1 × Bad K3-rules K 12 × ((s : ℕ) → Bad K3-rules K s → s ≡ 12)
+  pub K3 : Judged K3-rules 9 1 × SmallestBad K3-rules K 12 × ((s : ℕ) → Bad K3-rules K s → s ≡ 12)
   -- finding on K: 03 00 03 02 00 01, 03 00 03 02 01 02
   pub K4 : Finding K (λ buffer. found (answer 2) (3 ∷ 0 ∷ 3 ∷ 2 ∷ 0 ∷ 1 ∷ 3 ∷ 0 ∷ 3 ∷ 2 ∷ 1 ∷ 2 ∷ drop 12 buffer))
   -- {(1,=,2),(2,>,1)} isn't cyclic

@@ -4,12 +4,12 @@ use mathlib.Core.Path.{_≡_, refl, sym, _∙_}
 use mathlib.Core.Bool.{Bool, true, false, cond, not, _&&_, _||_, false≢true}
 use mathlib.Core.List.{List, [], _∷_, _++_, List·Memᴰ, List·Memᴰ·head, List·Memᴰ·tail}
 use mathlib.Core.Option.{Option, none, some}
-use native.Mathlib.Decide.{ℕ-discrete}
 use native.Mathlib.Omega.{arith}
 use lib.Dec.{eqb, leb, ltb}
 use lib.ListN.{length, getD, drop, length-append}
 use lib.Pow.{pow-mono}
 use borrow.Author.Tests.{leb-true, leb-false, ltb-false, le-ltb}
+use Rattle.relation.specs.Best.{Smallest}
 use Rattle.relation.specs.Lists.{any}
 use Rattle.relation.proofs.ListLaws.{and-left, and-right, or-none-left, or-none-right}
 use Rattle.model.specs.declared.Rule.{Rule}
@@ -20,8 +20,9 @@ use Rattle.model.specs.Cyclic.{cyclic}
 use Rattle.model.specs.Disk.{secondOf}
 use Rattle.model.specs.Find.{candidatesOf, chosen, picked}
 use Rattle.model.specs.Schedule.{valid}
-use Rattle.model.specs.Test.{Test, File, schedules, Bad, bad, validCount, badCount}
+use Rattle.model.specs.Test.{Test, File, schedules, Bad, bad, smallestBad, shownOf, validCount, badCount}
 use Rattle.model.proofs.CountLaws.{count-most}
+use Rattle.model.proofs.TestLaws.{computed-smallest}
 use Rattle.file_format.specs.Bytes.{blockLength, diskLength, blockIn}
 use Rattle.file_format.specs.File.{putLength, endLength, readOf}
 use Rattle.file_format.specs.declared.Extent.{Extent}
@@ -29,11 +30,9 @@ use Rattle.file_format.specs.Held.{noTest, testOf, extentOf}
 use Rattle.file_format.specs.Scan.{Places, scanOf}
 use Rattle.file_reader.specs.Limits.{TestLimits}
 use Rattle.file_reader.proofs.CallerLaws.{holding-limits, refused-limits}
-use Rattle.judge_counting.specs.declared.Judgement.{Judgement}
-use Rattle.judge_search.specs.declared.Verdict.{Verdict}
-use Rattle.judge_search.specs.declared.Verdict.the-variants.{Holds, Fails}
-use Rattle.judge_cases.specs.Judge.{Case, caseOf, caseIn, Judges, Decides}
-use Rattle.judge_answers.specs.Judged.{countBits, judgementCode, partsOf, verdictCode, JudgeAnswer, VerdictAnswer}
+use Rattle.judge_search.specs.Search.{verdictBy}
+use Rattle.judge_cases.specs.Judge.{Case, caseOf, caseIn, judgementOf, verdictOf}
+use Rattle.judge_answers.specs.Judged.{countBits, judgementCode, partsOf, verdictCode, judgeAnswer, verdictAnswer}
 use Rattle.file_calls.specs.File.{sizes, readAnswer, packedExtent, Packed, located, locateAnswer, cyclicIn, cyclicAnswer}
 use Rattle.file_calls.proofs.FileLaws.{placed-packed}
 use Rattle.judge_text.specs.Decimal.{decimal}
@@ -211,58 +210,49 @@ few file k c = go (readOf file) refl
     go (answer f) h q = few-of f k c (holding-limits file f h .0 .each) (cyclic (f .rules)) (leb 1 k && leb k (length (f .tests))) (unfold caseOf in q)
 
 -- the three numbers of a judgement are no more than there are schedules
-module _ (file : List ℕ) (k : ℕ) (c : Case) (e : caseIn file k ≡ answer c) (j : Judgement) (p : Judges c j) where
-  valid-most : j .valid ≤ mostSchedules
+module _ (file : List ℕ) (k : ℕ) (c : Case) (e : caseIn file k ≡ answer c) where
+  valid-most : validCount (c .rules) (c .test) ≤ mostSchedules
   unfolding validCount
-  valid-most = let m = few file k c e in let a = p .valid in let x = count-most (valid (c .rules) (c .test .main)) (schedules (c .test)) in omega arith
+  valid-most = let m = few file k c e in let x = count-most (valid (c .rules) (c .test .main)) (schedules (c .test)) in omega (arith, m, x)
 
-  bad-most : j .bad ≤ mostSchedules
+  bad-most : badCount (c .rules) (c .test) ≤ mostSchedules
   unfolding badCount
-  bad-most = let m = few file k c e in let b = p .bad in let y = count-most (bad (c .rules) (c .test)) (schedules (c .test)) in omega arith
+  bad-most = let m = few file k c e in let y = count-most (bad (c .rules) (c .test)) (schedules (c .test)) in omega (arith, m, y)
 
-  shown-most : j .shown ≤ mostSchedules
-  unfolding Bad
-  shown-most = go (ℕ-discrete (j .bad) 0)
+  smallest-most : (o : Option ℕ) → smallestBad (c .rules) (c .test) ≡ o → (shownOf o ≤ mostSchedules) × (verdictCode (verdictBy o) < bit63)
+  unfolding shownOf verdictBy verdictCode Smallest Bad
+  smallest-most none q = (omega arith, omega arith)
+  smallest-most (some s) q = let l = computed-smallest (c .rules) (c .test) s q .0 .0 in let m = few file k c e in (omega (arith, l, m), omega (arith, l, m))
+
+  judge-below : judgeAnswer (answer c) < bit63
+  unfolding judgeAnswer judgementOf judgementCode
+  judge-below =
+      let a = valid-most in
+      let b = bad-most in
+      let s = smallest-most (smallestBad (c .rules) (c .test)) refl .0 in
+      omega (arith, a, b, s)
+
+  taken-apart : partsOf (judgeAnswer (answer c)) ≡ judgementOf c
+  unfolding judgeAnswer judgementOf judgementCode partsOf
+  taken-apart = go (validCount (c .rules) (c .test)) (badCount (c .rules) (c .test)) (shownOf (smallestBad (c .rules) (c .test))) valid-most bad-most (smallest-most (smallestBad (c .rules) (c .test)) refl .0)
     where
-      go : Dec (j .bad ≡ 0) → j .shown ≤ mostSchedules
-      go (yes z) = let n = p .none z in omega arith
-      go (no n) = let l = p .shown n .0 in let m = few file k c e in omega arith
+      go : (a b s : ℕ) → a ≤ mostSchedules → b ≤ mostSchedules → s ≤ mostSchedules
+          → partsOf (judgementCode (record { valid = a; bad = b; shown = s })) ≡ record { valid = a; bad = b; shown = s }
+      go a b s h l m =
+          let r = a + 2 ^ countBits * b + 2 ^ (countBits + countBits) * s in
+          let t : r / 2 ^ countBits ≡ b + 2 ^ countBits * s = omega (arith, h, l, m) in
+          let u : r / 2 ^ (countBits + countBits) ≡ s = omega (arith, h, l, m) in
+          let x : r % 2 ^ countBits ≡ a = omega (arith, h, l, m) in
+          let y : r / 2 ^ countBits % 2 ^ countBits ≡ b = rw t (omega (arith, h, l, m)) in
+          let z : r / 2 ^ (countBits + countBits) % 2 ^ countBits ≡ s = rw u (omega (arith, h, l, m)) in
+          rw (x, y, z)
 
-judge-below : (file : List ℕ) (k : ℕ) (c : Case) (r : ℕ) → caseIn file k ≡ answer c → JudgeAnswer (answer c) r → r < bit63
-unfolding JudgeAnswer judgementCode
-judge-below file k c r e (j, p, q) =
-    let a = valid-most file k c e j p in
-    let b = bad-most file k c e j p in
-    let s = shown-most file k c e j p in
-    omega arith
-
--- the same three numbers judge the same case
-judges-same : (c : Case) (j i : Judgement) → Judges c j → i .valid ≡ j .valid → i .bad ≡ j .bad → i .shown ≡ j .shown → Judges c i
-judges-same c j i p v w x =
-    record {
-      valid = v ∙ p .valid;
-      bad = w ∙ p .bad;
-      shown = λ some. rw x (p .shown (λ z. some (w ∙ z)));
-      none = λ z. x ∙ p .none (sym w ∙ z);
-    }
+  verdict-below : verdictAnswer (answer c) < bit63
+  unfolding verdictAnswer verdictOf
+  verdict-below = smallest-most (smallestBad (c .rules) (c .test)) refl .1
 
 pub judge-taken-apart : JudgeTakenApart
-unfolding JudgeAnswer judgementCode partsOf
-judge-taken-apart file k c r e (j, p, q) =
-    let a = valid-most file k c e j p in
-    let b = bad-most file k c e j p in
-    let s = shown-most file k c e j p in
-    let t : r / 2 ^ countBits ≡ j .bad + 2 ^ countBits * j .shown = omega arith in
-    let u : r / 2 ^ (countBits + countBits) ≡ j .shown = omega arith in
-    judges-same c j _ p (omega arith) (rw t (omega arith)) (rw u (omega arith))
-
-verdict-below : (file : List ℕ) (k : ℕ) (c : Case) (r : ℕ) → caseIn file k ≡ answer c → VerdictAnswer (answer c) r → r < bit63
-unfolding VerdictAnswer verdictCode Decides Bad
-verdict-below file k c r e (v, p, q) = rw q (go v p)
-  where
-    go : (v : Verdict) → Decides c v → verdictCode v < bit63
-    go Holds p = omega arith
-    go (Fails s) p = let l = p .0 in let m = few file k c e in omega arith
+judge-taken-apart = taken-apart
 
 -- ---- lines: one for each test, or that of a refusal
 

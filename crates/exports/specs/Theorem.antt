@@ -9,8 +9,8 @@ use Rattle.model.specs.Answer.{Outcome, answer, refused, refusal}
 use Rattle.cache_model.specs.Calls.{openOf, handInOf, stepOf, drainOf}
 use Rattle.log_get.specs.Get.{getOf, valueCode}
 use Rattle.log_get.specs.Puts.{traceOf}
-use Rattle.judge_cases.specs.Judge.{Case, Judges, caseIn}
-use Rattle.judge_answers.specs.Judged.{partsOf, JudgeAnswer, VerdictAnswer}
+use Rattle.judge_cases.specs.Judge.{Case, caseIn, judgementOf}
+use Rattle.judge_answers.specs.Judged.{partsOf, judgeAnswer, verdictAnswer}
 use Rattle.file_calls.specs.File.{readAnswer, locateAnswer, cyclicAnswer}
 use Rattle.find_call.specs.Finder.{findOf}
 use Rattle.judge_text.specs.Lines.{textLength}
@@ -36,12 +36,12 @@ pub record NoneReachesBit63 : Type 0 where
   pub read : (file : List ℕ) → ToldApart (readAnswer file)
   pub locate : (file : List ℕ) (k : ℕ) → ToldApart (locateAnswer file k)
   pub cyclic : (file : List ℕ) → ToldApart (cyclicAnswer file)
-  pub judge : (file : List ℕ) (k : ℕ) (c : Case) (r : ℕ) → caseIn file k ≡ answer c → JudgeAnswer (answer c) r → r < bit63
-  pub verdict : (file : List ℕ) (k : ℕ) (c : Case) (r : ℕ) → caseIn file k ≡ answer c → VerdictAnswer (answer c) r → r < bit63
+  pub judge : (file : List ℕ) (k : ℕ) (c : Case) → caseIn file k ≡ answer c → judgeAnswer (answer c) < bit63
+  pub verdict : (file : List ℕ) (k : ℕ) (c : Case) → caseIn file k ≡ answer c → verdictAnswer (answer c) < bit63
   pub lines : (file buffer : List ℕ) → textLength ≤ length buffer → printedOf file buffer .answer < bit63
   pub find : (file buffer : List ℕ) → ToldApart (findOf file buffer .outcome)
   pub trace : (initial main buffer : List ℕ) → ToldApart (traceOf initial main buffer .outcome)
 
--- what the header's three functions take from a judge's answer, 21 bits each, judges the case: none of the numbers is cut, and none runs into the next (02, [8])
+-- what the header's three functions take from a judge's answer, 21 bits each, are the case's numbers: none of them is cut, and none runs into the next (02, [8])
 abbrev pub JudgeTakenApart : Type 0
-JudgeTakenApart = (file : List ℕ) (k : ℕ) (c : Case) (r : ℕ) → caseIn file k ≡ answer c → JudgeAnswer (answer c) r → Judges c (partsOf r)
+JudgeTakenApart = (file : List ℕ) (k : ℕ) (c : Case) → caseIn file k ≡ answer c → partsOf (judgeAnswer (answer c)) ≡ judgementOf c

@@ -15,8 +15,10 @@ use lib.ListN.{length, getD}
 use lib.Pow.{pow-mono, pow-pos}
 use lib.Seq.{length-take-le}
 use borrow.Author.Tests.{ltb-true, ltb-false, lt-ltb, le-ltb, le-leb, lt-leb, eqb-true, not-true, not-false}
+use Rattle.relation.specs.Best.{taken, bestBelow}
 use Rattle.relation.specs.Bits.{bit, withBit}
 use Rattle.relation.specs.Lists.{all, anyBelow}
+use Rattle.relation.proofs.BestLaws.{best-same}
 use Rattle.relation.proofs.BitLaws.{or-bit}
 use Rattle.relation.proofs.UnionLaws.{bit-ones}
 use Rattle.relation.proofs.ListLaws.{and-left, and-right, anyBelow-true, anyBelow-intro}
@@ -132,11 +134,11 @@ module _ (table : List ℕ) (cs : List Rule) (m best : ℕ) where
 
 module _ (p : ℕ → Bool) where
   pub chosen-begun : 18446744073709551615 ≡ choiceCode (chosenBelow p 0)
-  unfolding choiceCode chosenBelow
+  unfolding choiceCode bestBelow
   chosen-begun = refl
 
   pub chosen-more : (m best next : ℕ) → best ≡ choiceCode (chosenBelow p m) → m < candidateSets → next ≡ better p m best → next ≡ choiceCode (chosenBelow p (m + 1))
-  unfolding chosenBelow better preferred choiceCode
+  unfolding bestBelow taken better preferred choiceCode
   chosen-more m best next e h q = q ∙ rw (add-one m, e) (go (p m) (chosenBelow p m))
     where
       least : leb (ones m) (ones 18446744073709551615) ≡ true
@@ -149,7 +151,7 @@ module _ (p : ℕ → Bool) where
       pick true k = refl
       pick false k = refl
 
-      go : (b : Bool) (o : Option ℕ) → cond (leb (ones m) (ones (choiceCode o)) && b) m (choiceCode o) ≡ choiceCode (cond b (preferred m o) o)
+      go : (b : Bool) (o : Option ℕ) → cond (leb (ones m) (ones (choiceCode o)) && b) m (choiceCode o) ≡ choiceCode (cond b (taken preferred m o) o)
       go false o = rw (and-false (leb (ones m) (ones (choiceCode o))))
       go true none = rw least
       go true (some k) = rw (and-true (leb (ones m) (ones k))) (pick (leb (ones m) (ones k)) k)
@@ -226,11 +228,6 @@ module _ (m total end : ℕ) (h : m < total) (e : end ≡ cond (ltb (m / 64 * 64
       (λ (mark : markAt table k ≡ true). better-marked table cs k best true (sym mark) refl)
       (p .each t k (omega arith))))
 
-chosen-ext : (p q : ℕ → Bool) (n : ℕ) → ((k : ℕ) → k < n → p k ≡ q k) → chosenBelow p n ≡ chosenBelow q n
-unfolding chosenBelow
-chosen-ext p q zero h = refl
-chosen-ext p q (suc n) h = rw (h n (omega arith), chosen-ext p q n (λ k l. h k (omega arith)))
-
 -- ---- choice
 
 module _ (tests : List Test) (cands : Rules) (first table : List ℕ) where
@@ -246,7 +243,7 @@ module _ (tests : List Test) (cands : Rules) (first table : List ℕ) where
       let shown = k .shows (marked cs tests) (record { size = o .size; at = λ x h. o .at x (lt-of-lt-of-le h most) }) in
       e
       ∙ ap choiceCode
-      (chosen-ext
+      (best-same preferred
       (λ m. not (cyclic (picked cs m)) && not (markAt table m))
       (λ m. not (cyclic (picked cs m)) && all (testHolds (picked cs m)) tests)
       (2 ^ n)

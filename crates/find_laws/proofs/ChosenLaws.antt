@@ -12,9 +12,11 @@ use lib.Count.{ones, ones-step}
 use lib.Dec.{leb}
 use lib.ListN.{length}
 use borrow.Author.Tests.{leb-true, leb-false, not-true}
+use Rattle.relation.specs.Best.{BestOf}
 use Rattle.relation.specs.Lists.{all}
 use Rattle.relation.proofs.BitLaws.{two-cases}
-use Rattle.relation.proofs.ListLaws.{and-left, and-right, and-intro, below-suc, all-true, all-intro}
+use Rattle.relation.proofs.BestLaws.{best-below}
+use Rattle.relation.proofs.ListLaws.{and-left, and-right, and-intro, all-true, all-intro}
 use Rattle.model.specs.declared.Rule.{Rule}
 use Rattle.model.specs.Rules.{Known}
 use Rattle.model.specs.Cyclic.{cyclic}
@@ -42,66 +44,34 @@ counted (c ∷ cs) m h =
 
 -- ---- the number that is preferred
 
--- nothing below n passes, or m does and is preferred to all others that do
-unfoldable Best : (ℕ → Bool) → ℕ → Option ℕ → Type 0
-Best p n none = (k : ℕ) → k < n → p k ≡ false
-Best p n (some m) = (m < n) × (p m ≡ true) × ((k : ℕ) → k < n → p k ≡ true → (ones m ≤ ones k) × (ones k ≡ ones m → k ≤ m))
+-- no more ones, and of as many no smaller number
+unfoldable Preferred : ℕ → ℕ → Type 0
+Preferred m k = (ones m ≤ ones k) × (ones k ≡ ones m → k ≤ m)
 
-module _ (p : ℕ → Bool) (n : ℕ) where
-  best-skip : (o : Option ℕ) → p n ≡ false → Best p n o → Best p (suc n) o
-  unfolding Best
-  best-skip none e b = λ k h. ⊎-elim (λ (q : k ≡ n). rw q e) (λ (l : k < n). b k l) (below-suc k n h)
-  best-skip (some m) e b =
-      let l = b .0 in (
-        omega arith,
-        b .1,
-        λ k h f. ⊎-elim
-            (λ (q : k ≡ n). absurd (false≢true (sym e ∙ (rw q at f))))
-            (λ (l : k < n). b .2 k l f)
-            (below-suc k n h),
-      )
+abbrev Best : (ℕ → Bool) → ℕ → Option ℕ → Type 0
+Best p n o = BestOf Preferred p n o
 
-  best-take : (o : Option ℕ) → p n ≡ true → Best p n o → Best p (suc n) (preferred n o)
-  unfolding Best preferred
-  best-take none e b = (
-    omega arith,
-    e,
-    λ k h f. ⊎-elim
-        (λ (q : k ≡ n). (rw q (omega arith), λ z. omega arith))
-        (λ (l : k < n). absurd (false≢true (sym (b k l) ∙ f)))
-        (below-suc k n h),
-  )
-  best-take (some m) e b = go (leb (ones n) (ones m)) refl
-    where
-      go : (t : Bool) → leb (ones n) (ones m) ≡ t → Best p (suc n) (cond t (some n) (some m))
-      go true q =
-          let le = leb-true (ones n) (ones m) q in (
-            omega arith,
-            e,
-            λ k h f. ⊎-elim
-                (λ (z : k ≡ n). (rw z (omega arith), λ w. omega arith))
-                (λ (l : k < n). let c = b .2 k l f .0 in (omega arith, λ w. omega arith))
-                (below-suc k n h),
-          )
-      go false q =
-          let lt = leb-false (ones n) (ones m) q in
-          let l = b .0 in (
-            omega arith,
-            b .1,
-            λ k h f. ⊎-elim
-                (λ (z : k ≡ n). (rw z (omega arith), λ (w : ones k ≡ ones m). let y : ones n ≡ ones m = rw z at w in absurd (omega arith)))
-                (λ (l : k < n). b .2 k l f)
-                (below-suc k n h),
-          )
+preferred-self : (m : ℕ) → Preferred m m
+unfolding Preferred
+preferred-self m = (omega arith, λ e. omega arith)
+
+preferred-through : (a b c : ℕ) → Preferred a b → Preferred b c → Preferred a c
+unfolding Preferred
+preferred-through a b c u v =
+    let x = u .0 in
+    let y = v .0 in
+    (omega arith, λ e. let l = u .1 (omega (arith, x, y, e)) in let m = v .1 (omega (arith, x, y, e)) in omega (arith, l, m))
+
+preferred-takes : (m k : ℕ) → k < m → preferred m k ≡ true → Preferred m k
+unfolding Preferred preferred
+preferred-takes m k h e = let l = leb-true (ones m) (ones k) e in (omega arith, λ q. omega arith)
+
+preferred-keeps : (m k : ℕ) → k < m → preferred m k ≡ false → Preferred k m
+unfolding Preferred preferred
+preferred-keeps m k h e = let l = leb-false (ones m) (ones k) e in (omega arith, λ q. absurd (omega (arith, l, q)))
 
 best : (p : ℕ → Bool) (n : ℕ) → Best p n (chosenBelow p n)
-unfolding chosenBelow
-best p zero = unfold Best in λ k h. absurd (omega arith)
-best p (suc n) = go (p n) refl (best p n)
-  where
-    go : (b : Bool) → p n ≡ b → Best p n (chosenBelow p n) → Best p (suc n) (cond b (preferred n (chosenBelow p n)) (chosenBelow p n))
-    go true e k = best-take p n (chosenBelow p n) e k
-    go false e k = best-skip p n (chosenBelow p n) e k
+best p n = best-below Preferred preferred preferred-self preferred-through preferred-takes preferred-keeps p n
 
 -- ---- the computed form of sufficiency
 
@@ -147,7 +117,7 @@ module _ (tests : List Test) where
   none-best e = subst (Best passes (2 ^ length cs)) e (best passes (2 ^ length cs))
 
   pub some-chosen : (m : ℕ) → chosen tests cs ≡ some m → Chosen tests cs m
-  unfolding Chosen Best
+  unfolding Chosen BestOf Preferred
   some-chosen m e =
       let b = some-best m e in
       (b .0, suffices-true tests (picked cs m) (b .1), λ k l h. b .2 k l (true-suffices tests (picked cs k) (picked-known tests k) h))
@@ -163,7 +133,7 @@ module _ (tests : List Test) where
       omega arith
 
   none-suffices : chosen tests cs ≡ none → NoneSuffices tests
-  unfolding NoneSuffices Best
+  unfolding NoneSuffices BestOf
   none-suffices e rules h =
       let (k, l, s, short) = cut-down tests rules h in
       true≢false (sym (true-suffices tests (picked cs k) (picked-known tests k) s) ∙ none-best e k l)
@@ -186,7 +156,7 @@ refused tests = (none-suffices tests, suffices-none tests)
 -- ---- no number that passes has fewer ones than the preferred one
 
 pub chosen-fewest : (p : ℕ → Bool) (n k : ℕ) → k < n → p k ≡ true → (m : ℕ) × (chosenBelow p n ≡ some m) × (ones m ≤ ones k)
-unfolding Best
+unfolding BestOf Preferred
 chosen-fewest p n k h e = go (chosenBelow p n) refl (best p n)
   where
     go : (o : Option ℕ) → chosenBelow p n ≡ o → Best p n o → (m : ℕ) × (o ≡ some m) × (ones m ≤ ones k)

@@ -15,8 +15,8 @@ use Rattle.judge_cases.specs.declared.Judged.the-variants as Judged
 use Rattle.judge_cases.specs.declared.Decided.{Decided}
 use Rattle.judge_cases.specs.declared.Decided.the-variants.{As}
 use Rattle.judge_cases.specs.declared.Decided.the-variants as Decided
-use Rattle.judge_cases.specs.Judge.{Case, Judging, Deciding, SmallRefusal, FewNumbers, Few, FewDecided}
-use Rattle.judge_answers.specs.Judged.{judgementCode, verdictCode, JudgeAnswer, VerdictAnswer}
+use Rattle.judge_cases.specs.Judge.{Case, judgementOf, verdictOf, judgedOf, decidedOf, SmallRefusal, FewNumbers, Few, FewDecided}
+use Rattle.judge_answers.specs.Judged.{judgementCode, verdictCode, judgeAnswer, verdictAnswer}
 
 module _ (x : Judged) (few : Few x) where
   pub counts-few : (j : Judgement) → x ≡ Counts j → FewNumbers j
@@ -30,15 +30,15 @@ module _ (x : Judged) (few : Few x) where
       let b = h .1 in
       omega arith
 
-pub judge-counts : (o : Outcome Case) (x : Judged) (j : Judgement) (r : ℕ) → Judging o x → x ≡ Counts j → r ≡ judgementCode j → JudgeAnswer o r
-unfolding Judging JudgeAnswer
+pub judge-counts : (o : Outcome Case) (x : Judged) (j : Judgement) (r : ℕ) → x ≡ judgedOf o → x ≡ Counts j → r ≡ judgementCode j → r ≡ judgeAnswer o
+unfolding judgedOf judgeAnswer
 judge-counts (refused n p) x j r h e q = let z : _≡_ {A = ℕ} 0 1 = cc in absurd (omega arith)
-judge-counts (answer c) x j r h e q = let z : h .0 ≡ j = cc in (j, rw z at (h .2), q)
+judge-counts (answer c) x j r h e q = let z : j ≡ judgementOf c = cc in rw (← z) q
 
-pub judge-refused : (o : Outcome Case) (x : Judged) (why : Refusal) (r : ℕ) → Judging o x → x ≡ Judged.Refused why → r ≡ refusal (why .number) (why .place) → JudgeAnswer o r
-unfolding Judging JudgeAnswer
+pub judge-refused : (o : Outcome Case) (x : Judged) (why : Refusal) (r : ℕ) → x ≡ judgedOf o → x ≡ Judged.Refused why → r ≡ refusal (why .number) (why .place) → r ≡ judgeAnswer o
+unfolding judgedOf judgeAnswer
 judge-refused (refused n p) x why r h e q = let a : why ≡ record { number = n; place = p } = cc in rw a at q
-judge-refused (answer c) x why r h e q = let f = h .1 in let z : _≡_ {A = ℕ} 0 1 = cc in absurd (omega arith)
+judge-refused (answer c) x why r h e q = let z : _≡_ {A = ℕ} 0 1 = cc in absurd (omega arith)
 
 module _ (x : Decided) (few : FewDecided x) where
   pub decided-few : (v : Verdict) → x ≡ As v → FewDecided (As v)
@@ -51,15 +51,15 @@ module _ (x : Decided) (few : FewDecided x) where
       let b = h .1 in
       omega arith
 
-pub verdict-decided : (o : Outcome Case) (x : Decided) (v : Verdict) (r : ℕ) → Deciding o x → x ≡ As v → r ≡ verdictCode v → VerdictAnswer o r
-unfolding Deciding VerdictAnswer
+pub verdict-decided : (o : Outcome Case) (x : Decided) (v : Verdict) (r : ℕ) → x ≡ decidedOf o → x ≡ As v → r ≡ verdictCode v → r ≡ verdictAnswer o
+unfolding decidedOf verdictAnswer
 verdict-decided (refused n p) x v r h e q = let z : _≡_ {A = ℕ} 0 1 = cc in absurd (omega arith)
-verdict-decided (answer c) x v r h e q = let z : h .0 ≡ v = cc in (v, rw z at (h .2), q)
+verdict-decided (answer c) x v r h e q = let z : v ≡ verdictOf c = cc in rw (← z) q
 
-pub verdict-refused : (o : Outcome Case) (x : Decided) (why : Refusal) (r : ℕ) → Deciding o x → x ≡ Decided.Refused why → r ≡ refusal (why .number) (why .place) → VerdictAnswer o r
-unfolding Deciding VerdictAnswer
+pub verdict-refused : (o : Outcome Case) (x : Decided) (why : Refusal) (r : ℕ) → x ≡ decidedOf o → x ≡ Decided.Refused why → r ≡ refusal (why .number) (why .place) → r ≡ verdictAnswer o
+unfolding decidedOf verdictAnswer
 verdict-refused (refused n p) x why r h e q = let a : why ≡ record { number = n; place = p } = cc in rw a at q
-verdict-refused (answer c) x why r h e q = let f = h .1 in let z : _≡_ {A = ℕ} 0 1 = cc in absurd (omega arith)
+verdict-refused (answer c) x why r h e q = let z : _≡_ {A = ℕ} 0 1 = cc in absurd (omega arith)
 
 pub fails-fits : (v : Verdict) (s : ℕ) → v ≡ Fails s → FewDecided (As v) → s ≤ mostSchedules
 unfolding FewDecided

@@ -6,6 +6,8 @@ use mathlib.Core.List.{List, [], _∷_}
 use Prim.Native.Nat.{ℕ}
 use native.Mathlib.Omega.{arith}
 use lib.Dec.{lit<}
+use lib.Count.{onesIn, ones}
+use Rattle.relation.specs.Best.{taken, bestBelow, fewer}
 use Rattle.relation.specs.Bits.{bit, withBit, maskOf}
 use Rattle.relation.specs.Lists.{any, all, anyBelow, allBelow, tabulate}
 use Rattle.relation.specs.Finite.{related, rowsOf, joined, round, closed, loops, hasRing}
@@ -16,7 +18,7 @@ use Rattle.model.specs.Rules.{stands, matches, dependsOn}
 use Rattle.model.specs.Cyclic.{Cyclic, noRule, leads, has, equalLeads, meets, cyclic}
 use Rattle.model.specs.Schedule.{store, run, written, noWrite, valid}
 use Rattle.model.specs.Check.{damaged, rangeHolds, holds, consistent}
-use Rattle.model.specs.Test.{Test, File, file, initialDisk, Bad, bad, countBelow, validCount, badCount}
+use Rattle.model.specs.Test.{Test, File, file, initialDisk, Bad, bad, smallestBad, shownOf, countBelow, validCount, badCount}
 use Rattle.model.proofs.TestLaws.{bad-true, bad-fails}
 use Rattle.rule_cyclelaws.specs.Examples.{equalAlone}
 use Rattle.rule_cyclelaws.proofs.CyclicLaws.{true-cyclic}
@@ -24,9 +26,10 @@ use Rattle.rule_cyclelaws.proofs.Examples.{equal-cyclic}
 use Rattle.file_format.specs.Bytes.{half, word}
 use Rattle.file_format.specs.Held.{noTest}
 use Rattle.file_format.specs.File.{isTag, isCheck, bodyLength, ruleOf, writeOf, checkOf, countsOf, outOfOrder, overTest, overLimit, ruleFault, bodyFault, faultOf, grown, finished, readFrom, nothing, readOf}
-use Rattle.judge_cases.specs.Judge.{caseIn, Decides}
+use Rattle.judge_search.specs.Search.{verdictBy}
+use Rattle.judge_cases.specs.Judge.{caseIn, judgementOf, verdictOf}
 use Rattle.judge_cases.specs.Theorem.{NoSuchTest, caseOfTest, CaseFor}
-use Rattle.judge_cases.specs.Examples.{K3-bytes, K3-test, K3-file, ring-bytes, JudgedFiles}
+use Rattle.judge_cases.specs.Examples.{K3-bytes, K3-test, K3-file, ring-bytes, JudgedFiles, four-not-three, nothing-stored, SmallestShown}
 use Rattle.judge_cases.proofs.TheoremLaws.{judged-as-meant}
 
 -- ---- what is computed: to unfold one of these is to unfold all that it unfolds
@@ -36,7 +39,7 @@ unfolding K3-bytes K3-file K3-test ring-bytes readOf readFrom nothing finished g
 fileRead s = readOf s
 
 counted : List Rule → Test → ℕ
-unfolding K3-file K3-test validCount badCount countBelow bad valid consistent holds rangeHolds damaged run written store initialDisk emptyDisk noWrite dependsOn matches stands bit allBelow any all empty firstOf secondOf block
+unfolding K3-file K3-test four-not-three nothing-stored judgementOf verdictOf verdictBy shownOf smallestBad bestBelow taken fewer ones onesIn validCount badCount countBelow bad valid consistent holds rangeHolds damaged run written store initialDisk emptyDisk noWrite dependsOn matches stands bit allBelow any all empty firstOf secondOf block
 counted rules t = badCount rules t
 
 ringed : List Rule → Bool
@@ -71,10 +74,22 @@ judged-files =
       K3-read = K3-read;
       K3-acyclic = K3-acyclic;
       K3-given = K3-for 1 .admitted .1 (K3-acyclic, K3-there);
-      K3-judged = record { valid = unfold counted in refl; bad = unfold counted in refl; shown = λ n. K3-bad; none = λ e. absurd (omega arith) };
-      K3-fails = unfold Decides in K3-bad;
+      K3-judged = unfold counted in refl;
+      K3-fails = unfold counted in refl;
       K3-not-held = bad-fails (K3-file .rules) (caseOfTest K3-file 1 .test) 12 K3-bad;
       K3-zero = K3-for 0 .missing .1 (K3-acyclic, inl refl);
       K3-above = λ k l. K3-for k .missing .1 (K3-acyclic, inr (unfold K3-file in l));
       ring-refused = λ k. judged-as-meant .read-file ring-bytes k (file (equalAlone 1) (noTest ∷ [])) (unfold fileRead in refl) .ring .1 (equal-cyclic 1);
+    }
+
+-- ---- the smallest failing schedule
+
+pub smallest-shown : SmallestShown
+smallest-shown =
+    record {
+      three-bad = bad-true [] (four-not-three .test) 3 (unfold counted in lit< tt) (unfold counted in refl);
+      four-judged = unfold counted in refl;
+      four-fails = unfold counted in refl;
+      none-judged = unfold counted in refl;
+      none-fails = unfold counted in refl;
     }

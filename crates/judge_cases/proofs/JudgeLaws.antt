@@ -2,8 +2,8 @@
 use mathlib.Core.Path.{_≡_, refl, sym, ap, subst, _∙_}
 use mathlib.Core.Bool.{Bool, true, false, cond, not, _&&_}
 use mathlib.Core.List.{List}
+use mathlib.Core.Option.{Option, none, some}
 use Prim.Native.Nat.{ℕ, _-_, _*_, _^_, _≤_, _<_}
-use native.Mathlib.Decide.{ℕ-discrete}
 use native.Mathlib.Omega.{arith}
 use lib.Pow.{pow-mono}
 use lib.Dec.{leb}
@@ -11,9 +11,11 @@ use lib.ListN.{length, getD, take}
 use lib.Seq.{getD-take}
 use borrow.Author.Needs.{needs}
 use borrow.Author.Tests.{not-true, not-false}
+use Rattle.relation.specs.Best.{Smallest, fewer, smallestBelow}
 use Rattle.relation.specs.Bits.{maskOf}
+use Rattle.relation.proofs.BestLaws.{best-same}
 use Rattle.relation.proofs.BitLaws.{mask-below}
-use Rattle.relation.proofs.ListLaws.{allBelow-intro, getD-tabulate}
+use Rattle.relation.proofs.ListLaws.{getD-tabulate}
 use Rattle.model.specs.declared.Rule.{Rule}
 use Rattle.model.specs.declared.Check.{Check}
 use Rattle.model.specs.declared.Refusal.{Refusal}
@@ -22,9 +24,9 @@ use Rattle.model.specs.Answer.{Outcome, answer, refused}
 use Rattle.model.specs.Rules.{dependsOn}
 use Rattle.model.specs.Cyclic.{cyclic}
 use Rattle.model.specs.Schedule.{valid}
-use Rattle.model.specs.Test.{Test, File, bad, testHolds, Bad, countBelow, validCount, badCount}
+use Rattle.model.specs.Test.{Test, File, bad, Bad, smallestBad, shownOf, countBelow, validCount, badCount}
 use Rattle.model.proofs.CountLaws.{count-ext, count-most}
-use Rattle.model.proofs.TestLaws.{bad-true, testHolds-true}
+use Rattle.model.proofs.TestLaws.{computed-smallest}
 use Rattle.file_format.specs.declared.Extent.{Extent}
 use Rattle.file_format.specs.declared.Scan.{Scan}
 use Rattle.file_format.specs.declared.Scan.the-variants.{Accepted, Refused}
@@ -39,15 +41,13 @@ use Rattle.judge_disks.proofs.DiskSteps.{stores-run}
 use Rattle.judge_loading.specs.declared.Loaded.{Loaded}
 use Rattle.judge_loading.specs.Loaded.{LoadsTest, LoadsChecks}
 use Rattle.file_loading.proofs.LoadSteps.{fields-length}
-use Rattle.judge_schedules.specs.Halves.{validRows, badRows}
-use Rattle.judge_closed.specs.Closed.{Narrow}
+use Rattle.judge_schedules.specs.Valid.{validRows, badRows, Narrow}
 use Rattle.judge_rows.specs.Rows.{rowOf, rowsFrom}
 use Rattle.judge_rows.proofs.RowLaws.{valid-rows}
 use Rattle.judge_counting.specs.declared.Judgement.{Judgement}
 use Rattle.judge_search.specs.declared.Verdict.{Verdict}
-use Rattle.judge_search.specs.declared.Verdict.the-variants.{Holds, Fails}
-use Rattle.judge_counting.specs.Tally.{Tallies}
-use Rattle.judge_search.specs.Search.{Finds}
+use Rattle.judge_counting.specs.Tally.{tallied}
+use Rattle.judge_search.specs.Search.{verdictBy, verdictBelow}
 use Rattle.judge_cases.specs.declared.Cases.{Cases}
 use Rattle.judge_cases.specs.declared.Cases.the-variants.{Tests}
 use Rattle.judge_cases.specs.declared.Cases.the-variants as Cases
@@ -57,7 +57,7 @@ use Rattle.judge_cases.specs.declared.Judged.the-variants.{Counts}
 use Rattle.judge_cases.specs.declared.Judged.the-variants as Judged
 use Rattle.judge_cases.specs.declared.Decided.the-variants.{As}
 use Rattle.judge_cases.specs.declared.Decided.the-variants as Decided
-use Rattle.judge_cases.specs.Judge.{Case, caseOf, caseIn, caseAt, Judges, Decides, SmallRefusal, judgedFile, OpensTo, SelectsTo, Judging, Deciding, FewNumbers, Few, FewDecided}
+use Rattle.judge_cases.specs.Judge.{Case, caseOf, caseIn, caseAt, judgementOf, verdictOf, SmallRefusal, judgedFile, OpensTo, SelectsTo, judgedOf, decidedOf, FewNumbers, Few, FewDecided}
 
 -- ---- the rows
 
@@ -91,23 +91,20 @@ module _ (rules : List Rule) (s : List ℕ) (e : Extent) (test : Loaded) (rows :
   size : 2 ^ test .main ≡ 2 ^ length (testAt s e .main)
   size = ap (λ (n : ℕ). 2 ^ n) (sym (el .main))
 
-  pub judges-all : (j : Judgement) → Tallies (validRows rows (test .main)) badHere (2 ^ test .main) j → Judges (caseAt rules s e) j
-  unfolding validCount badCount
-  judges-all j t =
-      record {
-        valid = t .valid ∙ count-ext _ _ (2 ^ test .main) (λ x h. same-valid x) ∙ ap (countBelow (valid rules (testAt s e .main))) size;
-        bad = t .bad ∙ count-ext _ _ (2 ^ test .main) (λ x h. same-bad x) ∙ ap (countBelow (bad rules (testAt s e))) size;
-        shown = λ n. let w = t .shown n in bad-true rules (testAt s e) (j .shown) (subst (λ (k : ℕ). j .shown < k) size (w .0)) (sym (same-bad (j .shown)) ∙ w .1);
-        none = t .none;
-      }
+  -- the smallest bad one by the rows is that of the test
+  same-smallest : smallestBelow badHere (2 ^ test .main) ≡ smallestBad rules (testAt s e)
+  unfolding smallestBad
+  same-smallest = best-same fewer badHere (bad rules (testAt s e)) (2 ^ test .main) (λ x h. same-bad x) ∙ ap (smallestBelow (bad rules (testAt s e))) size
 
-  pub decides-all : (v : Verdict) → Finds badHere (2 ^ test .main) v → Decides (caseAt rules s e) v
-  unfolding Finds Decides
-  decides-all Holds f =
-      testHolds-true rules (testAt s e)
-      (unfold testHolds in allBelow-intro (λ x. not (bad rules (testAt s e) x)) (2 ^ length (testAt s e .main))
-      (λ x h. let l : x < 2 ^ test .main = subst (λ (k : ℕ). x < k) (sym size) h in rw (sym (same-bad x) ∙ f x l)))
-  decides-all (Fails x) f = bad-true rules (testAt s e) x (subst (λ (k : ℕ). x < k) size (f .0)) (sym (same-bad x) ∙ f .1)
+  pub judges-all : (j : Judgement) → j ≡ tallied (validRows rows (test .main)) badHere (2 ^ test .main) → j ≡ judgementOf (caseAt rules s e)
+  unfolding tallied judgementOf validCount badCount
+  judges-all j t =
+      t
+      ∙ rw (count-ext (validRows rows (test .main)) (valid rules (testAt s e .main)) (2 ^ test .main) (λ x h. same-valid x), count-ext badHere (bad rules (testAt s e)) (2 ^ test .main) (λ x h. same-bad x), same-smallest, size)
+
+  pub decides-all : (v : Verdict) → v ≡ verdictBelow badHere (2 ^ test .main) → v ≡ verdictOf (caseAt rules s e)
+  unfolding verdictBelow verdictOf
+  decides-all v t = t ∙ ap verdictBy same-smallest
 
 -- ---- no number is larger than the count of schedules
 
@@ -116,30 +113,27 @@ module _ (rules : List Rule) (s : List ℕ) (e : Extent) (i : Inside s e) where
   unfolding testAt
   schedules-most = rw (fields-length writeField s (mainPlace s e) (e .main)) (pow-mono {i = e .main} {j = mostMain} (i .main-most))
 
-  bad-most : (x : ℕ) → Bad rules (testAt s e) x → x ≤ mostSchedules
-  unfolding Bad
-  bad-most x b = let l = b .0 in let m = schedules-most in omega arith
+  -- nor is the smallest bad one's
+  smallest-most : (o : Option ℕ) → smallestBad rules (testAt s e) ≡ o → (shownOf o ≤ mostSchedules) × FewDecided (As (verdictBy o))
+  unfolding shownOf FewDecided verdictBy Smallest Bad
+  smallest-most none q = (omega arith, tt)
+  smallest-most (some x) q = let l = computed-smallest rules (testAt s e) x q .0 .0 in let m = schedules-most in (omega (arith, l, m), omega (arith, l, m))
 
-  pub judges-few : (j : Judgement) → Judges (caseAt rules s e) j → FewNumbers j
-  unfolding FewNumbers validCount badCount
+  pub judges-few : (j : Judgement) → j ≡ judgementOf (caseAt rules s e) → FewNumbers j
+  unfolding FewNumbers judgementOf validCount badCount
   judges-few j p =
       let m = schedules-most in
-      let a = p .valid in let b = count-most (valid rules (testAt s e .main)) (2 ^ length (testAt s e .main)) in
-      let c = p .bad in let d = count-most (bad rules (testAt s e)) (2 ^ length (testAt s e .main)) in
-      (omega arith, omega arith, shown (ℕ-discrete (j .bad) 0))
-    where
-      shown : Dec (j .bad ≡ 0) → j .shown ≤ mostSchedules
-      shown (yes z) = let n = p .none z in omega arith
-      shown (no n) = bad-most (j .shown) (p .shown n)
+      let a = count-most (valid rules (testAt s e .main)) (2 ^ length (testAt s e .main)) in
+      let b = count-most (bad rules (testAt s e)) (2 ^ length (testAt s e .main)) in
+      rw p (omega (arith, a, m), omega (arith, b, m), smallest-most (smallestBad rules (testAt s e)) refl .0)
 
-  pub decides-few : (v : Verdict) → Decides (caseAt rules s e) v → FewDecided (As v)
-  unfolding FewDecided Decides
-  decides-few Holds p = tt
-  decides-few (Fails x) p = bad-most x p
+  pub decides-few : (v : Verdict) → v ≡ verdictOf (caseAt rules s e) → FewDecided (As v)
+  unfolding verdictOf
+  decides-few v p = rw p (smallest-most (smallestBad rules (testAt s e)) refl .1)
 
 pub loaded-few : (rules : List Rule) (s : List ℕ) (e : Extent) (test : Loaded) (rows : List ℕ) (cs : List Check) (j : Judgement) → Inside s e → LoadsTest (testAt s e) test
     → take (test .main) rows ≡ rowsFrom rules (test .labels) (test .main) (test .main) → LoadsChecks (testAt s e) cs
-    → Tallies (validRows rows (test .main)) (badRows rows (test .main) (test .base) (heldFrom (test .stores) 0 (test .main)) (take (test .checks) cs)) (2 ^ test .main) j → FewNumbers j
+    → j ≡ tallied (validRows rows (test .main)) (badRows rows (test .main) (test .base) (heldFrom (test .stores) 0 (test .main)) (take (test .checks) cs)) (2 ^ test .main) → FewNumbers j
 loaded-few rules s e test rows cs j i el er ec t = judges-few rules s e i j (judges-all rules s e test rows cs el er ec j t)
 
 pub ruleset loops = (needs, narrow-rows, judges-all, decides-all, loaded-few)
@@ -265,12 +259,12 @@ module _ (s : List ℕ) (k : ℕ) (rules : Rules) (x : Choice) (t : SelectsTo s 
     unfolding SelectsTo
     refused-so = rw e at t
 
-    pub judging-refused : Judging (caseIn s k) (Judged.Refused why)
-    unfolding Judging
+    pub judging-refused : Judged.Refused why ≡ judgedOf (caseIn s k)
+    unfolding judgedOf
     judging-refused = rw (refused-so .0)
 
-    pub deciding-refused : Deciding (caseIn s k) (Decided.Refused why)
-    unfolding Deciding
+    pub deciding-refused : Decided.Refused why ≡ decidedOf (caseIn s k)
+    unfolding decidedOf
     deciding-refused = rw (refused-so .0)
 
     pub few-refused : Few (Judged.Refused why)
@@ -292,19 +286,19 @@ module _ (s : List ℕ) (k : ℕ) (rules : Rules) (x : Choice) (t : SelectsTo s 
     pub chosen-inside : Inside s e
     chosen-inside = chosen .2
 
-    pub judging-found : (j : Judgement) → Judges (caseAt (rulesOf rules) s e) j → Judging (caseIn s k) (Counts j)
-    unfolding Judging
-    judging-found j p = rw (chosen .0) (j, refl, p)
+    pub judging-found : (j : Judgement) → j ≡ judgementOf (caseAt (rulesOf rules) s e) → Counts j ≡ judgedOf (caseIn s k)
+    unfolding judgedOf
+    judging-found j p = rw (chosen .0, p)
 
     pub few-found : (j : Judgement) → FewNumbers j → Few (Counts j)
     unfolding Few
     few-found j f = f
 
-    pub deciding-found : (v : Verdict) → Decides (caseAt (rulesOf rules) s e) v → Deciding (caseIn s k) (As v)
-    unfolding Deciding
-    deciding-found v p = rw (chosen .0) (v, refl, p)
+    pub deciding-found : (v : Verdict) → v ≡ verdictOf (caseAt (rulesOf rules) s e) → As v ≡ decidedOf (caseIn s k)
+    unfolding decidedOf
+    deciding-found v p = rw (chosen .0, p)
 
-    pub few-decided-found : (v : Verdict) → Decides (caseAt (rulesOf rules) s e) v → FewDecided (As v)
+    pub few-decided-found : (v : Verdict) → v ≡ verdictOf (caseAt (rulesOf rules) s e) → FewDecided (As v)
     few-decided-found v p = decides-few (rulesOf rules) s e chosen-inside v p
 
 pub ruleset judges = (needs, judging-refused, deciding-refused, few-refused, few-decided-refused, chosen-rules, chosen-inside, judging-found, few-found, deciding-found, few-decided-found)

@@ -3,6 +3,7 @@ use mathlib.Core.Path.{_≡_, refl, sym, ap, _∙_}
 use mathlib.Core.Logic.{_↔_, _⊎_, inl, inr}
 use mathlib.Core.Bool.{Bool, true, false, cond, false≢true, and-false, _&&_}
 use mathlib.Core.List.{List}
+use mathlib.Core.Option.{Option, none, some}
 use Prim.Native.Nat.{ℕ, zero, suc, _≤_, _<_}
 use native.Mathlib.Omega.{arith}
 use lib.Dec.{leb}
@@ -11,15 +12,16 @@ use borrow.Author.Tests.{leb-false, le-leb, lt-leb}
 use Rattle.model.specs.Answer.{Outcome, answer, refused}
 use Rattle.model.specs.Cyclic.{Cyclic, cyclic}
 use Rattle.model.specs.Schedule.{valid}
-use Rattle.model.specs.Test.{File, TestHolds, Bad, bad, validCount, badCount}
-use Rattle.model.proofs.Theorems.{valid-schedule, bad-schedule, holding-test, decided}
+use Rattle.model.specs.declared.Rule.{Rule}
+use Rattle.model.specs.Test.{Test, File, TestHolds, bad, SmallestBad, smallestBad, shownOf, validCount, badCount}
+use Rattle.model.specs.Theorem.{SmallestFailing}
+use Rattle.model.proofs.Theorems.{valid-schedule, bad-schedule, holding-test, smallest-schedule}
 use Rattle.rule_cyclelaws.proofs.CyclicLaws.{cyclic-exactly}
 use Rattle.file_format.specs.File.{readOf}
 use Rattle.file_reader.proofs.CallerLaws.{refused-limits, holding-limits}
-use Rattle.judge_counting.specs.declared.Judgement.{Judgement}
-use Rattle.judge_search.specs.declared.Verdict.{Verdict}
 use Rattle.judge_search.specs.declared.Verdict.the-variants.{Holds, Fails}
-use Rattle.judge_cases.specs.Judge.{Case, caseOf, caseIn, Judges, Decides}
+use Rattle.judge_search.specs.Search.{verdictBy}
+use Rattle.judge_cases.specs.Judge.{Case, caseOf, caseIn, judgementOf, verdictOf}
 use Rattle.judge_cases.specs.Theorem.{NoSuchTest, caseOfTest, CaseFor, NumbersSay, VerdictSays, JudgedAsMeant}
 
 -- ---- what the judge is given
@@ -87,30 +89,61 @@ passed-on s k number place e = let l = refused-limits s number place e in (rw e,
 
 -- ---- what is said of it
 
-numbers-say : (c : Case) (j : Judgement) → Judges c j → NumbersSay c j
-unfolding validCount badCount
-numbers-say c j p =
-    let h = holding-test (c .rules) (c .test) .1 in
-    record {
-      valid = (valid (c .rules) (c .test .main), λ s l. valid-schedule (c .rules) (c .test .main) s, p .valid);
-      bad = (bad (c .rules) (c .test), λ s l. bad-schedule (c .rules) (c .test) s l, p .bad);
-      shown = p .shown;
-      none = p .none;
-      holds = (λ z. h .1 (sym (p .bad) ∙ z), λ t. p .bad ∙ h .0 t);
-    }
+-- by the smallest bad schedule, if there is one
+module _ (c : Case) where
+  abbrev rules : List Rule
+  rules = c .rules
 
-verdict-says : (c : Case) (v : Verdict) → Decides c v → VerdictSays c v
-verdict-says c v p = record { holds = (λ e. then-holds v p e, λ t. if-holds v p t); fails = λ s e. failing v p s e }
-  where
-    then-holds : (v : Verdict) → Decides c v → v ≡ Holds → TestHolds (c .rules) (c .test)
-    then-holds v p e = unfold Decides in rw e at p
+  abbrev t : Test
+  t = c .test
 
-    if-holds : (v : Verdict) → Decides c v → TestHolds (c .rules) (c .test) → v ≡ Holds
-    if-holds Holds p t = refl
-    if-holds (Fails s) p t = absurd (decided (c .rules) (c .test) .1 s (unfold Decides in p) t)
+  abbrev small : SmallestFailing rules t
+  small = smallest-schedule rules t
 
-    failing : (v : Verdict) → Decides c v → (s : ℕ) → v ≡ Fails s → Bad (c .rules) (c .test) s
-    failing v p s e = unfold Decides in rw e at p
+  shown-smallest : (o : Option ℕ) → smallestBad rules t ≡ o → (TestHolds rules t → ⊥) → SmallestBad rules t (shownOf o)
+  unfolding shownOf
+  shown-smallest none e f = absurd (f (small .holds .1 e))
+  shown-smallest (some s) e f = small .computed s .1 e
+
+  shown-none : (o : Option ℕ) → smallestBad rules t ≡ o → TestHolds rules t → shownOf o ≡ 0
+  unfolding shownOf
+  shown-none none e h = refl
+  shown-none (some s) e h = let z : none ≡ some s = sym (small .holds .0 h) ∙ e in let y : _≡_ {A = ℕ} 0 1 = cc in absurd (omega arith)
+
+  numbers-say : NumbersSay c (judgementOf c)
+  unfolding judgementOf validCount badCount
+  numbers-say =
+      let h = holding-test rules t .1 in
+      record {
+        valid = (valid rules (t .main), λ s l. valid-schedule rules (t .main) s, refl);
+        bad = (bad rules t, λ s l. bad-schedule rules t s l, refl);
+        shown = λ n. shown-smallest (smallestBad rules t) refl (λ z. n (h .0 z));
+        none = λ z. shown-none (smallestBad rules t) refl (h .1 z);
+        holds = (h .1, h .0);
+      }
+
+  holds-by : (o : Option ℕ) → verdictBy o ≡ Holds ↔ o ≡ none
+  unfolding verdictBy
+  holds-by none = (λ e. refl, λ e. refl)
+  holds-by (some s) = (λ e. let z : _≡_ {A = ℕ} 0 1 = cc in absurd (omega arith), λ e. let z : _≡_ {A = ℕ} 0 1 = cc in absurd (omega arith))
+
+  fails-by : (o : Option ℕ) (s : ℕ) → verdictBy o ≡ Fails s ↔ o ≡ some s
+  unfolding verdictBy
+  fails-by none s = (λ e. let z : _≡_ {A = ℕ} 0 1 = cc in absurd (omega arith), λ e. let z : _≡_ {A = ℕ} 0 1 = cc in absurd (omega arith))
+  fails-by (some k) s = (λ e. let z : k ≡ s = cc in rw z, λ e. let z : k ≡ s = cc in rw z)
+
+  verdict-says : VerdictSays c (verdictOf c)
+  unfolding verdictOf
+  verdict-says =
+      let o = smallestBad rules t in
+      record {
+        holds = (λ e. small .holds .1 (holds-by o .0 e), λ h. holds-by o .1 (small .holds .0 h));
+        fails = λ s. (λ e. small .computed s .1 (fails-by o s .0 e), λ b. fails-by o s .1 (small .computed s .0 b));
+      }
+
+  shown-same : (s : ℕ) → verdictOf c ≡ Fails s → judgementOf c .shown ≡ s
+  unfolding verdictOf judgementOf shownOf
+  shown-same s e = rw (fails-by (smallestBad rules t) s .0 e)
 
 pub judged-as-meant : JudgedAsMeant
-judged-as-meant = record { refused-file = passed-on; read-file = case-read; judge = numbers-say; verdict = verdict-says }
+judged-as-meant = record { refused-file = passed-on; read-file = case-read; judge = numbers-say; verdict = verdict-says; same = shown-same }

@@ -10,7 +10,7 @@ use Rattle.model.specs.declared.Refusal.{Refusal}
 use Rattle.model.specs.Limits.{mostRules, mostSchedules}
 use Rattle.model.specs.Answer.{Outcome, answer, refused}
 use Rattle.model.specs.Cyclic.{cyclic}
-use Rattle.model.specs.Test.{Test, File, TestHolds, Bad, validCount, badCount}
+use Rattle.model.specs.Test.{Test, File, smallestBad, shownOf, validCount, badCount}
 use Rattle.file_format.specs.declared.Extent.{Extent}
 use Rattle.file_format.specs.File.{readOf}
 use Rattle.file_format.specs.Scan.{testAt}
@@ -21,6 +21,7 @@ use Rattle.rule_match.specs.Held.{rulesOf}
 use Rattle.judge_counting.specs.declared.Judgement.{Judgement}
 use Rattle.judge_search.specs.declared.Verdict.{Verdict}
 use Rattle.judge_search.specs.declared.Verdict.the-variants.{Holds, Fails}
+use Rattle.judge_search.specs.Search.{verdictBy}
 use Rattle.judge_cases.specs.declared.Cases.{Cases}
 use Rattle.judge_cases.specs.declared.Cases.the-variants.{Tests}
 use Rattle.judge_cases.specs.declared.Cases.the-variants as Cases
@@ -51,17 +52,14 @@ caseOf (answer f) k =
 unfoldable pub caseIn : List ℕ → ℕ → Outcome Case
 caseIn s k = caseOf (readOf s) k
 
--- the counts of valid and of bad schedules, and some bad schedule, or 0 where there is none
-pub record Judges (c : Case) (j : Judgement) : Type 0 where
-  pub valid : j .valid ≡ validCount (c .rules) (c .test)
-  pub bad : j .bad ≡ badCount (c .rules) (c .test)
-  pub shown : (j .bad ≡ 0 → ⊥) → Bad (c .rules) (c .test) (j .shown)
-  pub none : j .bad ≡ 0 → j .shown ≡ 0
+-- the judge's numbers: the counts of valid and of bad schedules, and the smallest bad one, or 0 where there is none
+unfoldable pub judgementOf : Case → Judgement
+judgementOf c =
+    record { valid = validCount (c .rules) (c .test); bad = badCount (c .rules) (c .test); shown = shownOf (smallestBad (c .rules) (c .test)) }
 
--- the verdict alone: holds, or fails with a bad schedule
-unfoldable pub Decides : Case → Verdict → Type 0
-Decides c Holds = TestHolds (c .rules) (c .test)
-Decides c (Fails s) = Bad (c .rules) (c .test) s
+-- the verdict alone: holds, or fails with the smallest bad schedule
+unfoldable pub verdictOf : Case → Verdict
+verdictOf c = verdictBy (smallestBad (c .rules) (c .test))
 
 -- ---- what the routines give
 
@@ -95,15 +93,15 @@ SelectsTo s k rules (Choice.Test e) = (caseIn s k ≡ answer (caseAt (rulesOf ru
 abbrev pub Selects : List ℕ → ℕ → Selected → Type 0
 Selects s k r = SelectsTo s k (r .rules) (r .choice)
 
--- the judge: the refusal, or numbers that judge the case
-unfoldable pub Judging : Outcome Case → Judged → Type 0
-Judging (refused number place) r = r ≡ Judged.Refused (record { number = number; place = place })
-Judging (answer c) r = (j : Judgement) × (r ≡ Counts j) × Judges c j
+-- the judge: the refusal, or the numbers of the case
+unfoldable pub judgedOf : Outcome Case → Judged
+judgedOf (refused number place) = Judged.Refused (record { number = number; place = place })
+judgedOf (answer c) = Counts (judgementOf c)
 
--- the verdict alone: the refusal, or a verdict that decides the case
-unfoldable pub Deciding : Outcome Case → Decided → Type 0
-Deciding (refused number place) r = r ≡ Decided.Refused (record { number = number; place = place })
-Deciding (answer c) r = (v : Verdict) × (r ≡ As v) × Decides c v
+-- the verdict alone: the refusal, or the verdict on the case
+unfoldable pub decidedOf : Outcome Case → Decided
+decidedOf (refused number place) = Decided.Refused (record { number = number; place = place })
+decidedOf (answer c) = As (verdictOf c)
 
 -- a test has at most so many schedules, and no number of an answer is larger
 unfoldable pub FewNumbers : Judgement → Type 0

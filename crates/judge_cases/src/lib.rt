@@ -6,12 +6,13 @@ use judge_counting::Judgement;
 use judge_search::Verdict;
 use model::Refusal;
 use rule_match::Rules;
+ghost use mathlib.Core.Path.{_≡_};
 ghost use Prim.Native.Nat.{_≤_};
 ghost use Rattle.model.specs.Limits.{mostRules};
 ghost use Rattle.rule_match.specs.Held.{rulesOf};
 ghost use Rattle.file_format.specs.Scan.{scanOf};
 ghost use Rattle.file_format.specs.Held.{Inside, ScansTo};
-ghost use Rattle.judge_cases.specs.Judge.{caseAt, caseIn, Judges, Decides, FewNumbers, OpensFile, Selects, Judging, Deciding, Few, FewDecided};
+ghost use Rattle.judge_cases.specs.Judge.{caseAt, caseIn, judgementOf, verdictOf, FewNumbers, OpensFile, Selects, judgedOf, decidedOf, Few, FewDecided};
 
 // What a file holds for the judge: how many tests, or a refusal.
 pub enum Cases {
@@ -53,7 +54,7 @@ pub enum Decided {
 // All of a test's schedules counted, under these rules.
 pub fn judge_test(file: &[u8], rules: Rules, e: Extent) -> Judgement
     requires { ⌜ (rules .count ≤ mostRules) × Inside (now file) e ⌝ }
-    ensures { λ r. ⌜ Judges (caseAt (rulesOf rules) (now (file .entry)) e) r × FewNumbers r ⌝ }
+    ensures { λ r. ⌜ (r ≡ judgementOf (caseAt (rulesOf rules) (now (file .entry)) e)) × FewNumbers r ⌝ }
 {
     let test = judge_loading::load_test(file, e);
     let checks = judge_loading::load_checks(file, e);
@@ -68,7 +69,7 @@ pub fn judge_test(file: &[u8], rules: Rules, e: Extent) -> Judgement
 // The verdict on a test, under these rules.
 fn decide_test(file: &[u8], rules: Rules, e: Extent) -> Verdict
     requires { ⌜ (rules .count ≤ mostRules) × Inside (now file) e ⌝ }
-    ensures { λ r. ⌜ Decides (caseAt (rulesOf rules) (now (file .entry)) e) r ⌝ }
+    ensures { λ r. ⌜ r ≡ verdictOf (caseAt (rulesOf rules) (now (file .entry)) e) ⌝ }
 {
     let test = judge_loading::load_test(file, e);
     let checks = judge_loading::load_checks(file, e);
@@ -77,7 +78,7 @@ fn decide_test(file: &[u8], rules: Rules, e: Extent) -> Verdict
     let labels = test.labels;
     let mut rows = [0u64; 64];
     judge_rows::fill(&mut rows, rules, &labels, test.main);
-    judge_search::first_bad(&rows, base, &stores, test.main, checks, test.checks)
+    judge_search::smallest_bad(&mut rows, base, &stores, test.main, checks, test.checks)
 }
 
 // A file that was read, by its rules: 8 if these are cyclic.
@@ -155,7 +156,7 @@ fn select(file: &[u8], test: u64) -> Selected
 
 // Judges test `test`, counted from 1.
 pub fn judge(file: &[u8], test: u64) -> Judged
-    ensures { λ r. ⌜ Judging (caseIn (now (file .entry)) test) r × Few r ⌝ }
+    ensures { λ r. ⌜ (r ≡ judgedOf (caseIn (now (file .entry)) test)) × Few r ⌝ }
 {
     let selected = select(file, test);
     let choice = selected.choice;
@@ -167,7 +168,7 @@ pub fn judge(file: &[u8], test: u64) -> Judged
 
 // The verdict on test `test`, counted from 1.
 pub fn decide(file: &[u8], test: u64) -> Decided
-    ensures { λ r. ⌜ Deciding (caseIn (now (file .entry)) test) r × FewDecided r ⌝ }
+    ensures { λ r. ⌜ (r ≡ decidedOf (caseIn (now (file .entry)) test)) × FewDecided r ⌝ }
 {
     let selected = select(file, test);
     let choice = selected.choice;

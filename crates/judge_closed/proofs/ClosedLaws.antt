@@ -23,7 +23,7 @@ use Rattle.relation.proofs.WithoutLaws.{bit-most}
 use Rattle.model.specs.Limits.{mostMain, mostSchedules}
 use Rattle.model.specs.Test.{countBelow}
 use Rattle.model.proofs.CountLaws.{count-ext, count-most, count-split, count-one, count-turned}
-use Rattle.judge_schedules.specs.Halves.{validRows}
+use Rattle.judge_schedules.specs.Valid.{validRows}
 use Rattle.judge_closed.specs.Closed.{Order, between, validBetween, Choice, alone}
 
 -- ---- Booleans

@@ -24,8 +24,8 @@ use Rattle.relation.proofs.ListLaws.{or-cases, or-left, or-right, bool-equal}
 use Rattle.relation.proofs.TableLaws.{filled-none, filled-more, filled-all}
 use Rattle.relation.proofs.TransitiveLaws.{plus-trans}
 use Rattle.model.specs.Limits.{mostMain}
-use Rattle.judge_schedules.specs.Halves.{validRows}
-use Rattle.judge_closed.specs.Closed.{Narrow, Orders, reachedRow, reachingRow, alone}
+use Rattle.judge_schedules.specs.Valid.{validRows, Narrow}
+use Rattle.judge_closed.specs.Closed.{Orders, reachedRow, reachingRow, alone}
 use Rattle.judge_closed.proofs.ClosedLaws.{valid-has, has-valid, member-below}
 
 -- ---- the rows

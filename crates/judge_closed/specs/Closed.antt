@@ -9,11 +9,7 @@ use lib.Dec.{eqb}
 use lib.ListN.{getD}
 use Rattle.relation.specs.Bits.{bit, withBit, maskOf}
 use Rattle.relation.specs.Union.{partOf}
-use Rattle.judge_schedules.specs.Halves.{validRows}
-
--- the rows of n writes name no others
-unfoldable pub Narrow : List ℕ → ℕ → Type 0
-Narrow rows n = (i : ℕ) → i < n → getD rows i 0 < 2 ^ n
+use Rattle.judge_schedules.specs.Valid.{validRows}
 
 -- two tables of sets, each write's dependencies and each one's dependents, itself among both: reflexive, transitive, and the one the converse of the other
 pub record Order (n : ℕ) (dependencies dependents : List ℕ) : Type 0 where

@@ -9,7 +9,8 @@ ghost use Rattle.relation.specs.Bits.{withBit};
 ghost use Rattle.relation.specs.Tables.{Filled};
 ghost use Rattle.model.specs.Limits.{mostMain};
 ghost use Rattle.model.specs.Test.{countBelow};
-ghost use Rattle.judge_closed.specs.Closed.{Narrow, Order, Orders, validBetween, Choice, reachedRow, reachingRow, alone};
+ghost use Rattle.judge_schedules.specs.Valid.{Narrow};
+ghost use Rattle.judge_closed.specs.Closed.{Order, Orders, validBetween, Choice, reachedRow, reachingRow, alone};
 
 // Write i and what its closed row reaches, of n writes.
 fn dependency_row(row: u64, i: usize, n: usize) -> u64

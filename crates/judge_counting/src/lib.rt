@@ -6,51 +6,73 @@ use model::DISK_BLOCKS;
 use model::MOST_CHECKS;
 use model::MOST_INITIAL;
 ghost use mathlib.Core.Path.{_≡_};
-ghost use Prim.Native.Nat.{_+_, _^_, _≤_};
+ghost use Prim.Native.Nat.{_+_, _^_, _<_, _≤_};
 ghost use lib.ListN.{take};
+ghost use Rattle.relation.specs.Best.{setWords};
 ghost use Rattle.model.specs.Limits.{mostMain, mostChecks, mostSchedules};
 ghost use Rattle.judge_disks.specs.Packed.{heldFrom};
-ghost use Rattle.judge_schedules.specs.Halves.{validRows, badRows};
-ghost use Rattle.judge_closed.specs.Closed.{Narrow, Order, validBetween, Choice};
-ghost use Rattle.judge_settled.specs.Settled.{Says, allHold, Ready, Runs};
-ghost use Rattle.judge_counting.specs.Tally.{Tallies, withGood, withBad, badBetween, Room, Gains};
+ghost use Rattle.judge_schedules.specs.Valid.{validRows, badRows, Narrow};
+ghost use Rattle.judge_closed.specs.Closed.{Order, validBetween, Choice};
+ghost use Rattle.judge_settled.specs.Settled.{Says, allHold, leastOf, Ready, Runs};
+ghost use Rattle.judge_counting.specs.Tally.{tallied, withGood, withBad, badBetween, Room, Gains};
 
-// The judge's three numbers: valid schedules, bad ones, and one of these, or 0 where there is none.
+// The judge's three numbers: valid schedules, bad ones, and the smallest of these, or 0 where there is none.
 pub struct Judgement {
     pub valid: u64,
     pub bad: u64,
     pub shown: u64,
 }
 
-// More valid schedules in the counts, all of which leave consistent disks.
-fn add_good(j: Judgement, many: u64) -> Judgement
-    requires { ⌜ j .valid + many ≤ mostSchedules ⌝ }
-    ensures { λ r. ⌜ r ≡ withGood j many ⌝ }
+// The counts so far, and the least rank of the bad ones.
+struct Tally {
+    valid: u64,
+    bad: u64,
+    best: u64,
+}
+
+// Above the rank of every schedule. What it is the rank of, by its lower half, is 0: shown where none is bad.
+const NO_RANK: u64 = 64 * relation::SET_WORDS;
+
+// The lesser of two ranks.
+fn lesser(x: u64, y: u64) -> u64
+    ensures { λ r. ⌜ r ≡ leastOf x y ⌝ }
 {
-    Judgement {
-        valid: j.valid + many,
-        bad: j.bad,
-        shown: j.shown,
+    if x <= y {
+        return x;
+    }
+    y
+}
+
+// More valid schedules in the counts, all of which leave consistent disks.
+fn add_good(t: Tally, many: u64) -> Tally
+    requires { ⌜ t .valid + many ≤ mostSchedules ⌝ }
+    ensures { λ r. ⌜ r ≡ withGood t many ⌝ }
+{
+    Tally {
+        valid: t.valid + many,
+        bad: t.bad,
+        best: t.best,
     }
 }
 
-// More valid schedules in the counts, all of which are bad, and s is one of them.
-fn add_bad(j: Judgement, many: u64, s: u64) -> Judgement
-    requires { ⌜ (j .valid + many ≤ mostSchedules) × (j .bad + many ≤ mostSchedules) ⌝ }
-    ensures { λ r. ⌜ r ≡ withBad j many s ⌝ }
+// More valid schedules in the counts, all of which are bad, and s the smallest of them.
+fn add_bad(t: Tally, many: u64, s: u64) -> Tally
+    requires { ⌜ ((t .valid + many ≤ mostSchedules) × (t .bad + many ≤ mostSchedules)) × (s < setWords) ⌝ }
+    ensures { λ r. ⌜ r ≡ withBad t many s ⌝ }
 {
-    Judgement {
-        valid: j.valid + many,
-        bad: j.bad + many,
-        shown: s,
+    Tally {
+        valid: t.valid + many,
+        bad: t.bad + many,
+        best: lesser(t.best, relation::rank(s)),
     }
 }
 
 // Adds to the counts the valid schedules that have what is chosen and, beyond it, only what is free. The first
 // k checks hold of all of them. Where a check hangs on a free write, those without it come first, with all that
-// depends on it left out too, and then those with it and with all that it depends on.
+// depends on it left out too, and then those with it and with all that it depends on. Where all are bad, what is
+// chosen is a part of every other one, and so the smallest.
 fn walk(
-    j: Judgement,
+    t: Tally,
     base: &[u32; DISK_BLOCKS],
     stores: &[u64; MOST_INITIAL],
     writers: &[u64; DISK_BLOCKS],
@@ -63,9 +85,9 @@ fn walk(
     k: usize,
     chosen: u64,
     free: u64,
-) -> Judgement
-    requires { ⌜ ((Ready (now stores) (now base) n (now writers) × Runs (now base) (now writers) 0 (now runs)) × (Order n (now dependencies) (now dependents) × Choice (now dependencies) n chosen free)) × (((k ≤ m) × (m ≤ mostChecks)) × (Says (allHold (now stores) (now base) n (take k checks)) chosen free Answer.Yes × Room (now dependencies) n chosen free j)) ⌝ }
-    ensures { λ r. ⌜ Gains (validBetween (now (dependencies .entry)) n chosen free) (badBetween (now (stores .entry)) (now (base .entry)) n (take m checks) (now (dependencies .entry)) chosen free) (2 ^ n) j r ⌝ }
+) -> Tally
+    requires { ⌜ ((Ready (now stores) (now base) n (now writers) × Runs (now base) (now writers) 0 (now runs)) × (Order n (now dependencies) (now dependents) × Choice (now dependencies) n chosen free)) × (((k ≤ m) × (m ≤ mostChecks)) × (Says (allHold (now stores) (now base) n (take k checks)) chosen free Answer.Yes × Room (now dependencies) n chosen free t)) ⌝ }
+    ensures { λ r. ⌜ Gains (validBetween (now (dependencies .entry)) n chosen free) (badBetween (now (stores .entry)) (now (base .entry)) n (take m checks) (now (dependencies .entry)) chosen free) (2 ^ n) t r ⌝ }
 {
     let asked = judge_settled::ask_checks(
         base,
@@ -83,13 +105,13 @@ fn walk(
     let answer = asked.answer;
     if judge_settled::is_yes(answer) {
         return add_good(
-            j,
+            t,
             judge_closed::count_between(dependencies, dependents, n, chosen, free),
         );
     }
     if judge_settled::is_no(answer) {
         return add_bad(
-            j,
+            t,
             judge_closed::count_between(dependencies, dependents, n, chosen, free),
             chosen,
         );
@@ -98,7 +120,7 @@ fn walk(
     let required = dependencies[h];
     let out = relation::without(free, dependents[h]);
     let first = walk(
-        j,
+        t,
         base,
         stores,
         writers,
@@ -140,7 +162,7 @@ pub fn count_all(
     m: usize,
 ) -> Judgement
     requires { ⌜ (n ≤ mostMain) × ((m ≤ mostChecks) × Narrow (now rows) n) ⌝ }
-    ensures { λ r. ⌜ Tallies (validRows (now (rows .entry)) n) (badRows (now (rows .entry)) n base (heldFrom (now (stores .entry)) 0 n) (take m checks)) (2 ^ n) r ⌝ }
+    ensures { λ r. ⌜ r ≡ tallied (validRows (now (rows .entry)) n) (badRows (now (rows .entry)) n base (heldFrom (now (stores .entry)) 0 n) (take m checks)) (2 ^ n) ⌝ }
 {
     let mut dependencies = [0u64; 64];
     let mut dependents = [0u64; 64];
@@ -149,12 +171,12 @@ pub fn count_all(
     judge_settled::fill_writers(&mut writers, stores, n);
     let mut runs = [0usize; DISK_BLOCKS];
     judge_settled::fill_runs(&mut runs, &base, &writers, n);
-    let none = Judgement {
+    let none = Tally {
         valid: 0,
         bad: 0,
-        shown: 0,
+        best: NO_RANK,
     };
-    walk(
+    let t = walk(
         none,
         &base,
         stores,
@@ -168,5 +190,10 @@ pub fn count_all(
         0,
         0,
         (1 << n) - 1,
-    )
+    );
+    Judgement {
+        valid: t.valid,
+        bad: t.bad,
+        shown: t.best % relation::SET_WORDS,
+    }
 }

@@ -16,7 +16,7 @@ use Rattle.model.specs.declared.Write.{Write}
 use Rattle.model.specs.Rules.{dependsOn}
 use Rattle.model.specs.Schedule.{labelAt, valid}
 use Rattle.judge_disks.specs.Packed.{labelled, Labels}
-use Rattle.judge_schedules.specs.Halves.{validRows}
+use Rattle.judge_schedules.specs.Valid.{validRows}
 use Rattle.judge_rows.specs.Rows.{rowOf, rowsFrom}
 
 module _ (rules : List Rule) (ws : List Write) (column rows : List ℕ) (n : ℕ) (size : length ws ≡ n) (ls : Labels ws column)

@@ -1,3 +1,1 @@
-pub mod SetLaws
-pub mod HalfLaws
-pub mod EndLaws
+pub mod ValidLaws

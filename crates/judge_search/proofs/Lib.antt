@@ -1,3 +1,1 @@
-pub mod JoinLaws
-pub mod GridLaws
 pub mod SearchLaws

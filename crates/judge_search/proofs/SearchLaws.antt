@@ -1,143 +1,127 @@
--- The search: no end before a place is bad, and no schedule with a beginning before x.
-use mathlib.Core.Path.{_≡_, refl, sym, subst, _∙_}
-use mathlib.Core.Bool.{Bool, true, false, not, and-false}
+-- The search: no schedule before a place of the list leaves an inconsistent disk. So the first that does has the least rank of the bad ones.
+use mathlib.Core.Path.{_≡_, refl, sym, ap, subst, _∙_}
+use mathlib.Core.Bool.{Bool, true, false, not, _&&_}
 use mathlib.Core.List.{List}
-use Prim.Native.Nat.{ℕ, _+_, _-_, _*_, _^_, _≤_, _<_}
+use Prim.Native.Nat.{ℕ, _+_, _-_, _%_, _^_, _≤_, _<_}
 use native.Mathlib.Numerals.{add-one}
+use native.Mathlib.Decide.{decLt}
 use native.Mathlib.Omega.{arith}
-use lib.ListN.{getD, take}
+use lib.Dec.{eqb, ltb}
+use lib.ListN.{length, getD, take}
 use lib.Pow.{pow-mono}
 use borrow.Author.Needs.{needs}
-use borrow.Author.Tests.{not-true, not-false}
-use Rattle.relation.proofs.ListLaws.{below-extend, and-intro}
+use borrow.Author.Tests.{eqb-true, lt-ltb, ltb-true}
+use Rattle.relation.specs.Best.{smallestBelow, setWords, rank}
+use Rattle.relation.proofs.BestLaws.{rank-set, least-smallest, passes-none}
+use Rattle.relation.proofs.ListLaws.{clash, untrue, below-extend, and-left, and-right, and-intro}
 use Rattle.model.specs.declared.Write.{Write}
 use Rattle.model.specs.declared.Check.{Check}
+use Rattle.model.specs.Limits.{diskBlocks, mostMain}
 use Rattle.model.specs.Schedule.{run}
 use Rattle.model.specs.Check.{consistent}
-use Rattle.model.specs.Test.{countBelow}
-use Rattle.model.proofs.CountLaws.{count-none, none-count}
-use Rattle.judge_disks.proofs.RestoreLaws.{mid-length}
 use Rattle.judge_disks.specs.Packed.{heldFrom}
-use Rattle.judge_schedules.specs.Halves.{badRows, firstHalf, mostHalf, validBy, Validates, mayBegin, mayEnd, Lists}
-use Rattle.judge_schedules.proofs.SetLaws.{sets-are, sets-most}
+use Rattle.judge_schedules.specs.Valid.{validRows, badRows}
+use Rattle.judge_suspects.specs.Suspects.{mostListed, Has, Rising, Suspects}
 use Rattle.judge_search.specs.declared.Verdict.{Verdict}
 use Rattle.judge_search.specs.declared.Verdict.the-variants.{Holds, Fails}
-use Rattle.judge_search.specs.Search.{Finds, badBy, after, listed}
-use Rattle.judge_search.proofs.JoinLaws.{joined-is, many-most, end-below, end-inside, joined-end, badAt}
-use Rattle.judge_search.proofs.GridLaws.{countRows, rows-whole, bad, unbegun-bad, listed-bad, found, bad-rows}
+use Rattle.judge_search.specs.Search.{verdictBy, verdictBelow, repeated, leaves, listed, StopsAt}
 
--- ---- one beginning
+-- ---- is_repeated
 
--- no number below k passes
-pub record Clear (p : ℕ → Bool) (k : ℕ) : Type 0 where
-  pub none : (i : ℕ) → i < k → p i ≡ false
+pub repeated-first : (list : List ℕ) (k : ℕ) → k ≡ 0 → false ≡ repeated list k
+unfolding repeated
+repeated-first list k e = rw e
 
-pub clear-none : (p : ℕ → Bool) → Clear p 0
-clear-none p = record { none = λ i h. absurd (omega arith) }
+pub repeated-next : (list : List ℕ) (k : ℕ) → (k ≡ 0 → ⊥) → eqb (getD list (k - 1) 0) (getD list k 0) ≡ repeated list k
+unfolding repeated
+repeated-next list k d = rw (lt-ltb 0 k (some k d))
+  where
+    some : (k : ℕ) → (k ≡ 0 → ⊥) → 0 < k
+    some k d = elim (decLt 0 k) [ yes l ↦ l | no l ↦ absurd (d (omega (arith, l))) ]
 
-clear-suc : (p : ℕ → Bool) (k : ℕ) → Clear p k → p k ≡ false → Clear p (k + 1)
-clear-suc p k c e = record { none = rw (add-one k) (below-extend (λ i. p i ≡ false) k (c .none) e) }
+-- ---- the loop
 
--- where a search through the numbers below n stops: at the first that passes, or at n
-pub record Stops (p : ℕ → Bool) (n r : ℕ) : Type 0 where
-  pub most : r ≤ n
-  pub before : (k : ℕ) → k < r → p k ≡ false
-  pub here : r < n → p r ≡ true
+-- no schedule before place k passes
+pub record Clear (p : ℕ → Bool) (list : List ℕ) (k : ℕ) : Type 0 where
+  pub none : (i : ℕ) → i < k → p (listed list i) ≡ false
 
-pub stops-none : (p : ℕ → Bool) (many k : ℕ) → Clear p k → k ≤ many → many ≤ k → Stops p many k
-stops-none p many k c h l = record { most = h; before = c .none; here = λ b. absurd (omega arith) }
+pub clear-none : (p : ℕ → Bool) (list : List ℕ) → Clear p list 0
+clear-none p list = record { none = λ i h. absurd (omega (arith, h)) }
 
-module _ (v : ℕ → Bool) (x rows : ℕ) (mid : List ℕ) (ws : List Write) (cs : List Check) (ends : List ℕ) (k : ℕ) where
-  -- the end at place k with this beginning is not bad: not valid, or its disk is consistent
-  module _ (s : ℕ) (b : Bool) (q : s ≡ x + rows * getD ends k 0) (e : b ≡ v s) where
-    pub clear-skip : Clear (badAt v x rows mid ws cs ends) k → not b ≡ true → Clear (badAt v x rows mid ws cs ends) (k + 1)
-    unfolding listed badBy after
-    clear-skip c h = clear-suc _ k c (rw (← q, sym e ∙ not-true b h))
+module _ (p : ℕ → Bool) (list : List ℕ) (k : ℕ) (c : Clear p list k) where
+  clear-suc : p (listed list k) ≡ false → Clear p list (k + 1)
+  clear-suc e = record { none = rw (add-one k) (below-extend (λ i. p (listed list i) ≡ false) k (c .none) e) }
 
-    pub stops-here : (many : ℕ) (d : List ℕ) → Clear (badAt v x rows mid ws cs ends) k → k < many → not b ≡ false → d ≡ run ws (getD ends k 0) mid → false ≡ consistent cs d
-        → Stops (badAt v x rows mid ws cs ends) many k
-    unfolding listed badBy after
-    stops-here many d c l h p f =
-        record { most = omega arith; before = c .none; here = λ i. and-intro (v (x + rows * getD ends k 0)) _ (rw (← q) (sym e ∙ not-false b h)) (rw (← p, ← f)) }
+  -- the one before it did not pass
+  pub clear-again : (b : Bool) → b ≡ repeated list k → b ≡ true → Clear p list (k + 1)
+  unfolding repeated
+  clear-again b e t =
+      let r = sym e ∙ t in
+      let same = eqb-true (getD list (k - 1) 0) (getD list k 0) (and-right (ltb 0 k) _ r) in
+      clear-suc (rw (← same) (c .none (k - 1) (before (and-left (ltb 0 k) _ r))))
+    where
+      before : ltb 0 k ≡ true → k - 1 < k
+      before q = let l = ltb-true 0 k q in omega (arith, l)
 
-pub clear-pass : (v : ℕ → Bool) (x rows : ℕ) (mid : List ℕ) (ws : List Write) (cs : List Check) (ends : List ℕ) (k m i : ℕ) (d : List ℕ)
-    → Clear (badAt v x rows mid ws (take m cs) ends) k → d ≡ run ws (getD ends k 0) mid → i ≤ m → m ≤ i → consistent (take i cs) d ≡ true
-    → Clear (badAt v x rows mid ws (take m cs) ends) (k + 1)
-unfolding listed badBy after
-clear-pass v x rows mid ws cs ends k m i d c e h l t =
-    let z : i ≡ m = omega arith in
-    clear-suc _ k c (rw (← e, rw z at t) (and-false (v (x + rows * getD ends k 0))))
+module _ (base : List ℕ) (ws : List Write) (cs : List Check) (list : List ℕ) (k m i s : ℕ) (d : List ℕ) (q : s ≡ listed list k) (e : d ≡ run ws s base) where
+  pub clear-pass : Clear (leaves base ws (take m cs)) list k → i ≤ m → m ≤ i → consistent (take i cs) d ≡ true → Clear (leaves base ws (take m cs)) list (k + 1)
+  unfolding leaves
+  clear-pass c h l t = let z : i ≡ m = omega (arith, h, l) in clear-suc _ list k c (rw (← q, ← e, rw z at t))
 
-pub ruleset clearing = (needs, joined-is, many-most, end-below, end-inside, joined-end, clear-none, clear-skip, clear-pass, stops-none, stops-here)
+  pub stops-here : (many : ℕ) → Clear (leaves base ws (take m cs)) list k → k < many → false ≡ consistent (take m cs) d → StopsAt (leaves base ws (take m cs)) list many (Fails s)
+  unfolding StopsAt leaves
+  stops-here many c h f = (k, h, q, rw (← e, ← f), λ j l. c .none j l)
 
--- ---- all beginnings
+pub stops-never : (p : ℕ → Bool) (list : List ℕ) (k many : ℕ) (v : Verdict) → Clear p list k → k ≤ many → many ≤ k → v ≡ Holds → StopsAt p list many v
+unfolding StopsAt
+stops-never p list k many v c h l e = rw e (λ i b. c .none i (omega (arith, l, b)))
 
-module _ (low high base t : List ℕ) (cs : List Check) (near far : ℕ) where
-  -- no schedule with a beginning before x is bad
-  pub record Cleared (x : ℕ) : Type 0 where
-    pub count : countRows (bad low high base t cs near far) (2 ^ near) (2 ^ far) x ≡ 0
+pub ruleset searching = (needs, repeated-first, repeated-next, clear-none, clear-again, stops-never)
 
-  pub cleared-none : Cleared 0
-  unfolding countRows
-  cleared-none = record { count = refl }
+-- ---- from the list to all schedules
 
-  module _ (x rows : ℕ) (e : rows ≡ 2 ^ near) (h : x < rows) where
-    inside : x < 2 ^ near
-    inside = omega arith
+module _ (rows column base : List ℕ) (n : ℕ) (cs : List Check) (list : List ℕ) (many : ℕ) (few : n ≤ mostMain) (size : length base ≡ diskBlocks) (g : Suspects rows column n cs list many) where
+  abbrev bad : ℕ → Bool
+  bad = badRows rows n base (heldFrom column 0 n) cs
 
-    cleared-suc : Cleared x → countBelow (after (bad low high base t cs near far) x (2 ^ near)) (2 ^ far) ≡ 0 → Cleared (x + 1)
-    unfolding countRows
-    cleared-suc c n = record { count = rw (add-one x, c .count, n) (omega arith) }
+  abbrev spoilt : ℕ → Bool
+  spoilt = leaves base (heldFrom column 0 n) cs
 
-    pub cleared-skip : (b : Bool) → Cleared x → b ≡ mayBegin low near x → not b ≡ true → Cleared (x + 1)
-    cleared-skip b c e q = cleared-suc c (unbegun-bad low high base t cs near far x inside (sym e ∙ not-true b q))
+  words : 2 ^ n ≤ setWords
+  words = let p = pow-mono {i = n} {j = 20} few in omega (arith, p)
 
-    module _ (k many : ℕ) (mid ends : List ℕ) (q : mid ≡ run (heldFrom t 0 near) x base) (f : far ≤ mostHalf) (l : Lists (mayEnd high near) (2 ^ far) ends many)
-        (s : Stops (badAt (validBy low high near) x (2 ^ near) mid (heldFrom t near far) cs ends) many k) where
-      pub cleared-more : Cleared x → many ≤ k → Cleared (x + 1)
-      cleared-more c m =
-          cleared-suc c (sym (listed-bad low high base t cs near far x inside mid ends many q f l) ∙ none-count _ many (λ i b. s .before i (omega arith)))
+  bad-spoilt : (s : ℕ) → bad s ≡ true → spoilt s ≡ true
+  unfolding badRows leaves
+  bad-spoilt s e = and-right (validRows rows n s) _ e
 
-      pub finds-bad : (r : ℕ) → k < many → r ≡ x + 2 ^ near * getD ends k 0 → Finds (bad low high base t cs near far) (2 ^ (near + far)) (Fails r)
-      unfolding Finds
-      finds-bad r m z = found low high base t cs near far x inside mid ends many q f l k r m (s .here m) z
+  -- the schedule of a rank that is listed
+  of-rank : (t i : ℕ) → t < 2 ^ n → getD list i 0 ≡ rank t → listed list i ≡ t
+  of-rank t i h e = let w = words in ap (λ (x : ℕ). x % setWords) e ∙ rank-set t (omega (arith, h, w))
 
-  pub finds-none : (x rows : ℕ) (r : Verdict) → Cleared x → rows ≡ 2 ^ near → x ≡ rows → r ≡ Holds → Finds (bad low high base t cs near far) (2 ^ (near + far)) r
-  unfolding Finds
-  finds-none x rows r c e h q = rw q (count-none _ (2 ^ (near + far)) (sym (rows-whole (bad low high base t cs near far) near far rows x e h) ∙ c .count))
+  found : (v : Verdict) → StopsAt spoilt list many v → v ≡ verdictBy (smallestBelow bad (2 ^ n))
+  unfolding StopsAt verdictBy badRows leaves Rising
+  found Holds stops =
+      rw (passes-none bad (2 ^ n) (λ s h. untrue (bad s) (λ e.
+      let (t, l, (i, b, q), f, r) = g .every base size s h e in
+      clash (spoilt t) (bad-spoilt t f) (rw (of-rank t i l q) at (stops i b)))))
+  found (Fails s) (i, b, z, p, before) =
+      let r = g .ranks .each (getD list i 0) (i, b, refl) in
+      let same : s ≡ r .set = z ∙ of-rank (r .set) i (r .most) (r .is) in
+      let first : getD list i 0 ≡ rank s = r .is ∙ ap rank (sym same) in
+      rw (least-smallest bad (2 ^ n) s words (rw same (r .most)) (and-intro (validRows rows n s) _ (rw same (r .valid)) p) (λ k h e. least k first (g .every base size k h e)))
+    where
+      least : (k : ℕ) → getD list i 0 ≡ rank s → (t : ℕ) × (t < 2 ^ n) × Has many list (rank t) × (bad t ≡ true) × (rank t ≤ rank k) → rank s ≤ rank k
+      least k first (t, l, (j, c, q), f, w) = elim (decLt j i) [
+        | yes a ↦ clash (spoilt t) (bad-spoilt t f) (rw (of-rank t j l q) at (before j a))
+        | no a ↦ let o = g .ranks .rising i j (omega (arith, a)) c in omega (arith, o, first, q, w)
+      ]
 
--- ---- tables that are long enough
+pub verdict-is : (rows column base : List ℕ) (n : ℕ) (cs : List Check) (list : List ℕ) (many : ℕ) (v : Verdict) → n ≤ mostMain → length base ≡ diskBlocks → Suspects rows column n cs list many
+    → StopsAt (leaves base (heldFrom column 0 n) cs) list many v → v ≡ verdictBelow (badRows rows n base (heldFrom column 0 n) cs) (2 ^ n)
+unfolding verdictBelow
+verdict-is rows column base n cs list many v few size g stops = found rows column base n cs list many few size g v stops
 
--- the sets of both halves of a test of at most so many writes
-pub long-enough : (n most size : ℕ) → n ≤ most → 2 ^ firstHalf most ≤ size → (2 ^ firstHalf n ≤ size) × (2 ^ (n - firstHalf n) ≤ size)
-long-enough n most size h l =
-    let a = pow-mono {i = firstHalf n} {j = firstHalf most} (omega arith) in
-    let b = pow-mono {i = n - firstHalf n} {j = firstHalf most} (omega arith) in
-    (omega (arith, a, l), omega (arith, b, l))
+pub suspects-most : (rows column : List ℕ) (n : ℕ) (cs : List Check) (list : List ℕ) (many : ℕ) → Suspects rows column n cs list many → many ≤ mostListed
+suspects-most rows column n cs list many g = g .most
 
-pub far-room : (n near far size : ℕ) → near ≡ firstHalf n → far ≡ n - near → 2 ^ (n - firstHalf n) ≤ size → 2 ^ far ≤ size
-far-room n near far size e f h = rw (f, e) h
-
--- also once it was written to
-pub far-kept : (n near far size now : ℕ) → near ≡ firstHalf n → far ≡ n - near → now ≡ size → 2 ^ (n - firstHalf n) ≤ size → 2 ^ far ≤ now
-far-kept n near far size now e f k h = rw (f, e, k) h
-
-pub near-kept : (n near size now : ℕ) → near ≡ firstHalf n → now ≡ size → 2 ^ firstHalf n ≤ size → 2 ^ near ≤ now
-near-kept n near size now e k h = rw (e, k) h
-
-pub ruleset searching = (needs, sets-are, sets-most, many-most, end-below, mid-length, joined-is, far-room, cleared-none, cleared-skip, cleared-more, finds-bad, finds-none)
-
--- ---- from the tables to the rows
-
-pub finds-same : (b c : ℕ → Bool) (n : ℕ) (r : Verdict) → ((s : ℕ) → s < n → b s ≡ c s) → Finds b n r → Finds c n r
-unfolding Finds
-finds-same b c n Holds g f = λ s h. sym (g s h) ∙ f s h
-finds-same b c n (Fails s) g f = (f .0, sym (g s (f .0)) ∙ f .1)
-
-pub finds-rows : (rows low high base t : List ℕ) (cs : List Check) (n near far : ℕ) (r : Verdict) → Validates rows n low high → near ≡ firstHalf n → far ≡ n - near
-    → Finds (badBy (validBy low high near) base (heldFrom t 0 (near + far)) cs) (2 ^ (near + far)) r
-    → Finds (badRows rows n base (heldFrom t 0 n) cs) (2 ^ n) r
-finds-rows rows low high base t cs n near far r v e f g =
-    let z : near + far ≡ n = omega arith in
-    finds-same _ _ (2 ^ n) r (bad-rows rows low high base (heldFrom t 0 n) cs n v)
-    (rw (← e) (subst (λ (k : ℕ). Finds (badBy (validBy low high near) base (heldFrom t 0 k) cs) (2 ^ k) r) z g))
+pub ruleset deciding = (needs, suspects-most, verdict-is)

@@ -1,39 +1,43 @@
--- The search for a bad schedule, by beginnings and ends.
-use Prim.Native.Nat.{ℕ, _+_, _*_, _^_, _<_}
+-- The search for the smallest bad schedule.
+use Prim.Native.Nat.{ℕ, _-_, _%_, _<_}
 use mathlib.Core.Path.{_≡_}
 use mathlib.Core.Bool.{Bool, true, false, not, _&&_}
 use mathlib.Core.List.{List}
+use mathlib.Core.Option.{Option, none, some}
+use lib.Dec.{eqb, ltb}
 use lib.ListN.{getD}
+use Rattle.relation.specs.Best.{smallestBelow, setWords}
 use Rattle.model.specs.declared.Write.{Write}
 use Rattle.model.specs.declared.Check.{Check}
 use Rattle.model.specs.Schedule.{run}
 use Rattle.model.specs.Check.{consistent}
-use Rattle.judge_schedules.specs.Halves.{validBy}
 use Rattle.judge_search.specs.declared.Verdict.{Verdict}
 use Rattle.judge_search.specs.declared.Verdict.the-variants.{Holds, Fails}
 
--- a verdict on the numbers below n: none is bad, or a bad one
-unfoldable pub Finds : (ℕ → Bool) → ℕ → Verdict → Type 0
-Finds p n Holds = (s : ℕ) → s < n → p s ≡ false
-Finds p n (Fails s) = (s < n) × (p s ≡ true)
+-- the verdict by the smallest bad schedule, if there is one
+unfoldable pub verdictBy : Option ℕ → Verdict
+verdictBy none = Holds
+verdictBy (some s) = Fails s
 
--- a schedule is bad, by a test of which are valid
-unfoldable pub badBy : (ℕ → Bool) → List ℕ → List Write → List Check → ℕ → Bool
-badBy v base ws checks s = v s && not (consistent checks (run ws s base))
+-- the verdict on the numbers below n
+unfoldable pub verdictBelow : (ℕ → Bool) → ℕ → Verdict
+verdictBelow p n = verdictBy (smallestBelow p n)
 
--- ---- one beginning
+-- ---- the code's steps
 
--- a test of the schedule that begins with x, of the writes that have `rows` schedules, and ends with y
-unfoldable pub after : (ℕ → Bool) → ℕ → ℕ → ℕ → Bool
-after p x rows y = p (x + rows * y)
+-- entry k of a list is the one before it once more
+unfoldable pub repeated : List ℕ → ℕ → Bool
+repeated list k = ltb 0 k && eqb (getD list (k - 1) 0) (getD list k 0)
 
--- an end of a beginning x makes a valid schedule, by tables of unions, and a bad one: mid is the disk that x leaves, ws are the writes behind
-abbrev pub validEnd : List ℕ → List ℕ → ℕ → ℕ → ℕ → Bool
-validEnd low high near x = after (validBy low high near) x (2 ^ near)
+-- a schedule leaves an inconsistent disk
+unfoldable pub leaves : List ℕ → List Write → List Check → ℕ → Bool
+leaves base ws checks s = not (consistent checks (run ws s base))
 
-abbrev pub badEnd : List ℕ → List ℕ → ℕ → ℕ → List ℕ → List Write → List Check → ℕ → Bool
-badEnd low high near x mid ws checks = badBy (validEnd low high near x) mid ws checks
+-- the schedule whose rank is entry k of a list
+abbrev pub listed : List ℕ → ℕ → ℕ
+listed list k = getD list k 0 % setWords
 
--- a test of the end at place k of a list
-unfoldable pub listed : List ℕ → (ℕ → Bool) → ℕ → Bool
-listed ends p k = p (getD ends k 0)
+-- a search through the first `many` stops at the first schedule that passes, or does not stop
+unfoldable pub StopsAt : (ℕ → Bool) → List ℕ → ℕ → Verdict → Type 0
+StopsAt p list many Holds = (i : ℕ) → i < many → p (listed list i) ≡ false
+StopsAt p list many (Fails s) = (i : ℕ) × (i < many) × (s ≡ listed list i) × (p s ≡ true) × ((j : ℕ) → j < i → p (listed list j) ≡ false)

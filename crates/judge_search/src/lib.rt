@@ -1,17 +1,18 @@
-// The search for a bad schedule. It goes by halves: for each set of flags that a valid schedule can begin
-// with the disk of the first half is made once, and the ends that one can have are listed once.
-use judge_schedules::HALF_SETS;
-use judge_schedules::SHORT_SETS;
+// The search for the smallest bad schedule: through those among which it is, in order of their flags and
+// then of their numbers, so that the first bad one is it.
+use judge_suspects::MOST_LISTED;
 use model::Check;
 use model::DISK_BLOCKS;
 use model::MOST_CHECKS;
+use model::MOST_INITIAL;
 ghost use mathlib.Core.Path.{_≡_};
-ghost use Prim.Native.Nat.{_+_, _-_, _*_, _^_, _<_, _≤_};
+ghost use Prim.Native.Nat.{_^_, _<_, _≤_};
 ghost use lib.ListN.{length, take};
 ghost use Rattle.model.specs.Limits.{diskBlocks, mostMain, mostChecks};
 ghost use Rattle.judge_disks.specs.Packed.{heldFrom};
-ghost use Rattle.judge_schedules.specs.Halves.{badRows, firstHalf, mostHalf, halfSets, validBy, mayEnd, Lists};
-ghost use Rattle.judge_search.specs.Search.{Finds, badBy};
+ghost use Rattle.judge_schedules.specs.Valid.{badRows, Narrow};
+ghost use Rattle.judge_suspects.specs.Suspects.{mostListed};
+ghost use Rattle.judge_search.specs.Search.{repeated, leaves, StopsAt, verdictBelow};
 
 // The verdict alone.
 pub enum Verdict {
@@ -19,133 +20,70 @@ pub enum Verdict {
     Fails(u64),
 }
 
-// The schedule that begins with x, of the writes before place `near`, and ends with y.
-fn joined(x: u64, near: usize, y: u64) -> u64
-    requires { ⌜ (x < 2 ^ near) × ((near ≤ mostHalf) × (y < halfSets)) ⌝ }
-    ensures { λ r. ⌜ r ≡ x + 2 ^ near * y ⌝ }
+// Whether an entry of a list is the one before it once more.
+fn is_repeated(list: &[u64; MOST_LISTED], k: usize) -> bool
+    requires { ⌜ k < mostListed ⌝ }
+    ensures { λ r. ⌜ r ≡ repeated (now (list .entry)) k ⌝ }
 {
-    x | (y << near)
+    if k == 0 {
+        return false;
+    }
+    list[k - 1] == list[k]
 }
 
-// The search through all schedules of near + far writes, by beginnings and ends, and through the checks:
-// all its loops are left at the first bad schedule.
+// The search through the schedules of n writes whose ranks are the first `many` of a list, and through the
+// checks: all its loops are left at the first schedule that leaves an inconsistent disk.
 fn search_by(
-    low: &[u64],
-    high: &[u64],
-    ends: &[u64],
+    list: &[u64; MOST_LISTED],
     many: usize,
     base: &[u32; DISK_BLOCKS],
-    stores: &[u64; model::MOST_INITIAL],
-    near: usize,
-    far: usize,
+    stores: &[u64; MOST_INITIAL],
+    n: usize,
     checks: [Check; MOST_CHECKS],
     m: usize,
 ) -> Verdict
-    requires { ⌜ (((near ≤ mostHalf) × ((far ≤ mostHalf) × (near + far ≤ mostMain))) × ((2 ^ near ≤ length (now low)) × (2 ^ far ≤ length (now high)))) × ((m ≤ mostChecks) × ((length (now base) ≡ diskBlocks) × Lists (mayEnd (now high) near) (2 ^ far) (now ends) many)) ⌝ }
-    ensures { λ r. ⌜ Finds (badBy (validBy (now (low .entry)) (now (high .entry)) near) (now (base .entry)) (heldFrom (now (stores .entry)) 0 (near + far)) (take m checks)) (2 ^ (near + far)) r ⌝ }
+    requires { ⌜ ((many ≤ mostListed) × (n ≤ mostMain)) × ((m ≤ mostChecks) × (length (now base) ≡ diskBlocks)) ⌝ }
+    ensures { λ r. ⌜ StopsAt (leaves (now (base .entry)) (heldFrom (now (stores .entry)) 0 n) (take m checks)) (now (list .entry)) many r ⌝ }
 {
-    let rows = 1u64 << near;
-    let mut mid = *base;
+    let mut disk = *base;
     let mut verdict = Verdict::Holds;
-    let mut x: u64 = 0;
-    // Not x < rows: see judge_schedules::list_ends.
-    'search: while x != rows {
-        if !judge_schedules::may_begin(low, near, x) {
-            x += 1;
+    let mut k: usize = 0;
+    'search: while k < many {
+        if is_repeated(list, k) {
+            k += 1;
             continue 'search;
         }
-        judge_disks::apply(&mut mid, stores, 0, near, x);
-        let mut disk = mid;
-        let mut k: usize = 0;
-        'ends: while k < many {
-            let y = ends[k];
-            let s = joined(x, near, y);
-            if !judge_schedules::is_valid(low, high, near, s) {
-                k += 1;
-                continue 'ends;
+        let s = list[k] % relation::SET_WORDS;
+        judge_disks::apply(&mut disk, stores, 0, n, s);
+        let mut i: usize = 0;
+        while i < m {
+            let c = checks[i];
+            if !judge_checks::check_holds(&disk, c) {
+                verdict = Verdict::Fails(s);
+                break 'search;
             }
-            judge_disks::apply(&mut disk, stores, near, far, y);
-            let mut i: usize = 0;
-            while i < m {
-                let c = checks[i];
-                if !judge_checks::check_holds(&disk, c) {
-                    verdict = Verdict::Fails(s);
-                    break 'search;
-                }
-                i += 1;
-            }
-            judge_disks::restore(&mut disk, &mid, stores, near, far);
-            k += 1;
+            i += 1;
         }
-        judge_disks::restore(&mut mid, base, stores, 0, near);
-        x += 1;
+        judge_disks::restore(&mut disk, base, stores, 0, n);
+        k += 1;
     }
     verdict
 }
 
-// A bad schedule of the first n writes of a table of stores, by a table of rows, if there is one. Lent are
-// tables for the sets of each half, and for the ends.
-fn find_by(
-    low: &mut [u64],
-    high: &mut [u64],
-    ends: &mut [u64],
-    rows: &[u64; 64],
-    base: &[u32; DISK_BLOCKS],
-    stores: &[u64; model::MOST_INITIAL],
-    n: usize,
-    checks: [Check; MOST_CHECKS],
-    m: usize,
-) -> Verdict
-    requires { ⌜ (((2 ^ firstHalf n ≤ length (now low)) × (2 ^ (n - firstHalf n) ≤ length (now high))) × (2 ^ (n - firstHalf n) ≤ length (now ends))) × ((n ≤ mostMain) × ((m ≤ mostChecks) × (length (now base) ≡ diskBlocks))) ⌝ }
-    ensures { λ r. ⌜ Finds (badRows (now (rows .entry)) n (now (base .entry)) (heldFrom (now (stores .entry)) 0 n) (take m checks)) (2 ^ n) r ⌝ }
-{
-    let near = judge_schedules::first_half(n);
-    let far = n - near;
-    judge_schedules::prepare(low, high, rows, n);
-    let many = judge_schedules::list_ends(ends, high, near, far);
-    search_by(low, high, ends, many, base, stores, near, far, checks, m)
-}
-
-// The same, with tables of its own: those of a short test are made in a fraction of the time.
-pub fn first_bad(
-    rows: &[u64; 64],
+// The smallest bad schedule of the first n writes of a table of stores, by a table of rows, if there is one.
+// The table of rows is turned into one of what each write brings.
+pub fn smallest_bad(
+    rows: &mut [u64],
     base: [u32; DISK_BLOCKS],
-    stores: &[u64; model::MOST_INITIAL],
+    stores: &[u64; MOST_INITIAL],
     n: usize,
     checks: [Check; MOST_CHECKS],
     m: usize,
 ) -> Verdict
-    requires { ⌜ (n ≤ mostMain) × (m ≤ mostChecks) ⌝ }
-    ensures { λ r. ⌜ Finds (badRows (now (rows .entry)) n base (heldFrom (now (stores .entry)) 0 n) (take m checks)) (2 ^ n) r ⌝ }
+    requires { ⌜ ((length (now rows) ≡ 64) × (n ≤ mostMain)) × ((m ≤ mostChecks) × Narrow (now rows) n) ⌝ }
+    ensures { λ r. ⌜ r ≡ verdictBelow (badRows (now (rows .entry)) n base (heldFrom (now (stores .entry)) 0 n) (take m checks)) (2 ^ n) ⌝ }
 {
-    if n <= judge_schedules::SHORT_MAIN {
-        let mut low = [0u64; SHORT_SETS];
-        let mut high = [0u64; SHORT_SETS];
-        let mut ends = [0u64; SHORT_SETS];
-        return find_by(
-            &mut low,
-            &mut high,
-            &mut ends,
-            rows,
-            &base,
-            stores,
-            n,
-            checks,
-            m,
-        );
-    }
-    let mut low = [0u64; HALF_SETS];
-    let mut high = [0u64; HALF_SETS];
-    let mut ends = [0u64; HALF_SETS];
-    find_by(
-        &mut low,
-        &mut high,
-        &mut ends,
-        rows,
-        &base,
-        stores,
-        n,
-        checks,
-        m,
-    )
+    let mut list = [0u64; MOST_LISTED];
+    let many = judge_suspects::suspects(&mut list, rows, stores, n, checks, m);
+    search_by(&list, many, &base, stores, n, checks, m)
 }

@@ -23,7 +23,7 @@ use Rattle.judge_counting.specs.declared.Judgement.{Judgement}
 use Rattle.judge_cases.specs.declared.Cases.{Cases}
 use Rattle.judge_cases.specs.declared.Cases.the-variants.{Tests}
 use Rattle.judge_cases.specs.declared.Cases.the-variants as Cases
-use Rattle.judge_cases.specs.Judge.{caseAt, Judges, SmallRefusal, judgedFile, OpensTo, FewNumbers}
+use Rattle.judge_cases.specs.Judge.{caseAt, judgementOf, SmallRefusal, judgedFile, OpensTo, FewNumbers}
 use Rattle.file_writing.specs.Writing.{Wrote}
 use Rattle.judge_text.specs.Decimal.{Digits}
 use Rattle.judge_text.specs.Lines.{refusedLine, testLine, lines, textOf, programText, caseLines, testDigits, countDigits, refusalDigits, placeDigits}
@@ -31,9 +31,10 @@ use Rattle.file_writing.proofs.WroteLaws.{wrote-then, wrote-none}
 
 -- ---- one test
 
-pub case-line : (rules : List Rule) (s : List ℕ) (e : Extent) (j : Judgement) (k at : ℕ) (l l₁ : List ℕ) (r : ℕ) → Judges (caseAt rules s e) j
+pub case-line : (rules : List Rule) (s : List ℕ) (e : Extent) (j : Judgement) (k at : ℕ) (l l₁ : List ℕ) (r : ℕ) → j ≡ judgementOf (caseAt rules s e)
     → Wrote l at (testLine k (j .valid) (j .bad)) l₁ r → Wrote l at (testLine k (validCount rules (testAt s e)) (badCount rules (testAt s e))) l₁ r
-case-line rules s e j k at l l₁ r h w = rw (← h .valid, ← h .bad) w
+unfolding judgementOf
+case-line rules s e j k at l l₁ r h w = rw h at w
 
 pub few-valid : (j : Judgement) → FewNumbers j → Digits countDigits (j .valid)
 unfolding FewNumbers Digits

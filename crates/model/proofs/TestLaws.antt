@@ -1,16 +1,19 @@
--- The computed forms of a bad schedule and of a test that holds agree with their meaning, and so does the count of bad schedules.
+-- The computed forms of a bad schedule, of the smallest one and of a test that holds agree with their meaning, and so does the count of bad schedules.
 use mathlib.Core.Path.{_≡_, refl, sym, _∙_}
 use mathlib.Core.Logic.{_⊎_, inl, inr}
 use mathlib.Core.Bool.{Bool, true, false, not, false≢true}
 use mathlib.Core.List.{List}
+use mathlib.Core.Option.{Option, none, some}
 use Prim.Native.Nat.{ℕ, _<_}
 use borrow.Author.Tests.{not-true}
 use Rattle.relation.proofs.ListLaws.{not-so, and-left, and-right, and-intro, allBelow-true, allBelow-intro, anyBelow-true, anyBelow-false}
+use Rattle.relation.proofs.BestLaws.{Passes, none-passes, passes-none, smallest-is, is-smallest, smallest-one}
+use Rattle.relation.specs.Best.{Smallest, smallestBelow}
 use Rattle.relation.specs.Lists.{anyBelow}
 use Rattle.model.specs.declared.Rule.{Rule}
 use Rattle.model.specs.Schedule.{valid}
 use Rattle.model.specs.Check.{Consistent, consistent}
-use Rattle.model.specs.Test.{Test, schedules, diskAfter, TestHolds, testHolds, Bad, bad, badCount}
+use Rattle.model.specs.Test.{Test, schedules, diskAfter, TestHolds, testHolds, Bad, bad, badCount, SmallestBad, smallestBad}
 use Rattle.model.proofs.ScheduleLaws.{valid-true, true-valid}
 use Rattle.model.proofs.CheckLaws.{consistent-true, true-consistent}
 use Rattle.model.proofs.CountLaws.{count-none, none-count}
@@ -71,3 +74,46 @@ unfolding badCount
 holds-count rules t h =
     none-count (bad rules t) (schedules t)
     (λ s l. not-true _ (allBelow-true (λ x. not (bad rules t x)) (schedules t) (unfold testHolds in true-testHolds rules t h) s l))
+
+-- ---- the smallest bad schedule
+
+module _ (rules : List Rule) (t : Test) where
+  -- bad by its meaning, and by the computed form below the count of schedules
+  bad-passes : (s : ℕ) → Bad rules t s → Passes (bad rules t) (schedules t) s
+  bad-passes s b = (unfold Bad in b .0, true-bad rules t s b)
+
+  passes-bad : (s : ℕ) → Passes (bad rules t) (schedules t) s → Bad rules t s
+  passes-bad s q = bad-true rules t s (q .0) (q .1)
+
+  pub smallest-only : (s k : ℕ) → SmallestBad rules t s → SmallestBad rules t k → s ≡ k
+  smallest-only s k a b = smallest-one (Bad rules t) s k a b
+
+  pub smallest-computed : (s : ℕ) → SmallestBad rules t s → smallestBad rules t ≡ some s
+  unfolding smallestBad
+  smallest-computed s h =
+      is-smallest (bad rules t) (schedules t) s (unfold Smallest in (bad-passes s (h .0), λ k q d. h .1 k (passes-bad k q) d))
+
+  pub computed-smallest : (s : ℕ) → smallestBad rules t ≡ some s → SmallestBad rules t s
+  unfolding smallestBad
+  computed-smallest s e =
+      let h = smallest-is (bad rules t) (schedules t) s e in
+      unfold Smallest in (passes-bad s (h .0), λ k b d. h .1 k (bad-passes k b) d)
+
+  pub holds-none : TestHolds rules t → smallestBad rules t ≡ none
+  unfolding smallestBad
+  holds-none h =
+      passes-none (bad rules t) (schedules t)
+      (λ s l. not-true _ (allBelow-true (λ x. not (bad rules t x)) (schedules t) (unfold testHolds in true-testHolds rules t h) s l))
+
+  pub none-holds : smallestBad rules t ≡ none → TestHolds rules t
+  unfolding smallestBad
+  none-holds e =
+      testHolds-true rules t
+      (unfold testHolds in allBelow-intro (λ x. not (bad rules t x)) (schedules t) (λ s l. rw (none-passes (bad rules t) (schedules t) e s l)))
+
+  pub some-smallest : (TestHolds rules t → ⊥) → (s : ℕ) × SmallestBad rules t s
+  some-smallest f = go (smallestBad rules t) refl
+    where
+      go : (o : Option ℕ) → smallestBad rules t ≡ o → (s : ℕ) × SmallestBad rules t s
+      go none e = absurd (f (none-holds e))
+      go (some s) e = (s, computed-smallest s e)

@@ -1,9 +1,9 @@
 -- The agreement theorems, each put together from its two directions.
-use Rattle.model.specs.Theorem.{Depends, KnownRules, ValidSchedule, DamagedRange, CheckHolds, ConsistentDisk, BadSchedule, HoldingTest, Decided}
+use Rattle.model.specs.Theorem.{Depends, KnownRules, ValidSchedule, DamagedRange, CheckHolds, ConsistentDisk, BadSchedule, HoldingTest, Decided, SmallestSchedule}
 use Rattle.model.proofs.RuleLaws.{dependsOn-true, true-dependsOn, known-true, true-known}
 use Rattle.model.proofs.ScheduleLaws.{valid-true, true-valid}
 use Rattle.model.proofs.CheckLaws.{damaged-true, true-damaged, damaged-fails-all, holds-true, true-holds, consistent-true, true-consistent}
-use Rattle.model.proofs.TestLaws.{bad-true, true-bad, testHolds-true, true-testHolds, count-holds, holds-count, holds-or-bad, bad-fails}
+use Rattle.model.proofs.TestLaws.{bad-true, true-bad, testHolds-true, true-testHolds, count-holds, holds-count, holds-or-bad, bad-fails, some-smallest, smallest-only, smallest-computed, computed-smallest, holds-none, none-holds}
 
 pub depends : Depends
 depends rules l m = (true-dependsOn rules l m, dependsOn-true rules l m)
@@ -31,3 +31,11 @@ holding-test rules t = ((true-testHolds rules t, testHolds-true rules t), (holds
 
 pub decided : Decided
 decided rules t = (holds-or-bad rules t, bad-fails rules t)
+
+pub smallest-schedule : SmallestSchedule
+smallest-schedule rules t = record {
+  one = some-smallest rules t;
+  only = smallest-only rules t;
+  computed = λ s. (smallest-computed rules t s, computed-smallest rules t s);
+  holds = (holds-none rules t, none-holds rules t);
+}

@@ -4,10 +4,11 @@ use mathlib.Core.Path.{_≡_}
 use mathlib.Core.Logic.{_↔_}
 use mathlib.Core.Bool.{Bool, true, cond, not, _&&_, _||_}
 use mathlib.Core.List.{List, [], _∷_, List·Memᴰ}
-use mathlib.Core.Option.{Option, none, some}
+use mathlib.Core.Option.{Option}
 use lib.Count.{ones}
 use lib.Dec.{eqb, leb, ltb}
 use lib.ListN.{length}
+use Rattle.relation.specs.Best.{bestBelow}
 use Rattle.relation.specs.Lists.{all}
 use Rattle.model.specs.declared.Rule.{Rule}
 use Rattle.model.specs.declared.Write.{Write}
@@ -91,16 +92,12 @@ candidatesOf (t ∷ ts) = fromTrace (t .main) (length (t .main)) (candidatesOf t
 unfoldable pub suffices : List Test → List Rule → Bool
 suffices tests rules = not (cyclic rules) && all (testHolds rules) tests
 
-unfoldable pub preferred : ℕ → Option ℕ → Option ℕ
-preferred m none = some m
-preferred m (some k) = cond (leb (ones m) (ones k)) (some m) (some k)
+-- the number below n that passes a test and is preferred to the others, or none: one with no more ones takes the place of a smaller number
+unfoldable pub preferred : ℕ → ℕ → Bool
+preferred m k = leb (ones m) (ones k)
 
--- the number below n that passes a test and is preferred to the others, or none
-unfoldable pub chosenBelow : (ℕ → Bool) → ℕ → Option ℕ
-chosenBelow p zero = none
-chosenBelow p (suc n) =
-    let rest = chosenBelow p n in
-    cond (p n) (preferred n rest) rest
+abbrev pub chosenBelow : (ℕ → Bool) → ℕ → Option ℕ
+chosenBelow p n = bestBelow preferred p n
 
 unfoldable pub chosen : List Test → List Rule → Option ℕ
 chosen tests candidates = chosenBelow (λ m. suffices tests (picked candidates m)) (2 ^ length candidates)

@@ -2,7 +2,9 @@
 use Prim.Native.Nat.{ℕ, zero, suc, _+_, _^_, _<_}
 use mathlib.Core.Bool.{Bool, cond, not, _&&_}
 use mathlib.Core.List.{List}
+use mathlib.Core.Option.{Option, none, some}
 use lib.ListN.{length}
+use Rattle.relation.specs.Best.{Smallest, smallestBelow}
 use Rattle.relation.specs.Lists.{allBelow}
 use Rattle.model.specs.declared.Write.{Write}
 use Rattle.model.specs.declared.Rule.{Rule}
@@ -48,6 +50,10 @@ TestHolds rules t = (s : ℕ) → s < schedules t → Valid rules (t .main) s �
 unfoldable pub Bad : List Rule → Test → ℕ → Type 0
 Bad rules t s = (s < schedules t) × Valid rules (t .main) s × (Consistent (t .checks) (diskAfter t s) → ⊥)
 
+-- *the smallest failing schedule* (02, [4]): bad, and every other bad one has more flagged writes, or as many and a larger number
+abbrev pub SmallestBad : List Rule → Test → ℕ → Type 0
+SmallestBad rules t s = Smallest (Bad rules t) s
+
 -- ---- the same, computed
 
 unfoldable pub bad : List Rule → Test → ℕ → Bool
@@ -55,6 +61,14 @@ bad rules t s = valid rules (t .main) s && not (consistent (t .checks) (diskAfte
 
 unfoldable pub testHolds : List Rule → Test → Bool
 testHolds rules t = allBelow (λ s. not (bad rules t s)) (schedules t)
+
+unfoldable pub smallestBad : List Rule → Test → Option ℕ
+smallestBad rules t = smallestBelow (bad rules t) (schedules t)
+
+-- the number that the judge shows: that of the smallest bad schedule, or 0 where there is none
+unfoldable pub shownOf : Option ℕ → ℕ
+shownOf none = 0
+shownOf (some s) = s
 
 -- how many numbers below n pass a test
 unfoldable pub countBelow : (ℕ → Bool) → ℕ → ℕ

@@ -5,6 +5,7 @@ use mathlib.Core.Path.{_≡_}
 use mathlib.Core.Logic.{_↔_, _⊎_}
 use mathlib.Core.Bool.{true}
 use mathlib.Core.List.{List}
+use mathlib.Core.Option.{none, some}
 use lib.ListN.{length}
 use Rattle.model.specs.Limits.{diskBlocks}
 use Rattle.model.specs.declared.Write.{Write}
@@ -13,7 +14,7 @@ use Rattle.model.specs.declared.Check.{Check}
 use Rattle.model.specs.Rules.{Label, DependsOn, dependsOn, Known, known}
 use Rattle.model.specs.Schedule.{Valid, valid}
 use Rattle.model.specs.Check.{RangeHolds, Damaged, damaged, Holds, holds, Consistent, consistent}
-use Rattle.model.specs.Test.{Test, schedules, TestHolds, testHolds, Bad, bad, badCount}
+use Rattle.model.specs.Test.{Test, schedules, TestHolds, testHolds, Bad, bad, badCount, SmallestBad, smallestBad}
 
 -- a label depends on another
 abbrev pub Depends : Type 0
@@ -50,3 +51,13 @@ HoldingTest = (rules : List Rule) (t : Test) → (TestHolds rules t ↔ testHold
 -- a test holds or has a bad schedule, and not both
 abbrev pub Decided : Type 0
 Decided = (rules : List Rule) (t : Test) → (TestHolds rules t ⊎ ((s : ℕ) × Bad rules t s)) × ((s : ℕ) → Bad rules t s → TestHolds rules t → ⊥)
+
+-- the smallest failing schedule: where a test does not hold there is one, and only one; it is what is computed, and nothing is computed exactly if the test holds
+pub record SmallestFailing (rules : List Rule) (t : Test) : Type 0 where
+  pub one : (TestHolds rules t → ⊥) → (s : ℕ) × SmallestBad rules t s
+  pub only : (s k : ℕ) → SmallestBad rules t s → SmallestBad rules t k → s ≡ k
+  pub computed : (s : ℕ) → SmallestBad rules t s ↔ smallestBad rules t ≡ some s
+  pub holds : TestHolds rules t ↔ smallestBad rules t ≡ none
+
+abbrev pub SmallestSchedule : Type 0
+SmallestSchedule = (rules : List Rule) (t : Test) → SmallestFailing rules t

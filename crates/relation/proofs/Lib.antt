@@ -9,3 +9,5 @@ pub mod UnionLaws
 pub mod WithoutLaws
 pub mod SetLaws
 pub mod TableLaws
+pub mod BestLaws
+pub mod MemberLaws

@@ -1,9 +1,11 @@
 -- Masks as sets: part of, union, intersection. A number is known by its bits.
 use mathlib.Core.Path.{_≡_, sym, ap, _∙_}
-use mathlib.Core.Bool.{Bool, true, false, not, _&&_, _||_, false≢true}
+use mathlib.Core.Bool.{Bool, true, false, cond, not, _&&_, _||_, false≢true}
 use mathlib.Core.Path.{refl}
-use Prim.Native.Nat.{ℕ, zero, suc, _≤_, _<_}
+use Prim.Native.Nat.{ℕ, zero, suc, _+_, _≤_, _<_}
 use native.Mathlib.Nat.{lt-of-le-of-lt, lt-of-lt-of-le}
+use native.Mathlib.Numerals.{add-one}
+use native.Mathlib.Omega.{arith}
 use lib.Bits.{bitAnd, bitOr, and-le-l, or-lt}
 use lib.Pow.{pow-mono}
 use lib.Dec.{eqb, ltb}
@@ -69,3 +71,16 @@ pub mask-with : (p : ℕ → Bool) (n i : ℕ) → i < n → withBit (maskOf p n
 mask-with p n i h =
     bits-equal n _ _ (with-below (maskOf p n) i n (mask-below p n) h) (mask-below (λ j. p j || eqb j i) n)
     (λ j l. bit-with (maskOf p n) i j ∙ rw (bit-mask p n j, bit-mask (λ j. p j || eqb j i) n j, lt-ltb j n l))
+
+-- ---- a mask made bit by bit
+
+pub mask-begun : (p : ℕ → Bool) → 0 ≡ maskOf p 0
+unfolding maskOf
+mask-begun p = refl
+
+pub mask-more : (p : ℕ → Bool) (i mask next : ℕ) (b : Bool) → mask ≡ maskOf p i → b ≡ p i → next ≡ cond b (withBit mask i) mask → next ≡ maskOf p (i + 1)
+unfolding maskOf
+mask-more p i mask next b e q z = z ∙ rw (q, e, add-one i)
+
+pub mask-all : (p : ℕ → Bool) (i n mask : ℕ) → mask ≡ maskOf p i → i ≤ n → n ≤ i → mask ≡ maskOf p n
+mask-all p i n mask e h l = let z : i ≡ n = omega arith in rw (← z) e

@@ -4,3 +4,4 @@ pub mod Transitive
 pub mod Finite
 pub mod Union
 pub mod Tables
+pub mod Best

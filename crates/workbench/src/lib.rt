@@ -7,7 +7,7 @@ ghost use Rattle.judge_cases.specs.Judge.{caseIn};
 ghost use Rattle.find_call.specs.Finder.{findLeaves, foundCoded, findOf};
 ghost use Rattle.log_trace.specs.Traced.{traceOut, traceAnswer};
 ghost use Rattle.workbench.specs.Printed.{printed, printedOf};
-ghost use Rattle.judge_answers.specs.Judged.{JudgeAnswer, VerdictAnswer};
+ghost use Rattle.judge_answers.specs.Judged.{judgeAnswer, verdictAnswer};
 ghost use Rattle.file_calls.specs.File.{readAnswer, locateAnswer, cyclicAnswer};
 
 // How many rules, and 256 times how many tests, a file holds.
@@ -36,10 +36,10 @@ pub extern "C" fn pelzhondy_cyclic(file: &[u8]) -> u64
 }
 
 // Judges test `test`, counted from 1: how many schedules are valid, from bit 21 on how many of these
-// are bad, from bit 42 on the number of a bad one, or 0 where none is. Refused by reading, 8, 9.
+// are bad, from bit 42 on the number of the smallest bad one, or 0 where none is. Refused by reading, 8, 9.
 #[no_mangle]
 pub extern "C" fn pelzhondy_judge(file: &[u8], test: u64) -> u64
-    ensures { λ r. ⌜ JudgeAnswer (caseIn (now (file .entry)) test) r ⌝ }
+    ensures { λ r. ⌜ r ≡ judgeAnswer (caseIn (now (file .entry)) test) ⌝ }
 {
     match judge_cases::judge(file, test) {
         Judged::Counts(j) => judge_answers::code_of(j),
@@ -47,11 +47,11 @@ pub extern "C" fn pelzhondy_judge(file: &[u8], test: u64) -> u64
     }
 }
 
-// The verdict on test `test`, counted from 1: 0 if it holds, else one more than the number of a
-// schedule that is valid and leaves an inconsistent disk. Refused by reading, 8, 9.
+// The verdict on test `test`, counted from 1: 0 if it holds, else one more than the number of the
+// smallest schedule that is valid and leaves an inconsistent disk. Refused by reading, 8, 9.
 #[no_mangle]
 pub extern "C" fn pelzhondy_verdict(file: &[u8], test: u64) -> u64
-    ensures { λ r. ⌜ VerdictAnswer (caseIn (now (file .entry)) test) r ⌝ }
+    ensures { λ r. ⌜ r ≡ verdictAnswer (caseIn (now (file .entry)) test) ⌝ }
 {
     match judge_cases::decide(file, test) {
         Decided::As(v) => judge_answers::code_of_verdict(v),

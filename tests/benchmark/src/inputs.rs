@@ -193,6 +193,66 @@ pub fn ranges_file(tests: usize) -> Vec<u8> {
     file_of(&[], vec![test; tests])
 }
 
+/// 20 main writes, 16 checks and no rules, bad before the first write: a pointer leads to nothing.
+pub fn bad_at_start_file() -> Vec<u8> {
+    let mut test = marks_test();
+    let at = RANGES;
+    test.initial.push(write(at, 9, 0, block(1, at as u16 + 1)));
+    test.checks[0] = Check::Pointer { at };
+    file_of(&[], vec![test])
+}
+
+/// 20 main writes, each after all before it, and 16 checks: the last write is bad, and so all are flagged
+/// in the only bad schedule. The other checks ask for what the rule guarantees.
+pub fn chain_file() -> Vec<u8> {
+    let new = block(2, 2);
+    let last = MOST_MAIN as u8 - 1;
+    let after = |i: u8, b: u8| Check::Pair {
+        a: i,
+        v: new,
+        b,
+        w: new,
+    };
+    let test = Test {
+        initial: vec![],
+        main: (0..=last).map(|i| write(i, 1, i as u32, new)).collect(),
+        checks: (1..MOST_CHECKS as u8)
+            .map(|i| after(i, i - 1))
+            .chain([after(last, 200)])
+            .collect(),
+    };
+    file_of(&[rule(1, Predicate::Greater, 1)], vec![test])
+}
+
+/// 20 main writes of empty blocks where ranges are, without rules: each write is to a check's own block,
+/// and each takes a block away, but no range has one. All hold.
+pub fn emptied_ranges_file() -> Vec<u8> {
+    let at = |i: usize| RANGES + (i % MOST_CHECKS) as u8;
+    let test = Test {
+        initial: vec![],
+        main: (0..MOST_MAIN)
+            .map(|i| write(at(i), 1, 0, block(0, 0)))
+            .collect(),
+        checks: (0..MOST_CHECKS)
+            .map(|i| Check::Range { at: at(i) })
+            .collect(),
+    };
+    file_of(&[], vec![test])
+}
+
+/// Ten main writes of a superblock and ten that take blocks away which are not in its range, without
+/// rules, and 16 times that range, of some 60 blocks. All hold.
+pub fn emptied_beside_file() -> Vec<u8> {
+    let superblock = |i: u16| write(0, 1, 0, block(1, 63 - i % 2));
+    let emptied = |i: u16| write(100 + i as u8, 1, 0, block(0, 0));
+    let test = Test {
+        initial: filled_range(63).collect(),
+        main: (0..10).flat_map(|i| [superblock(i), emptied(i)]).collect(),
+        checks: vec![Check::Range { at: 0 }; MOST_CHECKS],
+    };
+    file_of(&[], vec![test])
+}
+
 /// 12 main writes of one superblock, each after the one before, and 16 times its range of some 60
 /// blocks: 13 schedules are valid.
 pub fn superblocks_file() -> Vec<u8> {
@@ -414,4 +474,31 @@ pub fn full_log() -> Vec<u8> {
         disk.extend(block(8, address).to_bytes());
     }
     disk
+}
+
+#[cfg(test)]
+mod tests {
+    use super::*;
+    use reference::file::read;
+    use reference::judge::Judgement;
+
+    /// The counts and the schedule shown of a file of one test, which has 20 main writes and 16 checks.
+    fn judged(bytes: &[u8]) -> (u64, u64, u64) {
+        let file = read(bytes).expect("a file that reading accepts");
+        let test = &file.tests[0];
+        assert_eq!(test.main.len(), MOST_MAIN);
+        assert_eq!(test.checks.len(), MOST_CHECKS);
+        let Judgement { valid, bad, shown } = counts::judge_test(&file.rules, test);
+        (valid, bad, shown)
+    }
+
+    /// The inputs for the schedule shown are what their rows say.
+    #[test]
+    fn bad_with_none_with_all_and_never() {
+        let all = 1 << MOST_MAIN;
+        assert_eq!(judged(&bad_at_start_file()), (all, all, 0));
+        assert_eq!(judged(&chain_file()), (21, 1, all - 1));
+        assert_eq!(judged(&emptied_ranges_file()), (all, 0, 0));
+        assert_eq!(judged(&emptied_beside_file()), (all, 0, 0));
+    }
 }

@@ -50,8 +50,13 @@ fn routines() {
     println!(
         "their own, 64 at a time, or by open checks: it chooses only writes that one hangs on."
     );
-    println!("The verdict takes 64 at a time or, in rows of its own, goes by open checks; so does");
-    println!("the program's text, and find takes 64 at a time.");
+    println!(
+        "The verdict takes 64 at a time or, in rows of its own, goes by open checks, or looks only"
+    );
+    println!(
+        "for the two blocks that break a check. The program's text goes by open checks, and find"
+    );
+    println!("takes 64 at a time. Judge and verdict show the smallest bad schedule.");
     println!();
     println!("| routine | input | Rattle | Rust | Rattle/Rust |");
     println!("|---|---|---:|---:|---:|");

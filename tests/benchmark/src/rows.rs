@@ -46,20 +46,15 @@ type OnState = unsafe extern "C" fn(*mut u8, usize, *mut u8, usize) -> u64;
 type HandIn = unsafe extern "C" fn(*mut u8, usize, u8, u8, u32, u16, u16) -> u64;
 type Get = unsafe extern "C" fn(*const u8, usize, u16) -> u64;
 
-fn on_tests(
-    routine: &'static str,
-    proved: OnTest,
-    rust: fn(&[u8], u64) -> u64,
-    compared: fn(u64) -> u64,
-) -> Vec<Row> {
+fn on_tests(routine: &'static str, proved: OnTest, rust: fn(&[u8], u64) -> u64) -> Vec<Row> {
     let row = |input: &str, file: Vec<u8>| {
         let same = file.clone();
         Row {
             routine,
             input: input.to_string(),
             calls: 1,
-            proved: Box::new(move || compared(unsafe { proved(file.as_ptr(), file.len(), 1) })),
-            rust: Box::new(move || compared(rust(&same, 1))),
+            proved: Box::new(move || unsafe { proved(file.as_ptr(), file.len(), 1) }),
+            rust: Box::new(move || rust(&same, 1)),
         }
     };
     vec![
@@ -82,28 +77,45 @@ fn on_tests(
         row("20 writes, 16 checks, 3 rules", inputs::marks_file(3, 1)),
         row("20 writes, 16 checks, all hold", inputs::holding_file(20)),
         row("20 writes, 5 pairs, 11 long ranges", inputs::ranges_file(1)),
+        row(
+            "20 writes, 16 checks, bad with none",
+            inputs::bad_at_start_file(),
+        ),
+        row(
+            "20 writes in a chain, 16 checks, bad with all",
+            inputs::chain_file(),
+        ),
+        row(
+            "20 writes of empty blocks, 16 ranges, all hold",
+            inputs::emptied_ranges_file(),
+        ),
+        row(
+            "10 superblocks, 10 empty blocks, 16 long ranges, all hold",
+            inputs::emptied_beside_file(),
+        ),
     ]
 }
 
 fn judge(proved: OnTest) -> Vec<Row> {
-    // Which bad schedule is shown is left free.
-    let counts = |answer| answer % (1 << 42);
     let ways: [(&'static str, fn(&[u8], u64) -> u64); 3] = [
         ("judge", fast::judge::judge),
         ("judge, Rust 64 at a time", fast::judge::judge_by_words),
         ("judge, Rust by open checks", fast::judge::judge_settled),
     ];
-    let rows = ways.map(|(routine, rust)| on_tests(routine, proved, rust, counts));
+    let rows = ways.map(|(routine, rust)| on_tests(routine, proved, rust));
     rows.into_iter().flatten().collect()
 }
 
 fn verdict(proved: OnTest) -> Vec<Row> {
-    let ways: [(&'static str, fn(&[u8], u64) -> u64); 2] = [
+    let ways: [(&'static str, fn(&[u8], u64) -> u64); 3] = [
         ("verdict", fast::judge::verdict),
         ("verdict, Rust by open checks", fast::judge::verdict_settled),
+        (
+            "verdict, Rust by two blocks",
+            fast::judge::verdict_by_blocks,
+        ),
     ];
-    let fails = |answer: u64| answer.min(1);
-    let rows = ways.map(|(routine, rust)| on_tests(routine, proved, rust, fails));
+    let rows = ways.map(|(routine, rust)| on_tests(routine, proved, rust));
     rows.into_iter().flatten().collect()
 }
 

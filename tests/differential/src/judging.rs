@@ -1,4 +1,4 @@
-// Judging a test: the counts of its schedules, a bad one of them, and the verdict.
+// Judging a test: the counts of its schedules, the smallest bad one, and the verdict.
 
 use reference::checks::Check;
 use reference::counts::{self, expected, FEW};
@@ -6,18 +6,19 @@ use reference::crashes;
 use reference::damage::{self, LIMITS};
 use reference::file::{File, Test, MOST_CHECKS, MOST_INITIAL, MOST_MAIN, MOST_RULES, MOST_TESTS};
 use reference::generate::{self, Values};
-use reference::judge::{inconsistent_schedules, is_bad, judge_test, numbered, readable, Judgement};
+use reference::judge::{bad_schedules, judge_test, numbered, readable, smallest, Judgement};
 use reference::log::{self, MOST_MAIN_PUTS};
 use reference::random::Random;
 use reference::refusal::Refusal;
 use reference::samples;
-use reference::schedule::{dependencies, valid};
-use reference::writes::{Block, Rule, Write, PREDICATES};
+use reference::schedule::flags;
+use reference::smallest::{self as made, four_not_three};
+use reference::writes::{block, rule, write, Block, Predicate, Rule, Write, EMPTY, PREDICATES};
 
 use crate::answer;
 use crate::around::{file_with, AROUND};
 use crate::calls;
-use crate::harness::{fail, hexadecimal, require, same_answer, Outcome, Run, Suite};
+use crate::harness::{fail, require, same_answer, Outcome, Run, Suite};
 use crate::lent::Lent;
 
 pub fn suites() -> Vec<Suite> {
@@ -59,6 +60,22 @@ pub fn suites() -> Vec<Suite> {
             "judge: the schedule shown, and the verdict's",
             schedules_shown,
         ),
+        suite("judge: smallest schedules that are known", known_schedules),
+        suite("judge: fewer flags by a greater number", fewer_flags),
+        suite("judge: bad with no flag", no_flags),
+        suite("judge: many of as few flags", as_few_flags),
+        suite(
+            "judge: two writes, and those that they depend on",
+            two_blocks,
+        ),
+        suite(
+            "judge: smallest schedules at the limits",
+            smallest_at_limits,
+        ),
+        suite(
+            "judge: judge and verdict show the same schedule",
+            judge_and_verdict,
+        ),
         suite("judge: 32 rules", most_rules),
         suite("judge: full files", full_files),
         suite("judge: files at the limits", files_at_limits),
@@ -77,52 +94,27 @@ fn judgement_of(answer: u64) -> Judgement {
     }
 }
 
-/// The counts are the expected ones, and the schedule shown is bad, or 0 where none is.
-fn same_judgement(
-    file: &[u8],
-    (rules, test): (&[Rule], &Test),
-    number: u64,
-    expected: &Judgement,
-    got: u64,
-) -> Outcome {
+/// The counts and the schedule shown are the expected ones.
+fn same_judgement(file: &[u8], number: u64, expected: &Judgement, got: u64) -> Outcome {
     let found = judgement_of(got);
-    let counts = found.valid == expected.valid && found.bad == expected.bad;
-    let shown = match expected.bad {
-        0 => found.shown == 0,
-        _ => is_bad(rules, test, found.shown),
-    };
-    if counts && shown {
+    if found == *expected {
         return Ok(());
     }
     fail(
         &format!("judge test {number}"),
         &[("file", file)],
-        format!("{expected:?} or another schedule that is bad"),
+        format!("{expected:?}"),
         format!("{found:?} ({})", answer::show(got)),
     )
 }
 
-/// 0 if no schedule is bad, else 1 + the number of one that is.
-fn same_verdict(
-    file: &[u8],
-    (rules, test): (&[Rule], &Test),
-    number: u64,
-    expected: &Judgement,
-    got: u64,
-) -> Outcome {
-    let right = match got {
-        0 => expected.bad == 0,
-        _ => is_bad(rules, test, got - 1),
+/// 0 if no schedule is bad, else 1 + the number of the one that the judge shows.
+fn same_verdict(file: &[u8], number: u64, expected: &Judgement, got: u64) -> Outcome {
+    let known = match expected.bad {
+        0 => 0,
+        _ => 1 + expected.shown,
     };
-    if right {
-        return Ok(());
-    }
-    fail(
-        &format!("verdict on test {number}"),
-        &[("file", file)],
-        format!("{} bad schedules, {} say", expected.bad, expected.shown),
-        answer::show(got),
-    )
+    same_answer(&format!("verdict on test {number}"), file, known, got)
 }
 
 /// Both routines on one test.
@@ -136,8 +128,8 @@ fn same_on(lent: &Lent, file: &Result<File, Refusal>, number: u64) -> Outcome {
     match test {
         Ok((rules, test)) => {
             let known = expected(rules, test);
-            same_judgement(bytes, (rules, test), number, &known, judged)?;
-            same_verdict(bytes, (rules, test), number, &known, verdict)?;
+            same_judgement(bytes, number, &known, judged)?;
+            same_verdict(bytes, number, &known, verdict)?;
         }
         Err(refusal) => {
             let refused = answer::of(Err(refusal));
@@ -156,9 +148,8 @@ fn same_on(lent: &Lent, file: &Result<File, Refusal>, number: u64) -> Outcome {
 /// Both routines on a file of one test whose judgement is known.
 fn same_as_known(random: &mut Random, file: &File, known: &Judgement) -> Outcome {
     let lent = Lent::new(random, &file.to_bytes());
-    let test = (&file.rules[..], &file.tests[0]);
-    same_judgement(lent.content(), test, 1, known, calls::judge(&lent, 1))?;
-    same_verdict(lent.content(), test, 1, known, calls::verdict(&lent, 1))?;
+    same_judgement(lent.content(), 1, known, calls::judge(&lent, 1))?;
+    same_verdict(lent.content(), 1, known, calls::verdict(&lent, 1))?;
     lent.unchanged("file")
 }
 
@@ -183,11 +174,11 @@ fn same_on_file(random: &mut Random, file: &File) -> Outcome {
 
 fn bench_sheet(run: &mut Run) -> Outcome {
     let both = samples::log_rules();
-    // K1, K2 and K3: the shown schedule of K2 is left free.
+    // K1, K2 and K3: in K2 either superblock alone is bad.
     for (rules, valid, bad, shown) in [
-        (&both[..], 7, 0, Some(0)),
-        (&[], 16, 8, None),
-        (&both[..1], 9, 1, Some(12)),
+        (&both[..], 7, 0, 0),
+        (&[], 16, 8, 2),
+        (&both[..1], 9, 1, 12),
     ] {
         let mut random = run.next_case();
         let file = File {
@@ -196,11 +187,7 @@ fn bench_sheet(run: &mut Run) -> Outcome {
         };
         let bytes = file.to_bytes();
         let found = judgement_of(calls::judge(&Lent::new(&mut random, &bytes), 1));
-        let known = Judgement {
-            valid,
-            bad,
-            shown: shown.unwrap_or(found.shown),
-        };
+        let known = Judgement { valid, bad, shown };
         require(found == known, &format!("{known:?}"), format!("{found:?}"))?;
         same_on_file(&mut random, &file)?;
     }
@@ -579,7 +566,7 @@ fn schedule_by_schedule(run: &mut Run) -> Outcome {
     Ok(())
 }
 
-/// The counts of many more, and that the schedule shown is bad.
+/// Many more, by a judge that finds the smallest in another way than the reference.
 fn against_open_checks(run: &mut Run) -> Outcome {
     let mut kinds = Kinds::default();
     for i in 0..run.times(6_000) {
@@ -591,9 +578,9 @@ fn against_open_checks(run: &mut Run) -> Outcome {
         };
         let lent = Lent::new(&mut random, &file.to_bytes());
         let known = judgement_of(fast::judge::judge_settled(lent.content(), 1));
-        let test = (&file.rules[..], &file.tests[0]);
-        kinds.add(test.1, &known);
-        same_judgement(lent.content(), test, 1, &known, calls::judge(&lent, 1))?;
+        kinds.add(&file.tests[0], &known);
+        same_judgement(lent.content(), 1, &known, calls::judge(&lent, 1))?;
+        same_verdict(lent.content(), 1, &known, calls::verdict(&lent, 1))?;
         lent.unchanged("file")?;
     }
     kinds.spread(run)
@@ -654,11 +641,10 @@ fn around_20(run: &mut Run) -> Outcome {
     Ok(())
 }
 
-/// The bad schedule shown, which document 01 leaves free. The verdict goes through the schedules by the
-/// flags of the first half of the writes and, among equals, by the others, and shows the first bad
-/// one. The judge, which does not go through them, shows any; 0 where there is none.
+/// The bad schedule shown, by all bad schedules one after the other: the fewest flags, then the
+/// smallest number. The verdict's is the same; 0 where there is none.
 fn schedules_shown(run: &mut Run) -> Outcome {
-    let mut late = 0;
+    let (mut many, mut not_lowest) = (0, 0);
     const NUMBERS: [(usize, u64); 6] = [(3, 50), (7, 100), (12, 800), (13, 40), (19, 3), (20, 5)];
     for (main, cases) in NUMBERS {
         for _ in 0..run.times(cases) {
@@ -669,27 +655,255 @@ fn schedules_shown(run: &mut Run) -> Outcome {
                 rules: crashes::acyclic_rules(&mut random, &values, most),
                 tests: vec![crashes::test(&mut random, &values, main)],
             };
-            let test = &file.tests[0];
-            let on = dependencies(&file.rules, &test.main);
-            let mut bad = inconsistent_schedules(test);
-            bad.retain(|&s| valid(&on, s));
-            let beginnings = 1u64 << ((main + 1) / 2);
-            let order = |s: &&u64| (*s % beginnings, *s / beginnings);
-            let first = bad.iter().min_by_key(order).map_or(0, |s| 1 + s);
-            late += u64::from(first > beginnings);
+            let bad = bad_schedules(&file.rules, &file.tests[0]);
+            let shown = smallest(&bad);
+            many += u64::from(shown.map_or(0, flags) > 1);
+            not_lowest += u64::from(shown != bad.first().copied());
             let lent = Lent::new(&mut random, &file.to_bytes());
-            same_answer("verdict", lent.content(), first, calls::verdict(&lent, 1))?;
-            let shown = judgement_of(calls::judge(&lent, 1)).shown;
-            require(
-                bad.contains(&shown) || bad.is_empty() && shown == 0,
-                "one of the bad schedules, or 0",
-                format!("{shown} of {}", hexadecimal(lent.content())),
-            )?;
+            let known = shown.map_or(0, |schedule| 1 + schedule);
+            same_answer("verdict", lent.content(), known, calls::verdict(&lent, 1))?;
+            let judged = calls::judge(&lent, 1) >> 42;
+            let known = shown.unwrap_or(0);
+            same_answer("judge's schedule", lent.content(), known, judged)?;
         }
     }
-    let note = format!("{late} verdicts by a schedule that flags a write of the second half");
+    let note = format!("{many} of more than one flag, {not_lowest} are not the smallest number");
     run.note(note.clone());
-    require(late >= 20, "20 of them at least", note)
+    require(many >= 20, "20 of more than one at least", note)
+}
+
+/// Both routines on a file of one test whose judgement is known, with bytes beside the file and with
+/// none.
+fn shown_by_both(random: &mut Random, file: &File, known: &Judgement) -> Outcome {
+    same_as_known(random, file, known)?;
+    let lent = Lent::exact(&file.to_bytes());
+    same_judgement(lent.content(), 1, known, calls::judge(&lent, 1))?;
+    same_verdict(lent.content(), 1, known, calls::verdict(&lent, 1))?;
+    lent.unchanged("file")
+}
+
+/// Tests that are made for the schedule shown, of so many main writes.
+type Made = fn(&mut Random, usize) -> File;
+
+/// Tests of 2 to 12 main writes schedule by schedule, of 13 to 20 by diagrams, and two of 20 schedule by
+/// schedule. Of those of few writes most are what they are made for.
+fn smallest_of(
+    run: &mut Run,
+    make: Made,
+    what: &str,
+    is_telling: impl Fn(&[u64]) -> bool,
+) -> Outcome {
+    let (mut few, mut telling) = (0, 0);
+    for i in 0..run.times(3_000) {
+        let mut random = run.next_case();
+        let main = match i % 8 {
+            0 => random.between(FEW + 1, MOST_MAIN),
+            1 => MOST_MAIN,
+            2 => random.between(9, FEW),
+            _ => random.between(2, 8),
+        };
+        let file = make(&mut random, main);
+        let (rules, test) = (&file.rules[..], &file.tests[0]);
+        if test.main.len() <= FEW {
+            few += 1;
+            telling += u64::from(is_telling(&bad_schedules(rules, test)));
+        }
+        shown_by_both(&mut random, &file, &expected(rules, test))?;
+    }
+    for _ in 0..run.times(2) {
+        let mut random = run.next_case();
+        let file = make(&mut random, MOST_MAIN);
+        let known = judge_test(&file.rules, &file.tests[0]);
+        shown_by_both(&mut random, &file, &known)?;
+    }
+    let note = format!("of {few} tests of up to {FEW} writes {telling} {what}");
+    run.note(note.clone());
+    require(telling * 2 > few, "more than half of them", note)
+}
+
+fn fewer_flags(run: &mut Run) -> Outcome {
+    let what = "have a bad schedule of a smaller number";
+    smallest_of(run, made::fewer_flags, what, |bad| {
+        smallest(bad) != bad.first().copied()
+    })
+}
+
+fn no_flags(run: &mut Run) -> Outcome {
+    let what = "are bad with no flag";
+    smallest_of(run, made::bad_at_start, what, |bad| bad.first() == Some(&0))
+}
+
+fn as_few_flags(run: &mut Run) -> Outcome {
+    let what = "have several of as few flags";
+    smallest_of(run, made::ties, what, |bad| {
+        let fewest = smallest(bad).map(flags);
+        bad.iter().filter(|&&s| Some(flags(s)) == fewest).count() > 1
+    })
+}
+
+fn two_blocks(run: &mut Run) -> Outcome {
+    let what = "need three flags or more";
+    smallest_of(run, made::two_blocks, what, |bad| {
+        smallest(bad).map_or(0, flags) >= 3
+    })
+}
+
+/// No, one and the most main writes, and what is near; the first and the last blocks, numbers at the
+/// limits of disks and ranges, empty blocks, few addresses.
+fn smallest_at_limits(run: &mut Run) -> Outcome {
+    let (mut kinds, mut empty, mut full) = (Kinds::default(), 0, 0);
+    for main in [0, 1, 2, 5, 8, FEW, 13, 19, MOST_MAIN] {
+        for _ in 0..run.times(200) {
+            let mut random = run.next_case();
+            let file = made::at_limits(&mut random, main);
+            let test = &file.tests[0];
+            let known = expected(&file.rules, test);
+            kinds.add(test, &known);
+            empty += u64::from(known.bad > 0 && known.shown == 0);
+            full +=
+                u64::from(test.checks.len() == MOST_CHECKS && test.initial.len() == MOST_INITIAL);
+            shown_by_both(&mut random, &file, &known)?;
+        }
+    }
+    kinds.spread(run)?;
+    let note = format!(
+        "of {} tests {} hold, {empty} are bad with no flag, {full} have the most of the others",
+        kinds.all, kinds.holds
+    );
+    run.note(note.clone());
+    require(
+        empty * 40 > kinds.all && full * 40 > kinds.all,
+        "a fortieth of each at least",
+        note,
+    )
+}
+
+/// Judge and verdict against each other: the same refusal, or the same schedule. The bytes lent are of
+/// just the file's length, and stay as they are.
+fn judge_and_verdict(run: &mut Run) -> Outcome {
+    const MADE: [(Made, usize); 7] = [
+        (made::fewer_flags, 2),
+        (made::bad_at_start, 0),
+        (made::ties, 1),
+        (made::two_blocks, 2),
+        (made::at_limits, 0),
+        (crashes::tangled_file_of, 0),
+        (crashes::file_of, 0),
+    ];
+    let (mut refused, mut holds, mut fails) = (0, 0, 0);
+    for i in 0..run.times(20_000) {
+        let mut random = run.next_case();
+        let (make, least) = random.pick(&MADE);
+        let main = random.between(least, MOST_MAIN);
+        let mut file = make(&mut random, main);
+        let (mut bytes, mut number) = (file.to_bytes(), 1);
+        match i % 12 {
+            0 => bytes = damage::any(&mut random).bytes,
+            1 => bytes.truncate(random.below(bytes.len())),
+            2 => number = random.pick(&[0, 2, 17, u64::MAX]),
+            3 => {
+                file.rules = generate::nearly_cyclic_rules(&mut random);
+                bytes = file.to_bytes();
+            }
+            _ => {}
+        }
+        let lent = Lent::exact(&bytes);
+        let (judged, verdict) = (calls::judge(&lent, number), calls::verdict(&lent, number));
+        let found = judgement_of(judged);
+        let known = match judged {
+            answer if answer >> 63 == 1 => {
+                refused += 1;
+                answer
+            }
+            _ if found.bad == 0 => {
+                holds += 1;
+                found.shown
+            }
+            _ => {
+                fails += 1;
+                1 + found.shown
+            }
+        };
+        same_answer("verdict, beside judge", &bytes, known, verdict)?;
+        lent.unchanged("file")?;
+    }
+    let note = format!("{refused} refused, {holds} hold, {fails} fail");
+    run.note(note.clone());
+    let each = [refused, holds, fails].iter().all(|&count| count > 1_000);
+    require(each, "1000 of each at least", note)
+}
+
+/// The judgements of some tests, which the request and the definition tell at once.
+fn known_schedules(run: &mut Run) -> Outcome {
+    let both = samples::log_rules();
+    let mut same = |rules: &[Rule], test: Test, shown: Option<u64>| {
+        let mut random = run.next_case();
+        let file = File {
+            rules: rules.to_vec(),
+            tests: vec![test],
+        };
+        let lent = Lent::new(&mut random, &file.to_bytes());
+        let bytes = lent.content();
+        let verdict = shown.map_or(0, |schedule| 1 + schedule);
+        same_answer("verdict", bytes, verdict, calls::verdict(&lent, 1))?;
+        let judged = judgement_of(calls::judge(&lent, 1));
+        let (is_bad, number) = (u64::from(judged.bad > 0), judged.shown);
+        same_answer("judge: is one bad", bytes, verdict.min(1), is_bad)?;
+        same_answer("judge's schedule", bytes, shown.unwrap_or(0), number)?;
+        let known = counts::judge_test(rules, &file.tests[0]);
+        shown_by_both(&mut random, &file, &known)
+    };
+    same(&[], four_not_three(), Some(4))?;
+    // A log: without its log block a superblock is bad, and with that if the one before is not there.
+    for puts in 1..=MOST_MAIN_PUTS {
+        let puts: Vec<Block> = (1..=puts).map(|key| block(key as u16, 1)).collect();
+        let test = log::test_of(&[block(0, 42)], &puts);
+        let second = (puts.len() > 1).then_some(0b1100);
+        same(&both, test.clone(), None)?;
+        same(&[], test.clone(), Some(0b10))?;
+        same(&both[1..], test.clone(), Some(0b10))?;
+        same(&both[..1], test, second)?;
+    }
+    // Every two of 20 writes are the only two that are bad together, or one is the only one.
+    let (old, new) = (block(1, 1), block(2, 2));
+    let writes = |new| (0..MOST_MAIN as u8).map(move |at| write(at, 1, at as u32, new));
+    let test = |checks| Test {
+        initial: writes(old).collect(),
+        main: writes(new).collect(),
+        checks,
+    };
+    let not_both = |a, b, w| Check::Pair { a, v: new, b, w };
+    for i in 0..MOST_MAIN as u8 {
+        for j in 0..MOST_MAIN as u8 {
+            let w = if i == j { EMPTY } else { old };
+            let shown = 1u64 << i | 1 << j;
+            same(&[], test(vec![not_both(i, j, w)]), Some(shown))?;
+        }
+    }
+    // Each after all before it: all up to the one, or up to the later of the two.
+    let in_order = [rule(1, Predicate::Greater, 1)];
+    for i in 0..MOST_MAIN as u8 {
+        let up_to = |last: u8| Some((2 << last) - 1);
+        let (of_one, of_both) = (not_both(i / 2, i, EMPTY), not_both(i, i / 2, old));
+        same(&in_order, test(vec![of_one]), up_to(i / 2))?;
+        same(&in_order, test(vec![of_both]), up_to(i))?;
+        same(&in_order, test(vec![not_both(i, i, new)]), None)?;
+    }
+    // Bad with none flagged, and with any.
+    let never = Check::Pair {
+        a: 77,
+        v: EMPTY,
+        b: 78,
+        w: new,
+    };
+    same(&[], test(vec![never]), Some(0))?;
+    same(&in_order, test(vec![never]), Some(0))?;
+    // All of some writes are bad alone: the first of them.
+    for i in 0..MOST_MAIN as u8 - 8 {
+        let checks = (i..i + 8).rev().map(|at| not_both(at, at, EMPTY));
+        same(&[], test(checks.collect()), Some(1 << i))?;
+    }
+    Ok(())
 }
 
 /// One test, and rules of which the last of 32 often decides.

@@ -29,6 +29,16 @@ impl Lent {
         }
     }
 
+    /// A copy of `content` with nothing beside it: an allocation of just its length.
+    pub fn exact(content: &[u8]) -> Lent {
+        Lent {
+            bytes: content.to_vec(),
+            before: content.to_vec(),
+            from: 0,
+            length: content.len(),
+        }
+    }
+
     /// Lends less: the first `length` bytes. The rest stays behind them.
     pub fn cut(&mut self, length: usize) {
         self.length = length;
@@ -76,8 +86,8 @@ impl Lent {
             .map(|i| i as i64 - self.from as i64);
         fail(
             &format!(
-                "a call lent {name} of {} bytes, {MARGIN} bytes on each side",
-                self.length
+                "a call lent {name} of {} bytes, {} bytes on each side",
+                self.length, self.from
             ),
             &[(name, &self.before)],
             hexadecimal(expected),

@@ -255,7 +255,6 @@ fn judging(run: &mut Run) -> Outcome {
                 ];
                 let known = unread.or_else(|| first(&listed));
                 let inputs = [("file", &bytes[..])];
-                // K under (2,=,1) alone has one bad schedule, so that there is no free answer.
                 let judged =
                     judge::judge(&bytes, number).map(|j| j.valid + (j.bad << 21) + (j.shown << 42));
                 let verdict = judge::verdict(&bytes, number).map(|verdict| match verdict {

@@ -16,8 +16,8 @@ use crate::lent::Lent;
 use crate::lines::LEAST;
 use crate::stack::Deepest;
 
-/// Bytes of stack that a call may use: the judge chooses up to 20 writes, one inside the other, the
-/// verdict and finding have tables.
+/// Bytes of stack that a call may use: the judge chooses up to 20 writes, one inside the other, and
+/// finding has tables.
 const MOST_OF_JUDGING: usize = 32 << 10;
 const MOST_OF_FINDING: usize = 96 << 10;
 
@@ -112,12 +112,11 @@ fn stack_of_judge(run: &mut Run) -> Outcome {
 }
 
 fn stack_of_verdict(run: &mut Run) -> Outcome {
-    // Without rules a verdict that holds takes long.
     let (routine, usual) = (library::VERDICT, calls::verdict);
-    on_tests(run, 100, routine, usual, MOST_OF_JUDGING, any_file)
+    on_tests(run, 400, routine, usual, MOST_OF_JUDGING, any_file)
 }
 
-/// Tests whose tables are short: no more main writes than there could be before 20 were allowed.
+/// Tests of no more main writes than there could be before 20 were allowed.
 fn short_file(random: &mut Random, _: u64) -> Vec<u8> {
     let main = random.between(0, MOST_TO_FIND);
     crashes::file_of(random, main).to_bytes()

@@ -5,6 +5,7 @@ use crate::file::{scan, Main, Scan, Test};
 use crate::order::Order;
 use crate::refused;
 use crate::rules::{EQUAL, GREATER, LESS};
+use crate::smallest::ANY_FLAGS;
 use crate::sources::members;
 use crate::words::{each_word, FLAGGED, LOW};
 
@@ -283,7 +284,7 @@ fn found(file: &[u8], buffer: usize) -> Result<(Candidates, Set), u64> {
                 .try_into()
                 .expect("as many as a word has bits");
             members(bad).for_each(|k| within.add(of[k]));
-            true
+            ANY_FLAGS
         });
     }
     within.spread(candidates.count);

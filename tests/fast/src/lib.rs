@@ -4,7 +4,7 @@
 //
 // The judge visits one schedule after another; the judge by words, the verdict and find take 64 at a
 // time; the settled judge and verdict and the program's text choose only the writes that an open check
-// hangs on, and count what is left.
+// hangs on, and count what is left; the verdict by blocks looks for the two that break a check.
 
 pub mod cache;
 pub mod file;
@@ -15,6 +15,7 @@ mod order;
 pub mod program;
 mod rules;
 mod settled;
+mod smallest;
 mod sources;
 mod words;
 

@@ -134,15 +134,26 @@ impl Left {
     }
 }
 
-/// Goes through what fails for sure: what is chosen there and what is free. Stops when `visit` says
-/// so.
-pub fn each_failing(sources: &Sources, order: &Order, visit: impl FnMut(u64, u64) -> bool) {
+/// What is done with the schedules that fail for sure.
+pub trait Failing {
+    /// Are schedules asked for that flag this and perhaps more?
+    #[inline(always)]
+    fn asked(&self, _chosen: u64) -> bool {
+        true
+    }
+
+    /// All that flag what is chosen and some of what is free, closed as that is, fail.
+    fn add(&mut self, chosen: u64, free: u64);
+}
+
+/// Goes through what fails for sure.
+pub fn each_failing<F: Failing>(sources: &Sources, order: &Order, failing: &mut F) {
     let mut walk = Walk {
         sources,
         order,
         pairs_at: [Pair::NONE; MOST_CHECKS],
         seen_by_filled: [0; MOST_CHECKS],
-        visit,
+        failing,
     };
     for (at, pair) in walk.pairs_at.iter_mut().zip(sources.pairs()) {
         at.premise = sources.at_of(pair.premise.trailing_zeros() as usize);
@@ -158,32 +169,30 @@ pub fn each_failing(sources: &Sources, order: &Order, visit: impl FnMut(u64, u64
     walk.go_on(Left::all(sources), u64::MAX);
 }
 
-struct Walk<'a, V> {
+struct Walk<'a, F> {
     sources: &'a Sources,
     order: &'a Order,
     /// For each pair the sources at the addresses of its premise and its conclusion.
     pairs_at: [Pair; MOST_CHECKS],
     /// For each range and pointer the sources at the addresses that it can look at.
     seen_by_filled: [u64; MOST_CHECKS],
-    visit: V,
+    failing: &'a mut F,
 }
 
-impl<V: FnMut(u64, u64) -> bool> Walk<'_, V> {
-    /// Goes on with what is left, after a change at these addresses. Is false to stop.
-    fn go_on(&mut self, mut left: Left, mut changed: u64) -> bool {
+impl<F: Failing> Walk<'_, F> {
+    /// Goes on with what is left, after a change at these addresses.
+    fn go_on(&mut self, mut left: Left, mut changed: u64) {
         let sources = self.sources;
-        loop {
+        while self.failing.asked(left.chosen) {
             let next = match self.ask(&mut left, changed) {
-                Said::Holds => return true,
-                Said::Fails => return (self.visit)(left.chosen, left.free),
+                Said::Holds => return,
+                Said::Fails => return self.failing.add(left.chosen, left.free),
                 Said::Open(next) => next,
             };
             let mut without = left;
             let out = self.order.bars[next] & left.free;
             let changed_without = without.leave_out(out, sources);
-            if !self.go_on(without, changed_without) {
-                return false;
-            }
+            self.go_on(without, changed_without);
             let with = self.order.flags[next] & left.free;
             changed = left.flag(with, sources);
         }

@@ -7,9 +7,10 @@ use reference::damage;
 use reference::file::{File, Test, MOST_MAIN};
 use reference::find::MOST_MAIN as MOST_TO_FIND;
 use reference::generate::{self, Values};
-use reference::judge::{is_bad, numbered, readable};
+use reference::judge::{numbered, readable, Judgement};
 use reference::random::Random;
 use reference::refusal::{self, Refusal};
+use reference::smallest::{at_limits, bad_at_start, fewer_flags, ties, two_blocks};
 use reference::states;
 use reference::writes::{Block, Write};
 
@@ -91,38 +92,29 @@ fn reading_beginnings() {
 fn same_judgements(bytes: &[u8], numbers: impl IntoIterator<Item = u64>, seed: u64) {
     let file = readable(bytes);
     for number in numbers {
-        let judgements = [judge::judge, judge::judge_by_words, judge::judge_settled]
-            .map(|judge| judge(bytes, number));
-        let verdicts = [judge::verdict, judge::verdict_settled].map(|v| v(bytes, number));
         let test = file.as_ref().map_err(|refusal| *refusal);
-        match test.and_then(|file| Ok((&file.rules, numbered(file, number)?))) {
-            Err(refusal) => {
-                let refused = answer(Err(refusal));
-                assert_eq!(judgements, [refused; 3], "seed {seed}");
-                assert_eq!(verdicts, [refused; 2], "seed {seed}");
-            }
-            Ok((rules, test)) => {
-                let expected = counts::expected(rules, test);
-                for judged in judgements {
-                    let counts = (judged & 0x1F_FFFF, judged >> 21 & 0x1F_FFFF);
-                    assert_eq!(counts, (expected.valid, expected.bad), "seed {seed}");
-                    let right = match expected.bad {
-                        0 => judged >> 42 == 0,
-                        _ => is_bad(rules, test, judged >> 42),
-                    };
-                    assert!(right, "seed {seed}");
-                }
-                if expected.bad == 0 {
-                    assert_eq!(verdicts, [0, 0], "seed {seed}");
-                } else {
-                    // The one by words is the lowest.
-                    assert_eq!(verdicts[0], 1 + expected.shown, "seed {seed}");
-                    assert!(is_bad(rules, test, verdicts[1] - 1), "seed {seed}");
-                }
-            }
+        let expected = test.and_then(|file| {
+            let test = numbered(file, number)?;
+            Ok(counts::expected(&file.rules, test))
+        });
+        let judged = |j: Judgement| j.valid + (j.bad << 21) + (j.shown << 42);
+        let judged = answer(expected.map(judged));
+        for judge in [judge::judge, judge::judge_by_words, judge::judge_settled] {
+            assert_eq!(judge(bytes, number), judged, "seed {seed}");
+        }
+        let verdict = |j: Judgement| if j.bad == 0 { 0 } else { 1 + j.shown };
+        let told = answer(expected.map(verdict));
+        for verdict in VERDICTS {
+            assert_eq!(verdict(bytes, number), told, "seed {seed}");
         }
     }
 }
+
+const VERDICTS: [fn(&[u8], u64) -> u64; 3] = [
+    judge::verdict,
+    judge::verdict_settled,
+    judge::verdict_by_blocks,
+];
 
 #[test]
 fn judging() {
@@ -177,6 +169,57 @@ fn judging_of_every_kind() {
         same_judgements(&file.to_bytes(), [1], seed);
     }
     assert!(hold > 500 && fail > 500, "{hold} {fail}");
+}
+
+/// Each kind of test for the schedule that is shown, and each number of main writes.
+#[test]
+fn judging_the_smallest() {
+    let kinds: [fn(&mut Random, usize) -> File; 5] =
+        [fewer_flags, bad_at_start, ties, two_blocks, at_limits];
+    for seed in 0..1500 {
+        let mut random = Random::new(seed);
+        let main = match seed % 10 {
+            0 => random.between(13, MOST_MAIN),
+            _ => random.between(2, 12),
+        };
+        for kind in kinds {
+            same_judgements(&kind(&mut random, main).to_bytes(), [1], seed);
+        }
+        for main in [0, 1] {
+            same_judgements(&bad_at_start(&mut random, main).to_bytes(), [1], seed);
+            same_judgements(&at_limits(&mut random, main).to_bytes(), [1], seed);
+        }
+    }
+}
+
+/// The verdicts alone on tests of 20 main writes, which a judge takes long for.
+#[test]
+fn verdicts_on_twenty_writes() {
+    let (mut hold, mut most) = (0, 0);
+    for seed in 0..1500 {
+        let mut random = Random::new(seed);
+        let file = match seed % 6 {
+            0 => crashes::file_of(&mut random, MOST_MAIN),
+            1 => crashes::tangled_file_of(&mut random, MOST_MAIN),
+            2 => crashes::long_ranges_file_of(&mut random, MOST_MAIN),
+            3 => fewer_flags(&mut random, MOST_MAIN),
+            4 => ties(&mut random, MOST_MAIN),
+            _ => two_blocks(&mut random, MOST_MAIN),
+        };
+        let expected = counts::expected(&file.rules, &file.tests[0]);
+        let told = if expected.bad == 0 {
+            0
+        } else {
+            1 + expected.shown
+        };
+        hold += u64::from(told == 0);
+        most = most.max(expected.shown.count_ones());
+        let bytes = file.to_bytes();
+        for verdict in VERDICTS {
+            assert_eq!(verdict(&bytes, 1), told, "seed {seed}");
+        }
+    }
+    assert!((50..1000).contains(&hold) && most >= 10, "{hold} {most}");
 }
 
 #[test]

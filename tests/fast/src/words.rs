@@ -4,6 +4,7 @@
 
 use crate::file::{Test, MOST_CHECKS, MOST_MAIN};
 use crate::order::Order;
+use crate::smallest::ANY_FLAGS;
 use crate::sources::{members, Filled, Sources, ALWAYS, SOURCES};
 
 /// How many writes are the bits of a word.
@@ -192,10 +193,29 @@ impl Words<'_> {
     }
 }
 
+/// For each number of flags the schedules of a word that flag so many of the first six writes.
+const WITH_FLAGS: [u64; LOW + 1] = {
+    let mut with = [0; LOW + 1];
+    let mut k = 0u32;
+    while k < 1 << LOW {
+        with[k.count_ones() as usize] |= 1 << k;
+        k += 1;
+    }
+    with
+};
+
+/// Of some schedules of a word the one with the fewest flags, and among those the smallest number.
+pub fn smallest_of(word: u64) -> u64 {
+    let mut with_flags = WITH_FLAGS.iter().map(|with| word & with);
+    let with_fewest = with_flags.find(|&schedules| schedules != 0);
+    with_fewest.unwrap_or(0).trailing_zeros() as u64
+}
+
 /// Goes through the words of a test that have valid schedules, in rising number of the later writes:
 /// the number of its first schedule, which of its schedules are valid, and which of these are
-/// inconsistent. Stops when `visit` says so.
-pub fn each_word(test: &Test, order: &Order, visit: impl FnMut(u64, u64, u64) -> bool) {
+/// inconsistent. `visit` says how many flags are too many from then on: words of which all schedules
+/// have as many are passed over.
+pub fn each_word(test: &Test, order: &Order, visit: impl FnMut(u64, u64, u64) -> u32) {
     let (mut sources, mut tables) = (Sources::NONE, Tables::NONE);
     sources.fill(test);
     tables.fill(&sources);
@@ -207,6 +227,7 @@ pub fn each_word(test: &Test, order: &Order, visit: impl FnMut(u64, u64, u64) ->
         order,
         with: [0; MOST_MAIN],
         without: [0; MOST_MAIN],
+        too_many: ANY_FLAGS,
         visit,
     };
     let count = test.main.count;
@@ -231,12 +252,14 @@ struct Walk<'a, V> {
     /// For each write the schedules that are still valid with it, and without it.
     with: [u64; MOST_MAIN],
     without: [u64; MOST_MAIN],
+    /// Schedules with so many flags need not be visited.
+    too_many: u32,
     visit: V,
 }
 
-impl<V: FnMut(u64, u64, u64) -> bool> Walk<'_, V> {
+impl<V: FnMut(u64, u64, u64) -> u32> Walk<'_, V> {
     /// Goes on with these writes flagged and these left out, from the last of the first `i` on. Both
-    /// choices for a write that is neither lead to valid schedules. Is false to stop.
+    /// choices for a write that is neither lead to valid schedules.
     fn go_on(
         &mut self,
         mut i: usize,
@@ -244,7 +267,7 @@ impl<V: FnMut(u64, u64, u64) -> bool> Walk<'_, V> {
         barred: u64,
         mut later: Later,
         mut valid: u64,
-    ) -> bool {
+    ) {
         while i > LOW {
             i -= 1;
             if barred >> i & 1 == 1 {
@@ -252,10 +275,11 @@ impl<V: FnMut(u64, u64, u64) -> bool> Walk<'_, V> {
             }
             if flagged >> i & 1 == 0 {
                 let barred = barred | self.order.bars[i];
-                if !self.go_on(i, flagged, barred, later, valid & self.without[i]) {
-                    return false;
-                }
+                self.go_on(i, flagged, barred, later, valid & self.without[i]);
                 flagged |= self.order.flags[i];
+                if self.too_many < ANY_FLAGS && flagged.count_ones() >= self.too_many {
+                    return;
+                }
                 valid &= self.with[i];
             }
             if later.hidden >> i & 1 == 0 {
@@ -264,6 +288,6 @@ impl<V: FnMut(u64, u64, u64) -> bool> Walk<'_, V> {
             }
         }
         let broken = self.words.broken(valid, later);
-        (self.visit)(flagged & LATER_WRITES, valid, valid & broken)
+        self.too_many = (self.visit)(flagged & LATER_WRITES, valid, valid & broken);
     }
 }

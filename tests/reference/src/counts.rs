@@ -1,8 +1,8 @@
 // A second way to judge, which goes through no schedules: that a schedule is valid, and that its disk
 // is consistent, are decision diagrams over the flags. A diagram asks for one flag after another, in
 // the order of the writes, up to yes or no, and parts that are the same are one. What the document
-// says of validity, disks and checks becomes diagrams by "if"; how many schedules lead to yes is then
-// added up part by part.
+// says of validity, disks and checks becomes diagrams by "if"; how many schedules lead to yes, and which
+// of them is the smallest, is then found part by part.
 
 use std::collections::HashMap;
 
@@ -33,7 +33,7 @@ pub fn judge_test(rules: &[Rule], test: &Test) -> Judgement {
     Judgement {
         valid: diagrams.count(valid, test.main.len()),
         bad: diagrams.count(bad, test.main.len()),
-        shown: diagrams.lowest(bad).unwrap_or(0),
+        shown: diagrams.smallest(bad).unwrap_or(0),
     }
 }
 
@@ -254,12 +254,15 @@ impl Diagrams {
         of[diagram]
     }
 
-    /// The lowest number of a schedule that leads to yes.
-    fn lowest(&self, diagram: Diagram) -> Option<u64> {
+    /// Of the schedules that lead to yes the one with the fewest flags, and among those the smallest
+    /// number. Which of two that is does not hang on a flag that both have; and a flag that isn't
+    /// asked for is not set.
+    fn smallest(&self, diagram: Diagram) -> Option<u64> {
         let mut of: Vec<Option<u64>> = vec![None, Some(0)];
         for node in &self.nodes[2..] {
             let with = of[node.with].map(|number| number | 1 << node.write);
-            of.push([of[node.without], with].into_iter().flatten().min());
+            let both = [of[node.without], with].into_iter().flatten();
+            of.push(both.min_by_key(|&number| (number.count_ones(), number)));
         }
         of[diagram]
     }

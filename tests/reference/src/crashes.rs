@@ -67,7 +67,7 @@ fn check_of(random: &mut Random, values: &Values, test: &Test) -> Check {
 
 /// Checks for a test that has its writes: of those that are drawn, the ones that hold at the start
 /// or, in few of the tests, any.
-fn add_checks(random: &mut Random, values: &Values, test: &mut Test, drawn: usize) {
+pub fn add_checks(random: &mut Random, values: &Values, test: &mut Test, drawn: usize) {
     let start = test.initial_disk();
     let any = random.one_in(8);
     for _ in 0..drawn {

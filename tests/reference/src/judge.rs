@@ -1,17 +1,17 @@
-// Judging: the counts of valid and of bad schedules of a test, and the verdict.
+// Judging: the counts of valid and of bad schedules of a test, the bad one to show, and the verdict.
 
 use crate::checks::consistent;
 use crate::cyclic::cyclic;
 use crate::file::{read, File, Test};
 use crate::refusal::{self, Refusal};
-use crate::schedule::{dependencies, disk_of, valid};
+use crate::schedule::{dependencies, disk_of, flags, valid};
 use crate::writes::Rule;
 
 #[derive(Clone, Copy, Debug, PartialEq, Eq)]
 pub struct Judgement {
     pub valid: u64,
     pub bad: u64,
-    /// Some bad schedule, here the lowest; 0 where there is none.
+    /// The smallest bad schedule, 0 where there is none: [4] of document 02.
     pub shown: u64,
 }
 
@@ -55,31 +55,24 @@ pub fn numbered(file: &File, test: u64) -> Result<&Test, Refusal> {
 
 pub fn judge_test(rules: &[Rule], test: &Test) -> Judgement {
     let dependencies = dependencies(rules, &test.main);
-    let bad: Vec<u64> = inconsistent_schedules(test)
-        .into_iter()
-        .filter(|&schedule| valid(&dependencies, schedule))
-        .collect();
+    let bad = bad_schedules(rules, test);
     Judgement {
         valid: schedules(test).filter(|&s| valid(&dependencies, s)).count() as u64,
         bad: bad.len() as u64,
-        shown: bad.first().copied().unwrap_or(0),
+        shown: smallest(&bad).unwrap_or(0),
     }
-}
-
-/// Is this schedule one of the test, valid, and inconsistent?
-pub fn is_bad(rules: &[Rule], test: &Test, schedule: u64) -> bool {
-    schedules(test).contains(&schedule)
-        && valid(&dependencies(rules, &test.main), schedule)
-        && !leaves_consistent(test, schedule)
 }
 
 pub fn schedules(test: &Test) -> std::ops::Range<u64> {
     0..1 << test.main.len()
 }
 
-pub fn leaves_consistent(test: &Test, schedule: u64) -> bool {
-    let disk = disk_of(&test.initial_disk(), &test.main, schedule);
-    consistent(&test.checks, &disk)
+/// The schedules that are valid and inconsistent, rising.
+pub fn bad_schedules(rules: &[Rule], test: &Test) -> Vec<u64> {
+    let dependencies = dependencies(rules, &test.main);
+    let mut bad = inconsistent_schedules(test);
+    bad.retain(|&schedule| valid(&dependencies, schedule));
+    bad
 }
 
 /// The schedules, valid or not, whose disk is inconsistent.
@@ -88,4 +81,11 @@ pub fn inconsistent_schedules(test: &Test) -> Vec<u64> {
     schedules(test)
         .filter(|&s| !consistent(&test.checks, &disk_of(&initial, &test.main, s)))
         .collect()
+}
+
+/// Of some schedules the one with the fewest flagged writes, and among those the smallest number.
+pub fn smallest(schedules: &[u64]) -> Option<u64> {
+    let fewest = schedules.iter().map(|&s| flags(s)).min()?;
+    let with_fewest = schedules.iter().filter(|&&s| flags(s) == fewest);
+    with_fewest.min().copied()
 }

@@ -21,6 +21,7 @@ pub mod refusal;
 pub mod ring;
 pub mod samples;
 pub mod schedule;
+pub mod smallest;
 pub mod states;
 pub mod writes;
 

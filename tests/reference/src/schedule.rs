@@ -7,6 +7,11 @@ pub fn flagged(schedule: u64, index: usize) -> bool {
     schedule >> index & 1 == 1
 }
 
+/// How many writes a schedule flags.
+pub fn flags(schedule: u64) -> u32 {
+    schedule.count_ones()
+}
+
 /// The disk of a schedule: its flagged writes, applied in order to `start`.
 pub fn disk_of(start: &Disk, writes: &[Write], schedule: u64) -> Disk {
     let mut disk = *start;

@@ -15,8 +15,11 @@ slice-aggregate-fill c = search loops
 fill-requires : tie.Need-fill-requires
 fill-requires c κs = search loops
 
-first-bad-requires : tie.Need-first-bad-requires
-first-bad-requires c κs = search loops
+slice-aggregate-smallest-bad : tie.Need-slice-aggregate-smallest-bad
+slice-aggregate-smallest-bad c = search loops
+
+smallest-bad-requires : tie.Need-smallest-bad-requires
+smallest-bad-requires c κs = search loops
 
 returns : tie.Need-returns
 returns c = search loops
@@ -29,5 +32,6 @@ decide-test-spec =
     load-checks-requires
     slice-aggregate-fill
     fill-requires
-    first-bad-requires
+    slice-aggregate-smallest-bad
+    smallest-bad-requires
     returns)

@@ -1,8 +1,8 @@
--- `judge_counting::count_all` meets its contract. It walks from nothing chosen and all free.
+-- `judge_counting::count_all` meets its contract. It walks from nothing chosen and all free, with a rank above all that may come.
 use mathlib.Core.Path.{refl}
 use Rattle.relation.proofs.TableLaws.{blank-made}
 use Rattle.model.specs.Limits.{diskBlocks}
-use Rattle.judge_counting.proofs.WalkLaws.{start-choice, start-says, start-room, walking}
+use Rattle.judge_counting.proofs.WalkLaws.{start-choice, start-says, start-room, count-done, walking}
 use Rattle.judge_counting.proofs.count_all.Statement.{statement}
 use Rattle.judge_counting.proofs.count_all.Tie as tie
 
@@ -39,7 +39,10 @@ walk-requires c κs =
     )
 
 returns : tie.Need-returns
-returns c = search walking
+returns c =
+    let start = c .before .before .before .before .before .before .before .before .before .before .before .before .before .before .before .before .before .before in
+    let o = c .before .before .before .before .before .before .before .before .before .before .before .before .before .before .before .order .ensures in
+    count-done _ _ _ _ (start .pre .0) o _ _ _ _ _ refl refl refl (c .before .walk .ensures)
 
 pub count-all-spec : {M : Type 1} → statement M
 count-all-spec =

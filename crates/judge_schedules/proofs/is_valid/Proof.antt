@@ -1,41 +1,58 @@
--- `judge_schedules::is_valid` meets its contract: a union is part of a set exactly if both its parts are.
-use Rattle.judge_schedules.proofs.HalfLaws.{halves}
+-- `judge_schedules::is_valid` meets its contract. The invariant: of the flagged writes, those that are no longer left have their rows flagged.
+use Rattle.relation.proofs.MemberLaws.{Left}
+use Rattle.judge_schedules.proofs.ValidLaws.{Covered, asking}
 use Rattle.judge_schedules.proofs.is_valid.Statement.{statement}
 use Rattle.judge_schedules.proofs.is_valid.Tie as tie
 
-first-flags-requires : tie.Need-first-flags-requires
-first-flags-requires c κs = search halves
+abbrev Inv-loop : tie.InvT-loop
+Inv-loop rows n s left₀ left = Left (Covered rows s) s left
 
-mul-first : tie.Need-mul-first
-mul-first c = search halves
+abbrev μ-loop : tie.MeasureT-loop
+μ-loop rows n s left₀ left = left
 
-shared-slice-read-first : tie.Need-shared-slice-read-first
-shared-slice-read-first c = search halves
+loop-holds : tie.Need-loop-holds Inv-loop μ-loop
+loop-holds c = search asking
 
-returns : tie.Need-returns
-returns c = search halves
+highest-requires : tie.Need-highest-requires Inv-loop μ-loop
+highest-requires c κs = search asking
 
-shr-next : tie.Need-shr-next
-shr-next c = search halves
+mul-row : tie.Need-mul-row Inv-loop μ-loop
+mul-row c = search asking
 
-mul-next : tie.Need-mul-next
-mul-next c = search halves
+shared-slice-read-row : tie.Need-shared-slice-read-row Inv-loop μ-loop
+shared-slice-read-row c = search asking
 
-shared-slice-read-next : tie.Need-shared-slice-read-next
-shared-slice-read-next c = search halves
+returns : tie.Need-returns Inv-loop μ-loop
+returns c = search asking
 
-returns-2 : tie.Need-returns-2
-returns-2 c = search halves
+shl-without : tie.Need-shl-without Inv-loop μ-loop
+shl-without c = search asking
+
+without-requires : tie.Need-without-requires Inv-loop μ-loop
+without-requires c κs = search asking
+
+loop-less : tie.Need-loop-less Inv-loop μ-loop
+loop-less c = search asking
+
+loop-again : tie.Need-loop-again Inv-loop μ-loop
+loop-again c = search asking
+
+returns-2 : tie.Need-returns-2 Inv-loop μ-loop
+returns-2 c = search asking
 
 pub is-valid-spec : {M : Type 1} → statement M
 is-valid-spec =
     tie.close
     (tie.spec
-    first-flags-requires
-    mul-first
-    shared-slice-read-first
+    Inv-loop
+    μ-loop
+    loop-holds
+    highest-requires
+    mul-row
+    shared-slice-read-row
     returns
-    shr-next
-    mul-next
-    shared-slice-read-next
+    shl-without
+    without-requires
+    loop-less
+    loop-again
     returns-2)

@@ -16,7 +16,7 @@ fn counts(rules: &[Rule], test: &Test) -> (u64, u64) {
     (judgement.valid, judgement.bad)
 }
 
-/// The same counts and the same lowest bad schedule.
+/// The same counts and the same bad schedule shown.
 fn same(file: &File, seed: u64) {
     for test in &file.tests {
         let by_schedules = judge::judge_test(&file.rules, test);

@@ -5,7 +5,7 @@ use crate::cyclic::cyclic;
 use crate::file::{read, File, Test};
 use crate::find::{candidates, find, members, sets_that_do};
 use crate::generate::{self, Values};
-use crate::judge::{is_bad, judge_test, Judgement};
+use crate::judge::{judge_test, Judgement};
 use crate::random::Random;
 use crate::refusal::plain;
 use crate::schedule::{disk_of, flagged};
@@ -31,12 +31,16 @@ fn judge_by_pairs(rules: &[Rule], test: &Test) -> Judgement {
         bad: 0,
         shown: 0,
     };
-    for schedule in (0..1 << test.main.len()).rev() {
-        if valid_by_pairs(rules, test, schedule) {
-            found.valid += 1;
-            if !consistent(&test.checks, &disk_of(&initial, &test.main, schedule)) {
-                found.bad += 1;
-                found.shown = schedule;
+    // The schedules from the least to be shown to the most.
+    for ones in (0..=test.main.len()).rev() {
+        for schedule in (0..1u64 << test.main.len()).rev() {
+            let is_next = schedule.count_ones() as usize == ones;
+            if is_next && valid_by_pairs(rules, test, schedule) {
+                found.valid += 1;
+                if !consistent(&test.checks, &disk_of(&initial, &test.main, schedule)) {
+                    found.bad += 1;
+                    found.shown = schedule;
+                }
             }
         }
     }
@@ -51,8 +55,6 @@ fn judging_by_pairs() {
         for test in &file.tests {
             let judgement = judge_test(&file.rules, test);
             assert_eq!(judgement, judge_by_pairs(&file.rules, test), "seed {seed}");
-            let shown_is_bad = is_bad(&file.rules, test, judgement.shown);
-            assert_eq!(shown_is_bad, judgement.bad > 0, "seed {seed}");
         }
     }
 }

@@ -9,5 +9,6 @@ mod log;
 mod reading;
 mod runs;
 mod samples;
+mod smallest;
 mod soundness;
 mod states;

@@ -1,0 +1,45 @@
+-- Going through the members of a set, from the highest down: what is known of those that are no longer left.
+use mathlib.Core.Path.{_≡_, refl, sym, _∙_}
+use mathlib.Core.Bool.{Bool, true, false}
+use Prim.Native.Nat.{ℕ, _*_, _%_, _^_, _<_}
+use native.Mathlib.Omega.{arith}
+use lib.Dec.{eqb, ltb}
+use borrow.Author.Needs.{needs}
+use borrow.Author.Tests.{eqb-true, eq-eqb, ltb-true, ltb-false}
+use Rattle.relation.specs.Bits.{bit, without, Highest}
+use Rattle.relation.proofs.BitLaws.{bit-zero, bit-pow, power-is}
+use Rattle.relation.proofs.ListLaws.{clash, untrue}
+use Rattle.relation.proofs.SetLaws.{without-member, member-without, without-falls}
+
+module _ (P : ℕ → Type 0) (set : ℕ) where
+  pub record Left (left : ℕ) : Type 0 where
+    pub part : (j : ℕ) → bit left j ≡ true → bit set j ≡ true
+    pub done : (j : ℕ) → bit set j ≡ true → bit left j ≡ false → P j
+
+  pub left-all : Left set
+  left-all = record { part = λ j e. e; done = λ j e f. clash (bit set j) e f }
+
+  pub left-none : (left : ℕ) → Left left → left ≡ 0 → (j : ℕ) → bit set j ≡ true → P j
+  left-none left l z j e = l .done j e (rw z (bit-zero j))
+
+  module _ (left h next : ℕ) (l : Left left) (top : Highest left h) (b : h < 64) (q : next ≡ without left (1 * 2 ^ h % 18446744073709551616)) where
+    pub left-next : P h → Left next
+    unfolding Highest
+    left-next p = rw q (record {
+      part = λ j e. l .part j (without-member left _ j e .0);
+      done = λ j e f. go j e f (eqb j h) refl;
+    })
+      where
+        go : (j : ℕ) → bit set j ≡ true → bit (without left (1 * 2 ^ h % 18446744073709551616)) j ≡ false → (t : Bool) → eqb j h ≡ t → P j
+        go j e f true z = rw (eqb-true j h z) p
+        go j e f false z =
+            l .done j e
+            (untrue (bit left j)
+            (λ g. clash (bit (without left (1 * 2 ^ h % 18446744073709551616)) j) (member-without left _ j (below j g (ltb h j) refl) g (rw (power-is h b) (bit-pow h j ∙ z))) f))
+          where
+            below : (i : ℕ) → bit left i ≡ true → (u : Bool) → ltb h i ≡ u → i < 64
+            below i g true k = clash (bit left i) g (top .1 i (ltb-true h i k))
+            below i g false k = let m = ltb-false h i k in omega (arith, m)
+
+pub left-less : (left h next : ℕ) → Highest left h → h < 64 → next ≡ without left (1 * 2 ^ h % 18446744073709551616) → next < left
+left-less left h next top b q = rw q (without-falls left _ h b (unfold Highest in top .0) (rw (power-is h b) (bit-pow h h ∙ eq-eqb h h refl)))
