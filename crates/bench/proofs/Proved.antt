@@ -25,7 +25,7 @@ use Rattle.model.specs.Rules.{stands, matches, dependsOn, known}
 use Rattle.model.specs.Cyclic.{noRule, leads, has, equalLeads, meets, cyclic}
 use Rattle.model.specs.Schedule.{store, run, written, noWrite, valid}
 use Rattle.model.specs.Check.{damaged, rangeHolds, holds, consistent}
-use Rattle.model.specs.Test.{Test, File, file, initialDisk, Bad, bad, testHolds, smallestBad, schedules, countBelow, validCount, badCount}
+use Rattle.model.specs.Test.{Test, File, file, initialDisk, Bad, bad, testHolds, smallestBad, shownOf, schedules, countBelow, validCount, badCount}
 use Rattle.model.specs.Find.{before, picked, pairing, inserted, fromWrite, fromTrace, candidatesOf, suffices, preferred, chosen}
 use Rattle.model.proofs.CountLaws.{count-all}
 use Rattle.model.proofs.TestLaws.{bad-true, true-bad, bad-fails, count-holds, computed-smallest}
@@ -33,7 +33,10 @@ use Rattle.file_format.specs.Bytes.{half, word, blockIn, writeBytes, ruleBytes}
 use Rattle.file_format.specs.Encode.{fieldBytes, ruleFields, writeFields, checkFieldBytes, checkFields, testBytes, testsBytes, fileBytes}
 use Rattle.file_format.specs.File.{isTag, isCheck, bodyLength, ruleOf, writeOf, checkOf, countsOf, outOfOrder, overTest, overLimit, ruleFault, bodyFault, faultOf, grown, finished, readFrom, nothing, readOf}
 use Rattle.rule_cyclelaws.proofs.Examples.{K5-not-cyclic, K6-cyclic}
-use Rattle.judge_cases.specs.Judge.{Case, caseOf, caseIn}
+use Rattle.judge_search.specs.Verdict.{verdictBy}
+use Rattle.judge_cases.specs.Judge.{Case, caseOf, caseIn, judgementOf, verdictOf}
+use Rattle.judge_cases.specs.Examples.{four-not-three, nothing-stored}
+use Rattle.judge_answers.specs.Judged.{judgementCode, verdictCode, judgeAnswer, verdictAnswer}
 use Rattle.log_get.specs.Puts.{start, after, putWrites, writesOf, afterAll, logTest, putsOf, emptyPut, Traced, traced, traceOf}
 use Rattle.log_get.specs.Get.{keyed, getFrom, getOf}
 use Rattle.log_get.specs.Theorem.{filled, Meets}
@@ -218,9 +221,16 @@ all-valid : (t : Test) → validCount [] t ≡ schedules t
 unfolding validCount
 all-valid t = count-all (valid [] (t .main)) (schedules t) (unruled (t .main))
 
+-- a case of [4], its file and its answers
+shows : Case → ℕ
+unfolding caseRead four-not-three nothing-stored judgeAnswer verdictAnswer judgementCode verdictCode judgementOf verdictOf verdictBy shownOf
+shows c = judgeAnswer (answer c)
+
 pub requested : Requested
 requested =
     record {
+      four-shown = (unfold shows in refl, unfold shows in refl, unfold shows in refl);
+      none-shown = (unfold shows in refl, unfold shows in refl, unfold shows in refl);
       fails = (range _ _ _ (λ disk. unfold judged in refl), range _ _ _ (λ disk. unfold judged in refl), range _ _ _ (λ disk. unfold judged in refl));
       still-holds = (range _ _ _ (λ disk. unfold judged in refl), range _ _ _ (λ disk. unfold judged in refl));
       get-refused = ((λ key. unfold gets in refl), (λ key. unfold gets in refl), (λ key. unfold gets in refl), λ key. unfold gets in refl);

@@ -2,7 +2,7 @@
 -- `Sheet` is the table, one field a line; `proofs/Proved.antt: sheet` is the theorem over it. `Unstarred` has the lines that need no proof, and
 -- what the judging program prints; `proofs/Proved.antt: unstarred` proves them all the same. `Requested` has worked lines of document 02, and
 -- `proofs/Proved.antt: requested` proves these.
-use Prim.Native.Nat.{ℕ, _*_, _≤_}
+use Prim.Native.Nat.{ℕ, _+_, _*_, _^_, _≤_}
 use mathlib.Core.Path.{_≡_}
 use mathlib.Core.Bool.{Bool, true, false}
 use mathlib.Core.List.{List, [], _∷_, _++_}
@@ -20,7 +20,9 @@ use Rattle.model.specs.Test.{Test, test, file, schedules, TestHolds, Bad, Small
 use Rattle.rule_cyclelaws.specs.Examples.{rule}
 use Rattle.file_format.specs.Encode.{ruleFields, testBytes, fileBytes}
 use Rattle.file_format.specs.File.{readOf}
-use Rattle.judge_cases.specs.Judge.{caseIn}
+use Rattle.judge_cases.specs.Judge.{Case, caseIn}
+use Rattle.judge_cases.specs.Examples.{four-not-three, nothing-stored}
+use Rattle.judge_answers.specs.Judged.{judgeAnswer, verdictAnswer}
 use Rattle.log_get.specs.Puts.{Put, start, writesOf, logTest, traced, traceOf}
 use Rattle.log_get.specs.Get.{getOf}
 use Rattle.log_get.specs.Theorem.{filled, Meets}
@@ -214,7 +216,16 @@ FindRefused rules tests number = (buffer : List ℕ) → findOf (fileBytes (file
 unfoldable pub puts : ℕ → List ℕ
 puts n = replicate (4 * n) 1
 
+-- judging test 1 of the file of one case: what is judged, the judge's answer in one number and the verdict's
+abbrev pub Shows : Case → ℕ → ℕ → Type 0
+Shows c judged decided =
+    (caseIn (fileBytes (file (c .rules) (c .test ∷ []))) 1 ≡ answer c) × (judgeAnswer (answer c) ≡ judged) × (verdictAnswer (answer c) ≡ decided)
+
 pub record Requested : Type 0 where
+  -- [4] of three writes {1,2} is bad and {3} is: 8 valid, 5 bad, schedule 4 and not 3, which has more flags
+  pub four-shown : Shows four-not-three (8 + 2 ^ 21 * 5 + 2 ^ 42 * 4) 5
+  -- where no write is flagged, and that is bad, schedule 0 is shown: 2 valid, 1 bad, and the verdict is 1
+  pub none-shown : Shows nothing-stored (2 + 2 ^ 21 * 1) 1
   -- [6] the range check fails whenever head exceeds tail: three such blocks, at any address
   pub fails : RangeAt 6 5 false × RangeAt 256 255 false × RangeAt 65535 65534 false
   -- (0,0) and (300,300) hold, as (5,5) of K12 does

@@ -10,7 +10,7 @@ use borrow.Author.Needs.{needs}
 use borrow.Author.Tests.{eq-eqb, ne-eqb, not-true, not-false}
 use Rattle.relation.specs.Bits.{withBit, maskOf}
 use Rattle.relation.specs.Lists.{allBelow}
-use Rattle.relation.proofs.ListLaws.{allBelow-true, and-intro}
+use Rattle.relation.proofs.ListLaws.{allBelow-not, and-intro}
 use Rattle.model.specs.Test.{countBelow}
 use Rattle.file_format.specs.Bytes.{byte}
 use Rattle.cache_model.specs.State.{acceptedCount, storedIn}
@@ -35,11 +35,7 @@ module _ (p : ℕ → Bool) where
       sym (rw q at h)
 
   not-all : (n i : ℕ) → i < n → p i ≡ false → false ≡ allBelow p n
-  not-all n i h f = go (allBelow p n) refl
-    where
-      go : (t : Bool) → allBelow p n ≡ t → false ≡ t
-      go true q = sym f ∙ allBelow-true p n q i h
-      go false q = refl
+  not-all n i h f = sym (allBelow-not p n i h f)
 
   pub all-stop : (n i : ℕ) (b : Bool) → i < n → b ≡ p i → not b ≡ true → false ≡ allBelow p n
   all-stop n i b h e t = not-all n i h (sym e ∙ not-true b t)

@@ -1,6 +1,6 @@
 -- No answer reaches bit 63: each is bounded by the limits of files, tests, states and buffers. So are a judge's counts, and fit into their bits.
 use Prim.Native.Nat.{ℕ, zero, suc, _+_, _*_, _-_, _/_, _%_, _^_, _≤_, _<_}
-use mathlib.Core.Path.{_≡_, refl, sym, _∙_}
+use mathlib.Core.Path.{_≡_, refl, sym}
 use mathlib.Core.Bool.{Bool, true, false, cond, not, _&&_, _||_, false≢true}
 use mathlib.Core.List.{List, [], _∷_, _++_, List·Memᴰ, List·Memᴰ·head, List·Memᴰ·tail}
 use mathlib.Core.Option.{Option, none, some}
@@ -30,7 +30,7 @@ use Rattle.file_format.specs.Held.{noTest, testOf, extentOf}
 use Rattle.file_format.specs.Scan.{Places, scanOf}
 use Rattle.file_reader.specs.Limits.{TestLimits}
 use Rattle.file_reader.proofs.CallerLaws.{holding-limits, refused-limits}
-use Rattle.judge_search.specs.Search.{verdictBy}
+use Rattle.judge_search.specs.Verdict.{verdictBy}
 use Rattle.judge_cases.specs.Judge.{Case, caseOf, caseIn, judgementOf, verdictOf}
 use Rattle.judge_answers.specs.Judged.{countBits, judgementCode, partsOf, verdictCode, judgeAnswer, verdictAnswer}
 use Rattle.file_calls.specs.File.{sizes, readAnswer, packedExtent, Packed, located, locateAnswer, cyclicIn, cyclicAnswer}

@@ -1,21 +1,19 @@
 -- `chosenBelow` gives the number that is preferred among those that pass, or none if none passes. With the cut down to candidates:
 -- a chosen set is the smallest of any sufficient rules, and none is chosen exactly if no rules suffice.
 use mathlib.Core.Path.{_≡_, refl, sym, subst, _∙_}
-use mathlib.Core.Logic.{_⊎_, inl, inr, ⊎-elim}
-use mathlib.Core.Bool.{Bool, true, false, cond, not, false≢true, true≢false}
+use mathlib.Core.Logic.{_⊎_, inl, inr}
+use mathlib.Core.Bool.{Bool, true, false, not, false≢true, true≢false}
 use mathlib.Core.List.{List, [], _∷_}
 use mathlib.Core.Option.{Option, none, some}
-use Prim.Native.Nat.{ℕ, zero, suc, _+_, _/_, _%_, _^_, _≤_, _<_}
+use Prim.Native.Nat.{ℕ, _+_, _/_, _%_, _^_, _≤_, _<_}
 use native.Mathlib.Nat.{pow-suc}
 use native.Mathlib.Omega.{arith}
 use lib.Count.{ones, ones-step}
-use lib.Dec.{leb}
 use lib.ListN.{length}
 use borrow.Author.Tests.{leb-true, leb-false, not-true}
-use Rattle.relation.specs.Best.{BestOf}
 use Rattle.relation.specs.Lists.{all}
 use Rattle.relation.proofs.BitLaws.{two-cases}
-use Rattle.relation.proofs.BestLaws.{best-below}
+use Rattle.relation.proofs.BestLaws.{BestOf, best-below}
 use Rattle.relation.proofs.ListLaws.{and-left, and-right, and-intro, all-true, all-intro}
 use Rattle.model.specs.declared.Rule.{Rule}
 use Rattle.model.specs.Rules.{Known}

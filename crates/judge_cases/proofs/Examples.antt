@@ -26,7 +26,7 @@ use Rattle.rule_cyclelaws.proofs.Examples.{equal-cyclic}
 use Rattle.file_format.specs.Bytes.{half, word}
 use Rattle.file_format.specs.Held.{noTest}
 use Rattle.file_format.specs.File.{isTag, isCheck, bodyLength, ruleOf, writeOf, checkOf, countsOf, outOfOrder, overTest, overLimit, ruleFault, bodyFault, faultOf, grown, finished, readFrom, nothing, readOf}
-use Rattle.judge_search.specs.Search.{verdictBy}
+use Rattle.judge_search.specs.Verdict.{verdictBy}
 use Rattle.judge_cases.specs.Judge.{caseIn, judgementOf, verdictOf}
 use Rattle.judge_cases.specs.Theorem.{NoSuchTest, caseOfTest, CaseFor}
 use Rattle.judge_cases.specs.Examples.{K3-bytes, K3-test, K3-file, ring-bytes, JudgedFiles, four-not-three, nothing-stored, SmallestShown}

@@ -1,5 +1,5 @@
 -- From the loops' answers to the judge's: the rows are the rules', the disk is the test's initial one, the checks are the test's.
-use mathlib.Core.Path.{_≡_, refl, sym, ap, subst, _∙_}
+use mathlib.Core.Path.{_≡_, refl, sym, ap, _∙_}
 use mathlib.Core.Bool.{Bool, true, false, cond, not, _&&_}
 use mathlib.Core.List.{List}
 use mathlib.Core.Option.{Option, none, some}
@@ -24,7 +24,7 @@ use Rattle.model.specs.Answer.{Outcome, answer, refused}
 use Rattle.model.specs.Rules.{dependsOn}
 use Rattle.model.specs.Cyclic.{cyclic}
 use Rattle.model.specs.Schedule.{valid}
-use Rattle.model.specs.Test.{Test, File, bad, Bad, smallestBad, shownOf, countBelow, validCount, badCount}
+use Rattle.model.specs.Test.{Test, File, bad, Bad, smallestBad, shownOf, validCount, badCount}
 use Rattle.model.proofs.CountLaws.{count-ext, count-most}
 use Rattle.model.proofs.TestLaws.{computed-smallest}
 use Rattle.file_format.specs.declared.Extent.{Extent}
@@ -47,7 +47,8 @@ use Rattle.judge_rows.proofs.RowLaws.{valid-rows}
 use Rattle.judge_counting.specs.declared.Judgement.{Judgement}
 use Rattle.judge_search.specs.declared.Verdict.{Verdict}
 use Rattle.judge_counting.specs.Tally.{tallied}
-use Rattle.judge_search.specs.Search.{verdictBy, verdictBelow}
+use Rattle.judge_search.specs.Verdict.{verdictBy}
+use Rattle.judge_search.specs.Search.{verdictBelow}
 use Rattle.judge_cases.specs.declared.Cases.{Cases}
 use Rattle.judge_cases.specs.declared.Cases.the-variants.{Tests}
 use Rattle.judge_cases.specs.declared.Cases.the-variants as Cases

@@ -20,7 +20,7 @@ use Rattle.rule_cyclelaws.proofs.CyclicLaws.{cyclic-exactly}
 use Rattle.file_format.specs.File.{readOf}
 use Rattle.file_reader.proofs.CallerLaws.{refused-limits, holding-limits}
 use Rattle.judge_search.specs.declared.Verdict.the-variants.{Holds, Fails}
-use Rattle.judge_search.specs.Search.{verdictBy}
+use Rattle.judge_search.specs.Verdict.{verdictBy}
 use Rattle.judge_cases.specs.Judge.{Case, caseOf, caseIn, judgementOf, verdictOf}
 use Rattle.judge_cases.specs.Theorem.{NoSuchTest, caseOfTest, CaseFor, NumbersSay, VerdictSays, JudgedAsMeant}
 

@@ -21,7 +21,7 @@ use Rattle.rule_match.specs.Held.{rulesOf}
 use Rattle.judge_counting.specs.declared.Judgement.{Judgement}
 use Rattle.judge_search.specs.declared.Verdict.{Verdict}
 use Rattle.judge_search.specs.declared.Verdict.the-variants.{Holds, Fails}
-use Rattle.judge_search.specs.Search.{verdictBy}
+use Rattle.judge_search.specs.Verdict.{verdictBy}
 use Rattle.judge_cases.specs.declared.Cases.{Cases}
 use Rattle.judge_cases.specs.declared.Cases.the-variants.{Tests}
 use Rattle.judge_cases.specs.declared.Cases.the-variants as Cases

@@ -1,6 +1,6 @@
 -- The steps of the checks, in the terms of the code: one block of a range more, one check more.
 use mathlib.Core.Path.{_≡_, refl, sym, ap, _∙_}
-use mathlib.Core.Bool.{Bool, true, false, not, _&&_, false≢true}
+use mathlib.Core.Bool.{Bool, true, false, not, _&&_}
 use mathlib.Core.List.{List, [], _∷_}
 use Prim.Native.Nat.{ℕ, suc, _+_, _-_, _≤_, _<_}
 use native.Mathlib.Numerals.{add-one}
@@ -12,7 +12,7 @@ use lib.Seq.{getD-take, take-suc, length-take-le}
 use borrow.Author.Needs.{needs}
 use borrow.Author.Tests.{eq-eqb, ne-eqb, le-leb, lt-leb, le-ltb, lt-ltb, not-true, not-false}
 use Rattle.relation.specs.Lists.{allBelow, all}
-use Rattle.relation.proofs.ListLaws.{allBelow-true, and-intro, all-true, all-append, index-mem}
+use Rattle.relation.proofs.ListLaws.{allBelow-not, and-intro, all-true, all-append, index-mem}
 use Rattle.model.specs.Limits.{diskBlocks, lastBlock, mostChecks}
 use Rattle.model.specs.declared.Check.{Check}
 use Rattle.model.specs.declared.Check.the-variants.{Range, Pointer}
@@ -38,13 +38,6 @@ module _ (head tail : ℕ) where
 -- the blocks from head up to k are not empty
 abbrev pub Full : List ℕ → ℕ → ℕ → Type 0
 Full d head k = allBelow (λ x. not (empty (blockAt d (head + x)))) (k - head) ≡ true
-
-not-all : (p : ℕ → Bool) (n k : ℕ) → k < n → p k ≡ false → allBelow p n ≡ false
-not-all p n k h e = go (allBelow p n) refl
-  where
-    go : (b : Bool) → allBelow p n ≡ b → allBelow p n ≡ false
-    go true q = absurd (false≢true (sym e ∙ allBelow-true p n q k h))
-    go false q = q
 
 module _ (d : List ℕ) (head tail : ℕ) where
   -- no block: head and tail are equal, or damaged
@@ -72,7 +65,7 @@ module _ (d : List ℕ) (head tail : ℕ) where
   range-gap k h l i j e =
       let z : head + (k - head) ≡ k = omega arith in
       rw (inside h l)
-      (sym (not-all (λ x. not (empty (blockAt d (head + x)))) (tail - head) (k - head) (omega arith) (rw (z, e))))
+      (sym (allBelow-not (λ x. not (empty (blockAt d (head + x)))) (tail - head) (k - head) (omega arith) (rw (z, e))))
 
   pub range-more : (k : ℕ) → head ≤ k → Full d head k → (getD d k 0 ≡ 0 → ⊥) → Full d head (k + 1)
   unfolding allBelow empty

@@ -9,21 +9,21 @@ use native.Mathlib.Omega.{arith}
 use lib.Bits.{bitAnd, bitOr, or-lt}
 use lib.ListN.{getD}
 use lib.Pow.{pow-mono, pow-pos}
-use lib.Dec.{eqb, ltb}
+use lib.Dec.{eqb}
 use borrow.Author.Needs.{needs}
-use borrow.Author.Tests.{eqb-true, eq-eqb, ltb-true, ltb-false, not-true}
+use borrow.Author.Tests.{eqb-true, eq-eqb, not-true}
 use Rattle.relation.specs.Bits.{bit, withBit, without, Highest}
 use Rattle.relation.specs.Union.{partOf}
 use Rattle.relation.proofs.BitLaws.{bit-and, bit-or, bit-pow, bit-with, bit-zero}
-use Rattle.relation.proofs.ListLaws.{untrue, or-cases, or-left, or-right, and-left, and-right, and-intro, bool-equal, allBelow-true, allBelow-intro, clash}
-use Rattle.relation.proofs.MaskLaws.{implies, implied}
+use Rattle.relation.proofs.ListLaws.{untrue, or-cases, or-left, or-right, and-left, and-right, and-intro, bool-equal, clash}
 use Rattle.relation.proofs.UnionLaws.{bits-same, bit-ones, part-true, part-intro}
+use Rattle.relation.proofs.MemberLaws.{member-below}
 use Rattle.relation.proofs.SetLaws.{bit-without, without-less}
-use Rattle.relation.proofs.WithoutLaws.{bit-most}
 use Rattle.model.specs.Limits.{mostMain, mostSchedules}
 use Rattle.model.specs.Test.{countBelow}
 use Rattle.model.proofs.CountLaws.{count-ext, count-most, count-split, count-one, count-turned}
 use Rattle.judge_schedules.specs.Valid.{validRows}
+use Rattle.judge_schedules.proofs.ValidLaws.{valid-row, row-valid}
 use Rattle.judge_closed.specs.Closed.{Order, between, validBetween, Choice, alone}
 
 -- ---- Booleans
@@ -35,13 +35,10 @@ false-not b e = rw e
 
 module _ (dependencies : List ℕ) (n s : ℕ) where
   pub valid-has : validRows dependencies n s ≡ true → (i j : ℕ) → i < n → bit s i ≡ true → bit (getD dependencies i 0) j ≡ true → bit s j ≡ true
-  unfolding validRows
-  valid-has v i j h e f =
-      part-true (getD dependencies i 0) s j (implies (bit s i) (partOf (getD dependencies i 0) s) (allBelow-true (λ i. not (bit s i) || partOf (getD dependencies i 0) s) n v i h) e) f
+  valid-has v i j h e f = part-true (getD dependencies i 0) s j (valid-row dependencies n s v i h e) f
 
   pub has-valid : ((i j : ℕ) → i < n → bit s i ≡ true → bit (getD dependencies i 0) j ≡ true → bit s j ≡ true) → validRows dependencies n s ≡ true
-  unfolding validRows
-  has-valid f = allBelow-intro (λ i. not (bit s i) || partOf (getD dependencies i 0) s) n (λ i h. implied (bit s i) (partOf (getD dependencies i 0) s) (λ e. part-intro (getD dependencies i 0) s (λ j b. f i j h e b)))
+  has-valid f = row-valid dependencies n s (λ i h e. part-intro (getD dependencies i 0) s (λ j b. f i j h e b))
 
 module _ (chosen free s : ℕ) where
   pub between-has : between chosen free s ≡ true → (i : ℕ) → bit chosen i ≡ true → bit s i ≡ true
@@ -70,14 +67,6 @@ module _ (dependencies : List ℕ) (n chosen free s : ℕ) where
   pub both-between : validRows dependencies n s ≡ true → between chosen free s ≡ true → validBetween dependencies n chosen free s ≡ true
   unfolding validBetween
   both-between v b = and-intro (validRows dependencies n s) (between chosen free s) v b
-
--- a member of a mask of n bits is below n
-pub member-below : (m n i : ℕ) → m < 2 ^ n → bit m i ≡ true → i < n
-member-below m n i h e = go (ltb i n) refl
-  where
-    go : (t : Bool) → ltb i n ≡ t → i < n
-    go true q = ltb-true i n q
-    go false q = let p = pow-mono {i = n} {j = i} (ltb-false i n q) in let b = bit-most m i e in absurd (omega (arith, p, b, h))
 
 pub mask-fits : (m n : ℕ) → n ≤ mostMain → m < 2 ^ n → m < 2 ^ 64
 mask-fits m n l h = let p = pow-mono {i = n} {j = 64} (omega arith) in omega (arith, p, h)

@@ -21,12 +21,13 @@ use Rattle.relation.specs.Transitive.{Plus, one, more}
 use Rattle.relation.proofs.BitLaws.{power-is, bit-with, bit-mod, bit-mask, mask-below}
 use Rattle.relation.proofs.FiniteLaws.{closed-plus, plus-closed}
 use Rattle.relation.proofs.ListLaws.{or-cases, or-left, or-right, bool-equal}
+use Rattle.relation.proofs.MemberLaws.{member-below}
 use Rattle.relation.proofs.TableLaws.{filled-none, filled-more, filled-all}
 use Rattle.relation.proofs.TransitiveLaws.{plus-trans}
 use Rattle.model.specs.Limits.{mostMain}
 use Rattle.judge_schedules.specs.Valid.{validRows, Narrow}
 use Rattle.judge_closed.specs.Closed.{Orders, reachedRow, reachingRow, alone}
-use Rattle.judge_closed.proofs.ClosedLaws.{valid-has, has-valid, member-below}
+use Rattle.judge_closed.proofs.ClosedLaws.{valid-has, has-valid}
 
 -- ---- the rows
 

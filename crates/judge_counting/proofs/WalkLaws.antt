@@ -13,7 +13,8 @@ use lib.ListN.{getD, take}
 use lib.Pow.{pow-mono, pow-pos}
 use borrow.Author.Needs.{needs}
 use borrow.Author.Tests.{leb-true, leb-false}
-use Rattle.relation.specs.Best.{fewer, smallestBelow, setWords, rank}
+use Rattle.relation.specs.Best.{fewer, smallestBelow}
+use Rattle.relation.specs.Rank.{setWords, rank}
 use Rattle.relation.specs.Bits.{bit, without}
 use Rattle.relation.proofs.BestLaws.{best-same, passes-none, least-smallest, rank-set, part-rank}
 use Rattle.relation.proofs.BitLaws.{power-is}

@@ -4,7 +4,8 @@ use mathlib.Core.Path.{_≡_}
 use mathlib.Core.Logic.{_⊎_}
 use mathlib.Core.Bool.{Bool, true, not, _&&_}
 use mathlib.Core.List.{List}
-use Rattle.relation.specs.Best.{smallestBelow, setWords, rank}
+use Rattle.relation.specs.Best.{smallestBelow}
+use Rattle.relation.specs.Rank.{setWords, rank}
 use Rattle.model.specs.declared.Check.{Check}
 use Rattle.model.specs.Limits.{mostSchedules}
 use Rattle.model.specs.Test.{shownOf, countBelow}

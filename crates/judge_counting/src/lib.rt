@@ -8,7 +8,7 @@ use model::MOST_INITIAL;
 ghost use mathlib.Core.Path.{_≡_};
 ghost use Prim.Native.Nat.{_+_, _^_, _<_, _≤_};
 ghost use lib.ListN.{take};
-ghost use Rattle.relation.specs.Best.{setWords};
+ghost use Rattle.relation.specs.Rank.{setWords};
 ghost use Rattle.model.specs.Limits.{mostMain, mostChecks, mostSchedules};
 ghost use Rattle.judge_disks.specs.Packed.{heldFrom};
 ghost use Rattle.judge_schedules.specs.Valid.{validRows, badRows, Narrow};
@@ -16,7 +16,8 @@ ghost use Rattle.judge_closed.specs.Closed.{Order, validBetween, Choice};
 ghost use Rattle.judge_settled.specs.Settled.{Says, allHold, leastOf, Ready, Runs};
 ghost use Rattle.judge_counting.specs.Tally.{tallied, withGood, withBad, badBetween, Room, Gains};
 
-// The judge's three numbers: valid schedules, bad ones, and the smallest of these, or 0 where there is none.
+// The judge's three numbers: valid schedules, bad ones, and the smallest of these by relation::rank, or 0
+// where there is none.
 pub struct Judgement {
     pub valid: u64,
     pub bad: u64,

@@ -1,16 +1,15 @@
 -- Validity by rows, asked write by write; and what a write brings: a set that is widened by its members' rows until it is valid is part of every
 -- valid schedule that has its first member.
-use mathlib.Core.Path.{_≡_, refl, sym, ap, subst, _∙_}
+use mathlib.Core.Path.{_≡_, refl, sym, _∙_}
 use mathlib.Core.Logic.{⊎-elim}
 use mathlib.Core.Bool.{Bool, true, false, not, _||_}
 use mathlib.Core.List.{List}
 use Prim.Native.Nat.{ℕ, _+_, _-_, _*_, _%_, _^_, _≤_, _<_}
-use native.Mathlib.Numerals.{add-one}
 use native.Mathlib.Omega.{arith}
 use lib.Bits.{bitAnd, bitOr, or-lt}
 use lib.Dec.{eqb, ltb}
 use lib.ListN.{length, getD, set}
-use lib.Pow.{pow-mono, pow-lt}
+use lib.Pow.{pow-lt}
 use lib.Seq.{getD-set-same, getD-set-other}
 use borrow.Author.Needs.{needs}
 use borrow.Author.Tests.{eq-eqb, ne-eqb, eqb-true, ltb-true, ltb-false, not-true, not-false}
@@ -18,10 +17,10 @@ use Rattle.relation.specs.Bits.{bit, without, Highest}
 use Rattle.relation.specs.Union.{partOf}
 use Rattle.relation.proofs.BestLaws.{part-most}
 use Rattle.relation.proofs.BitLaws.{bit-or, bit-pow, power-is}
-use Rattle.relation.proofs.ListLaws.{allBelow-true, allBelow-intro, bool-equal, untrue, or-left, or-right, or-cases, clash, below-suc}
+use Rattle.relation.proofs.ListLaws.{allBelow-true, allBelow-intro, bool-equal, untrue, or-left, or-right, or-cases, clash}
 use Rattle.relation.proofs.MaskLaws.{implies, implied}
-use Rattle.relation.proofs.MemberLaws.{Left, left-all, left-none, left-next, left-less}
-use Rattle.relation.proofs.UnionLaws.{part-true, part-intro, bit-past}
+use Rattle.relation.proofs.MemberLaws.{member-below, Left, left-all, left-none, left-next, left-less}
+use Rattle.relation.proofs.UnionLaws.{part-true, part-intro}
 use Rattle.model.specs.Limits.{mostMain}
 use Rattle.judge_schedules.specs.Valid.{validRows, Narrow, Widens, Brings, Completes}
 
@@ -35,14 +34,6 @@ module _ (rows : List ℕ) (n s : ℕ) where
   pub row-valid : ((i : ℕ) → i < n → bit s i ≡ true → partOf (getD rows i 0) s ≡ true) → validRows rows n s ≡ true
   unfolding validRows
   row-valid f = allBelow-intro (λ i. not (bit s i) || partOf (getD rows i 0) s) n (λ i h. implied (bit s i) _ (λ e. f i h e))
-
--- a member of a set below 2 ^ n is below n
-pub member-below : (n s i : ℕ) → s < 2 ^ n → bit s i ≡ true → i < n
-member-below n s i h e = go (ltb i n) refl
-  where
-    go : (t : Bool) → ltb i n ≡ t → i < n
-    go true q = ltb-true i n q
-    go false q = let l = ltb-false i n q in let p = pow-mono {i = n} {j = i} l in clash (bit s i) e (bit-past s i (omega (arith, p, h)))
 
 -- at most, and not the same
 less-other : (x y : ℕ) → x ≤ y → (x ≡ y → ⊥) → x < y
@@ -70,7 +61,7 @@ module _ (rows : List ℕ) (n s : ℕ) where
     unfolding Highest partOf
     asked-broken k d =
         let m = l .part h (top .0) in
-        sym (untrue (validRows rows n s) (λ v. clash (eqb (bitAnd (getD rows h 0) s) (getD rows h 0)) (valid-row rows n s v h (member-below n s h k m) m) (ne-eqb _ _ d)))
+        sym (untrue (validRows rows n s) (λ v. clash (eqb (bitAnd (getD rows h 0) s) (getD rows h 0)) (valid-row rows n s v h (member-below s n h k m) m) (ne-eqb _ _ d)))
 
   pub asked-none : (left : ℕ) → Left (Covered rows s) s left → left ≡ 0 → true ≡ validRows rows n s
   asked-none left l z = sym (row-valid rows n s (λ i h e. left-none (Covered rows s) s left l z i e))
@@ -101,7 +92,7 @@ module _ (rows : List ℕ) (n s : ℕ) where
     has = w .rest .part h (top .0)
 
     within : h < n
-    within = member-below n s h small has
+    within = member-below s n h small has
 
     abbrev grown : ℕ
     grown = bitOr set (getD rows h 0)

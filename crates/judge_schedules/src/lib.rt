@@ -52,7 +52,8 @@ fn bring(rows: &[u64], n: usize, i: usize) -> u64
     set
 }
 
-// A table of rows turned into one of what each write brings. A row that is turned serves the next ones.
+// A table of rows turned into one of what each write brings. A row that is turned serves the next ones. The
+// judge has the same sets, and their converse, by a closure (judge_closed::order); here the test makes them.
 pub fn complete(rows: &mut [u64], n: usize)
     requires { ⌜ (length (now rows) ≡ 64) × ((n ≤ mostMain) × Narrow (now rows) n) ⌝ }
     ensures { λ _. ⌜ Completes (now (rows .entry)) n (now (rows .exit)) ⌝ }

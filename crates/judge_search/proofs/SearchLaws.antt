@@ -1,6 +1,6 @@
 -- The search: no schedule before a place of the list leaves an inconsistent disk. So the first that does has the least rank of the bad ones.
-use mathlib.Core.Path.{_≡_, refl, sym, ap, subst, _∙_}
-use mathlib.Core.Bool.{Bool, true, false, not, _&&_}
+use mathlib.Core.Path.{_≡_, refl, sym, ap, _∙_}
+use mathlib.Core.Bool.{Bool, true, false}
 use mathlib.Core.List.{List}
 use Prim.Native.Nat.{ℕ, _+_, _-_, _%_, _^_, _≤_, _<_}
 use native.Mathlib.Numerals.{add-one}
@@ -11,7 +11,8 @@ use lib.ListN.{length, getD, take}
 use lib.Pow.{pow-mono}
 use borrow.Author.Needs.{needs}
 use borrow.Author.Tests.{eqb-true, lt-ltb, ltb-true}
-use Rattle.relation.specs.Best.{smallestBelow, setWords, rank}
+use Rattle.relation.specs.Best.{smallestBelow}
+use Rattle.relation.specs.Rank.{setWords, rank}
 use Rattle.relation.proofs.BestLaws.{rank-set, least-smallest, passes-none}
 use Rattle.relation.proofs.ListLaws.{clash, untrue, below-extend, and-left, and-right, and-intro}
 use Rattle.model.specs.declared.Write.{Write}
@@ -24,7 +25,8 @@ use Rattle.judge_schedules.specs.Valid.{validRows, badRows}
 use Rattle.judge_suspects.specs.Suspects.{mostListed, Has, Rising, Suspects}
 use Rattle.judge_search.specs.declared.Verdict.{Verdict}
 use Rattle.judge_search.specs.declared.Verdict.the-variants.{Holds, Fails}
-use Rattle.judge_search.specs.Search.{verdictBy, verdictBelow, repeated, leaves, listed, StopsAt}
+use Rattle.judge_search.specs.Verdict.{verdictBy}
+use Rattle.judge_search.specs.Search.{verdictBelow, repeated, leavesInconsistent, listed, StopsAt}
 
 -- ---- is_repeated
 
@@ -64,12 +66,12 @@ module _ (p : ℕ → Bool) (list : List ℕ) (k : ℕ) (c : Clear p list k) whe
       before q = let l = ltb-true 0 k q in omega (arith, l)
 
 module _ (base : List ℕ) (ws : List Write) (cs : List Check) (list : List ℕ) (k m i s : ℕ) (d : List ℕ) (q : s ≡ listed list k) (e : d ≡ run ws s base) where
-  pub clear-pass : Clear (leaves base ws (take m cs)) list k → i ≤ m → m ≤ i → consistent (take i cs) d ≡ true → Clear (leaves base ws (take m cs)) list (k + 1)
-  unfolding leaves
+  pub clear-pass : Clear (leavesInconsistent base ws (take m cs)) list k → i ≤ m → m ≤ i → consistent (take i cs) d ≡ true → Clear (leavesInconsistent base ws (take m cs)) list (k + 1)
+  unfolding leavesInconsistent
   clear-pass c h l t = let z : i ≡ m = omega (arith, h, l) in clear-suc _ list k c (rw (← q, ← e, rw z at t))
 
-  pub stops-here : (many : ℕ) → Clear (leaves base ws (take m cs)) list k → k < many → false ≡ consistent (take m cs) d → StopsAt (leaves base ws (take m cs)) list many (Fails s)
-  unfolding StopsAt leaves
+  pub stops-here : (many : ℕ) → Clear (leavesInconsistent base ws (take m cs)) list k → k < many → false ≡ consistent (take m cs) d → StopsAt (leavesInconsistent base ws (take m cs)) list many (Fails s)
+  unfolding StopsAt leavesInconsistent
   stops-here many c h f = (k, h, q, rw (← e, ← f), λ j l. c .none j l)
 
 pub stops-never : (p : ℕ → Bool) (list : List ℕ) (k many : ℕ) (v : Verdict) → Clear p list k → k ≤ many → many ≤ k → v ≡ Holds → StopsAt p list many v
@@ -85,13 +87,13 @@ module _ (rows column base : List ℕ) (n : ℕ) (cs : List Check) (list : List 
   bad = badRows rows n base (heldFrom column 0 n) cs
 
   abbrev spoilt : ℕ → Bool
-  spoilt = leaves base (heldFrom column 0 n) cs
+  spoilt = leavesInconsistent base (heldFrom column 0 n) cs
 
   words : 2 ^ n ≤ setWords
   words = let p = pow-mono {i = n} {j = 20} few in omega (arith, p)
 
   bad-spoilt : (s : ℕ) → bad s ≡ true → spoilt s ≡ true
-  unfolding badRows leaves
+  unfolding badRows leavesInconsistent
   bad-spoilt s e = and-right (validRows rows n s) _ e
 
   -- the schedule of a rank that is listed
@@ -99,7 +101,7 @@ module _ (rows column base : List ℕ) (n : ℕ) (cs : List Check) (list : List 
   of-rank t i h e = let w = words in ap (λ (x : ℕ). x % setWords) e ∙ rank-set t (omega (arith, h, w))
 
   found : (v : Verdict) → StopsAt spoilt list many v → v ≡ verdictBy (smallestBelow bad (2 ^ n))
-  unfolding StopsAt verdictBy badRows leaves Rising
+  unfolding StopsAt verdictBy badRows leavesInconsistent Rising
   found Holds stops =
       rw (passes-none bad (2 ^ n) (λ s h. untrue (bad s) (λ e.
       let (t, l, (i, b, q), f, r) = g .every base size s h e in
@@ -117,7 +119,7 @@ module _ (rows column base : List ℕ) (n : ℕ) (cs : List Check) (list : List 
       ]
 
 pub verdict-is : (rows column base : List ℕ) (n : ℕ) (cs : List Check) (list : List ℕ) (many : ℕ) (v : Verdict) → n ≤ mostMain → length base ≡ diskBlocks → Suspects rows column n cs list many
-    → StopsAt (leaves base (heldFrom column 0 n) cs) list many v → v ≡ verdictBelow (badRows rows n base (heldFrom column 0 n) cs) (2 ^ n)
+    → StopsAt (leavesInconsistent base (heldFrom column 0 n) cs) list many v → v ≡ verdictBelow (badRows rows n base (heldFrom column 0 n) cs) (2 ^ n)
 unfolding verdictBelow
 verdict-is rows column base n cs list many v few size g stops = found rows column base n cs list many few size g v stops
 

@@ -3,21 +3,17 @@ use Prim.Native.Nat.{ℕ, _-_, _%_, _<_}
 use mathlib.Core.Path.{_≡_}
 use mathlib.Core.Bool.{Bool, true, false, not, _&&_}
 use mathlib.Core.List.{List}
-use mathlib.Core.Option.{Option, none, some}
 use lib.Dec.{eqb, ltb}
 use lib.ListN.{getD}
-use Rattle.relation.specs.Best.{smallestBelow, setWords}
+use Rattle.relation.specs.Best.{smallestBelow}
+use Rattle.relation.specs.Rank.{setWords}
 use Rattle.model.specs.declared.Write.{Write}
 use Rattle.model.specs.declared.Check.{Check}
 use Rattle.model.specs.Schedule.{run}
 use Rattle.model.specs.Check.{consistent}
 use Rattle.judge_search.specs.declared.Verdict.{Verdict}
 use Rattle.judge_search.specs.declared.Verdict.the-variants.{Holds, Fails}
-
--- the verdict by the smallest bad schedule, if there is one
-unfoldable pub verdictBy : Option ℕ → Verdict
-verdictBy none = Holds
-verdictBy (some s) = Fails s
+use Rattle.judge_search.specs.Verdict.{verdictBy}
 
 -- the verdict on the numbers below n
 unfoldable pub verdictBelow : (ℕ → Bool) → ℕ → Verdict
@@ -30,8 +26,8 @@ unfoldable pub repeated : List ℕ → ℕ → Bool
 repeated list k = ltb 0 k && eqb (getD list (k - 1) 0) (getD list k 0)
 
 -- a schedule leaves an inconsistent disk
-unfoldable pub leaves : List ℕ → List Write → List Check → ℕ → Bool
-leaves base ws checks s = not (consistent checks (run ws s base))
+unfoldable pub leavesInconsistent : List ℕ → List Write → List Check → ℕ → Bool
+leavesInconsistent base ws checks s = not (consistent checks (run ws s base))
 
 -- the schedule whose rank is entry k of a list
 abbrev pub listed : List ℕ → ℕ → ℕ

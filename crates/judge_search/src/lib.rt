@@ -12,7 +12,7 @@ ghost use Rattle.model.specs.Limits.{diskBlocks, mostMain, mostChecks};
 ghost use Rattle.judge_disks.specs.Packed.{heldFrom};
 ghost use Rattle.judge_schedules.specs.Valid.{badRows, Narrow};
 ghost use Rattle.judge_suspects.specs.Suspects.{mostListed};
-ghost use Rattle.judge_search.specs.Search.{repeated, leaves, StopsAt, verdictBelow};
+ghost use Rattle.judge_search.specs.Search.{repeated, leavesInconsistent, StopsAt, verdictBelow};
 
 // The verdict alone.
 pub enum Verdict {
@@ -43,7 +43,7 @@ fn search_by(
     m: usize,
 ) -> Verdict
     requires { ⌜ ((many ≤ mostListed) × (n ≤ mostMain)) × ((m ≤ mostChecks) × (length (now base) ≡ diskBlocks)) ⌝ }
-    ensures { λ r. ⌜ StopsAt (leaves (now (base .entry)) (heldFrom (now (stores .entry)) 0 n) (take m checks)) (now (list .entry)) many r ⌝ }
+    ensures { λ r. ⌜ StopsAt (leavesInconsistent (now (base .entry)) (heldFrom (now (stores .entry)) 0 n) (take m checks)) (now (list .entry)) many r ⌝ }
 {
     let mut disk = *base;
     let mut verdict = Verdict::Holds;
@@ -56,7 +56,7 @@ fn search_by(
         let s = list[k] % relation::SET_WORDS;
         judge_disks::apply(&mut disk, stores, 0, n, s);
         let mut i: usize = 0;
-        while i < m {
+        'checks: while i < m {
             let c = checks[i];
             if !judge_checks::check_holds(&disk, c) {
                 verdict = Verdict::Fails(s);

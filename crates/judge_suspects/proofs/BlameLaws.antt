@@ -1,28 +1,27 @@
 -- A check that fails of a disk fails by two of its blocks at most: of every disk that agrees on these. So of a bad schedule the last flagged
 -- writes to these two, with all that they bring, are a bad schedule too, and a part of it.
-use mathlib.Core.Path.{_≡_, refl, sym, ap, _∙_}
+use mathlib.Core.Path.{_≡_, refl, sym, _∙_}
 use mathlib.Core.Logic.{_⊎_, inl, inr, ⊎-elim}
-use mathlib.Core.Bool.{Bool, true, false, cond, not, _&&_, _||_, false≢true, and-true}
+use mathlib.Core.Bool.{Bool, true, false, cond, not, _&&_, false≢true, and-true}
 use mathlib.Core.List.{List, List·Memᴰ}
 use Prim.Native.Nat.{ℕ, zero, suc, _+_, _-_, _/_, _^_, _≤_, _<_}
 use native.Mathlib.Nat.{mod-lt}
-use native.Mathlib.Decide.{decLt, ℕ-discrete}
+use native.Mathlib.Decide.{decLt}
 use native.Mathlib.Omega.{arith}
-use lib.Bits.{bitOr, or-lt, or-comm}
-use lib.Dec.{eqb, leb, ltb}
+use lib.Bits.{bitOr, or-lt}
+use lib.Dec.{eqb, leb}
 use lib.ListN.{length, getD}
 use lib.Pow.{pow-pos}
 use borrow.Author.Needs.{needs}
-use borrow.Author.Tests.{eq-eqb, eqb-true, eqb-false, lt-ltb, not-true, not-false}
-use Rattle.relation.specs.Best.{rank}
-use Rattle.relation.specs.Bits.{bit, maskOf}
+use borrow.Author.Tests.{eq-eqb, eqb-true, lt-ltb, not-true, not-false}
+use Rattle.relation.specs.Rank.{rank}
+use Rattle.relation.specs.Bits.{bit}
 use Rattle.relation.specs.Lists.{allBelow, any, all}
 use Rattle.relation.specs.Union.{partOf}
 use Rattle.relation.proofs.BestLaws.{part-rank}
 use Rattle.relation.proofs.BitLaws.{bit-or, bit-mask, bit-zero}
-use Rattle.relation.proofs.ListLaws.{clash, untrue, not-so, or-left, or-right, or-cases, or-none-left, or-none-right, below-suc, and-left, and-right, and-intro, allBelow-true, allBelow-intro, any-intro, any-true, any-false, all-intro, all-true}
+use Rattle.relation.proofs.ListLaws.{clash, not-so, or-left, or-right, or-cases, or-none-left, or-none-right, below-suc, and-left, and-right, and-intro, allBelow-not, any-intro, any-true, any-false, all-intro, all-true}
 use Rattle.relation.proofs.UnionLaws.{part-true, part-intro, part-zero}
-use Rattle.model.specs.declared.Write.{Write}
 use Rattle.model.specs.declared.Check.{Check}
 use Rattle.model.specs.declared.Check.the-variants.{Range, Pair, Pointer}
 use Rattle.model.specs.Limits.{mostMain, words, diskBlocks, lastBlock}
@@ -31,7 +30,7 @@ use Rattle.model.specs.Schedule.{run}
 use Rattle.model.specs.Check.{damaged, rangeHolds, holds, consistent}
 use Rattle.judge_disks.specs.Packed.{unpacked, heldFrom}
 use Rattle.judge_disks.proofs.LastLaws.{column-none, column-last}
-use Rattle.judge_schedules.specs.Valid.{validRows, badRows, Brings, Completes}
+use Rattle.judge_schedules.specs.Valid.{validRows, badRows, Completes}
 use Rattle.judge_schedules.proofs.ValidLaws.{row-valid, completes-itself}
 use Rattle.judge_suspects.proofs.RankLists.{valid-or, pairs-total}
 use Rattle.judge_suspects.specs.Suspects.{opens, spoils, opensIn, spoilsIn, Marked, Has, Kept, Ranks, OnesListed, matesOf, TwosListed, Suspects}
@@ -61,9 +60,6 @@ member-fails {A = A} p l e = go (any (λ x. not (p x)) l) refl
     go true q = let (x, m, f) = any-true (λ x. not (p x)) l q in (x, m, not-true (p x) f)
     go false q = clash (all p l) (all-intro p l (λ x m. not-false (p x) (any-false (λ x. not (p x)) q x m))) e
 
-not-all : (p : ℕ → Bool) (n k : ℕ) → k < n → p k ≡ false → allBelow p n ≡ false
-not-all p n k h e = untrue (allBelow p n) (λ t. clash (p k) (allBelow-true p n t k h) e)
-
 module _ (disk : List ℕ) (a : ℕ) where
   abbrev head : ℕ
   head = firstOf (blockAt disk a)
@@ -83,7 +79,7 @@ module _ (disk : List ℕ) (a : ℕ) where
             record {
               own = eq-eqb a a refl;
               other = inr (not-false _ z);
-              agree = λ d p r. rw (p, q) (not-all (λ k. not (empty (blockAt d (head + k)))) (tail - head) k l (rw r z));
+              agree = λ d p r. rw (p, q) (allBelow-not (λ k. not (empty (blockAt d (head + k)))) (tail - head) k l (rw r z));
             },
           )
 

@@ -3,19 +3,18 @@ use mathlib.Core.Path.{_≡_, refl, sym, ap, subst, _∙_}
 use mathlib.Core.Logic.{_⊎_, inl, inr, ⊎-elim}
 use mathlib.Core.Bool.{Bool, true, false, not}
 use mathlib.Core.List.{List}
-use Prim.Native.Nat.{ℕ, zero, suc, _+_, _-_, _^_, _≤_, _<_}
+use Prim.Native.Nat.{ℕ, zero, suc, _+_, _-_, _≤_, _<_}
 use native.Mathlib.Numerals.{add-one}
 use native.Mathlib.Decide.{decLt}
 use native.Mathlib.Omega.{arith}
 use lib.Bits.{bitOr, or-lt}
 use lib.Count.{onesIn, ones}
-use lib.Dec.{eqb, ltb}
 use lib.ListN.{length, getD, set, length-set}
 use lib.Pow.{pow-mono, pow-pos}
 use lib.Seq.{getD-set-same, getD-set-other}
 use borrow.Author.Needs.{needs}
-use borrow.Author.Tests.{eq-eqb, ne-eqb, eqb-true, ltb-true, ltb-false, not-true, not-false}
-use Rattle.relation.specs.Best.{setWords, rank}
+use borrow.Author.Tests.{not-true}
+use Rattle.relation.specs.Rank.{setWords, rank}
 use Rattle.relation.specs.Bits.{bit}
 use Rattle.relation.proofs.BitLaws.{bit-zero, bit-or}
 use Rattle.relation.proofs.ListLaws.{clash, below-suc, or-left, or-right, or-cases}
@@ -23,7 +22,7 @@ use Rattle.relation.proofs.UnionLaws.{part-true, part-intro}
 use Rattle.model.specs.Limits.{mostMain}
 use Rattle.judge_schedules.specs.Valid.{validRows, Completes}
 use Rattle.judge_schedules.proofs.ValidLaws.{valid-row, row-valid}
-use Rattle.judge_suspects.specs.Suspects.{pairsBelow, mostListed, Has, Rising, Kept, MakesRoom, Inserts, RankOf, Ranks, OnesListed, RowListed, matesOf, TwosListed}
+use Rattle.judge_suspects.specs.Suspects.{pairsBelow, mostListed, Rising, Kept, MakesRoom, Inserts, RankOf, Ranks, OnesListed, RowListed, matesOf, TwosListed}
 
 -- ---- a number put in its place
 

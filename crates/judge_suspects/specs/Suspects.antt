@@ -1,6 +1,6 @@
 -- The schedules among which the smallest bad one is. A check that fails of a disk fails by two of its blocks at most: the one that it begins
 -- with, and one other. So what the last flagged writes to these two bring is bad already.
-use Prim.Native.Nat.{ℕ, zero, suc, _+_, _-_, _^_, _≤_, _<_}
+use Prim.Native.Nat.{ℕ, zero, suc, _+_, _-_, _*_, _/_, _^_, _≤_, _<_}
 use mathlib.Core.Path.{_≡_}
 use mathlib.Core.Logic.{_⊎_}
 use mathlib.Core.Bool.{Bool, true, cond, not, _&&_}
@@ -8,26 +8,25 @@ use mathlib.Core.List.{List}
 use lib.Bits.{bitOr}
 use lib.Dec.{eqb}
 use lib.ListN.{length, getD}
-use Rattle.relation.specs.Best.{rank}
+use Rattle.relation.specs.Rank.{rank}
 use Rattle.relation.specs.Bits.{bit, maskOf}
 use Rattle.relation.specs.Lists.{any}
-use Rattle.model.specs.declared.Write.{Write}
 use Rattle.model.specs.declared.Check.{Check}
 use Rattle.model.specs.declared.Check.the-variants.{Range, Pair, Pointer}
-use Rattle.model.specs.Limits.{diskBlocks}
+use Rattle.model.specs.Limits.{diskBlocks, mostMain}
 use Rattle.model.specs.Disk.{empty}
 use Rattle.judge_disks.specs.Packed.{unpacked, heldFrom}
 use Rattle.judge_schedules.specs.Valid.{validRows, badRows}
 
 -- ---- the blocks by which a check fails
 
--- with block v at x a check can fail: it begins at x, and v does not settle it
+-- with block v at x a check may fail: it begins at x, and v does not settle a pair or a pointer. Of a range's block nothing more is asked: that may be too many, never too few
 unfoldable pub opens : Check → ℕ → ℕ → Bool
 opens (Range a) x v = eqb x a
 opens (Pair a own b w) x v = eqb x a && eqb v own
 opens (Pointer a) x v = eqb x a && not (empty v)
 
--- block v at x, beside the one that it begins with, can make a check fail
+-- block v at x, beside the one that it begins with, may make a check fail
 unfoldable pub spoils : Check → ℕ → ℕ → Bool
 spoils (Range a) x v = empty v
 spoils (Pair a own b w) x v = eqb x b && not (eqb v w)
@@ -54,7 +53,7 @@ pairsBelow (suc h) = pairsBelow h + h
 
 -- the most ranks of a list: of no write, of one, and of two
 abbrev pub mostListed : ℕ
-mostListed = 211
+mostListed = 1 + mostMain + mostMain * (mostMain - 1) / 2
 
 -- x is among the first `many` of a list
 abbrev pub Has : ℕ → List ℕ → ℕ → Type 0

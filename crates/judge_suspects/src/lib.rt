@@ -169,7 +169,8 @@ fn list_ones(list: &mut [u64], brought: &[u64], n: usize, mask: u64) -> usize
     many
 }
 
-// Lists what write h brings together with each write before it, of those in a mask.
+// Lists what write h brings together with each write before it, of those in a mask. Most writes of a log have
+// no mate: they cost one test.
 fn list_row(list: &mut [u64], many: usize, brought: &[u64], n: usize, h: usize, mask: u64) -> usize
     requires { ⌜ ((length (now list) ≡ mostListed) × ((n ≤ mostMain) × (h < n))) × ((many + h ≤ mostListed) × ((length (now brought) ≡ 64) × (Completes (now brought) n (now brought) × Ranks (now brought) n many (now list)))) ⌝ }
     ensures { λ r. ⌜ RowListed (now (brought .entry)) n h mask h many (now (list .entry)) r (now (list .exit)) ⌝ }

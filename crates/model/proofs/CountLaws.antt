@@ -5,13 +5,16 @@ use mathlib.Core.Logic.{_⊎_, ⊎-elim}
 use mathlib.Core.Bool.{Bool, true, false, cond, not, _&&_, false≢true}
 use Prim.Native.Nat.{ℕ, zero, suc, _+_, _-_, _*_, _^_, _≤_, _<_}
 use native.Mathlib.Nat.{add-zero, add-suc, zero-mul, suc-mul, pow-suc}
+use native.Mathlib.Decide.{decLt}
 use native.Mathlib.Omega.{arith}
 use lib.Arith.{digits-mod}
+use lib.Count.{onesIn, ones}
 use lib.Pow.{pow-add}
 use Rattle.relation.specs.Bits.{bit}
 use Rattle.relation.proofs.BitLaws.{bit-mod}
 use Rattle.relation.proofs.ListLaws.{clash, untrue, below-suc}
-use Rattle.relation.proofs.UnionLaws.{bit-past, bit-top}
+use Rattle.relation.proofs.UnionLaws.{bit-past, bit-top, bit-under}
+use Rattle.relation.proofs.WithoutLaws.{ones-without}
 use Rattle.model.specs.Test.{countBelow}
 
 -- a count is 0 exactly if nothing below the bound passes
@@ -103,6 +106,23 @@ count-one p (suc n) c h e one =
     rw (sym (ap p z) ∙ e, rest))
     (λ (l : c < n). rw (untrue (p n) (λ q. absurd (omega (arith, one n q, l))), count-one p n c l e one))
     (below-suc c n h)
+
+-- the members of a set are as many as its number has ones: by the highest one
+pub count-members : (n s : ℕ) → s < 2 ^ n → countBelow (bit s) n ≡ ones s
+unfolding countBelow
+count-members zero s h = let z : s ≡ 0 = omega (arith, h) in rw z (unfold ones onesIn in refl)
+count-members (suc n) s h = let d = pow-suc 2 n in elim (decLt s (2 ^ n)) [
+  | yes l ↦ let r = count-members n s l in rw (bit-past s n l) (omega (arith, r))
+  | no l ↦
+      let x = s - 2 ^ n in
+      let e : s ≡ 2 ^ n + x = omega (arith, l) in
+      let b : x < 2 ^ n = omega (arith, l, h, d) in
+      let top : bit s n ≡ true = ap (λ (k : ℕ). bit k n) e ∙ bit-top x n b in
+      let rest : countBelow (bit s) n ≡ countBelow (bit x) n = count-ext (bit s) (bit x) n (λ j k. ap (λ (y : ℕ). bit y j) e ∙ bit-under x n j b k) in
+      let r = count-members n x b in
+      let o = ones-without s n top in
+      rw top (omega (arith, rest, r, o))
+]
 
 -- ---- two tests that a bit turns into each other
 

@@ -8,7 +8,7 @@ use Prim.Native.Nat.{ℕ, _<_}
 use borrow.Author.Tests.{not-true}
 use Rattle.relation.proofs.ListLaws.{not-so, and-left, and-right, and-intro, allBelow-true, allBelow-intro, anyBelow-true, anyBelow-false}
 use Rattle.relation.proofs.BestLaws.{Passes, none-passes, passes-none, smallest-is, is-smallest, smallest-one}
-use Rattle.relation.specs.Best.{Smallest, smallestBelow}
+use Rattle.relation.specs.Best.{Smallest}
 use Rattle.relation.specs.Lists.{anyBelow}
 use Rattle.model.specs.declared.Rule.{Rule}
 use Rattle.model.specs.Schedule.{valid}

@@ -1,8 +1,10 @@
 -- The agreement theorems, each put together from its two directions.
-use Rattle.model.specs.Theorem.{Depends, KnownRules, ValidSchedule, DamagedRange, CheckHolds, ConsistentDisk, BadSchedule, HoldingTest, Decided, SmallestSchedule}
+use lib.ListN.{length}
+use Rattle.model.specs.Theorem.{Depends, KnownRules, ValidSchedule, DamagedRange, CheckHolds, ConsistentDisk, BadSchedule, HoldingTest, Decided, FlagsCounted, SmallestSchedule}
 use Rattle.model.proofs.RuleLaws.{dependsOn-true, true-dependsOn, known-true, true-known}
 use Rattle.model.proofs.ScheduleLaws.{valid-true, true-valid}
 use Rattle.model.proofs.CheckLaws.{damaged-true, true-damaged, damaged-fails-all, holds-true, true-holds, consistent-true, true-consistent}
+use Rattle.model.proofs.CountLaws.{count-members}
 use Rattle.model.proofs.TestLaws.{bad-true, true-bad, testHolds-true, true-testHolds, count-holds, holds-count, holds-or-bad, bad-fails, some-smallest, smallest-only, smallest-computed, computed-smallest, holds-none, none-holds}
 
 pub depends : Depends
@@ -31,6 +33,9 @@ holding-test rules t = ((true-testHolds rules t, testHolds-true rules t), (holds
 
 pub decided : Decided
 decided rules t = (holds-or-bad rules t, bad-fails rules t)
+
+pub flags-counted : FlagsCounted
+flags-counted t s h = count-members (length (t .main)) s h
 
 pub smallest-schedule : SmallestSchedule
 smallest-schedule rules t = record {

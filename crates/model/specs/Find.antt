@@ -92,10 +92,11 @@ candidatesOf (t ∷ ts) = fromTrace (t .main) (length (t .main)) (candidatesOf t
 unfoldable pub suffices : List Test → List Rule → Bool
 suffices tests rules = not (cyclic rules) && all (testHolds rules) tests
 
--- the number below n that passes a test and is preferred to the others, or none: one with no more ones takes the place of a smaller number
+-- m has no more ones than k
 unfoldable pub preferred : ℕ → ℕ → Bool
 preferred m k = leb (ones m) (ones k)
 
+-- the number below n that passes a test and is preferred to the others, or none: one with no more ones takes the place of a smaller number
 abbrev pub chosenBelow : (ℕ → Bool) → ℕ → Option ℕ
 chosenBelow p n = bestBelow preferred p n
 

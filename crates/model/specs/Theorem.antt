@@ -6,15 +6,16 @@ use mathlib.Core.Logic.{_↔_, _⊎_}
 use mathlib.Core.Bool.{true}
 use mathlib.Core.List.{List}
 use mathlib.Core.Option.{none, some}
+use lib.Count.{ones}
 use lib.ListN.{length}
 use Rattle.model.specs.Limits.{diskBlocks}
 use Rattle.model.specs.declared.Write.{Write}
 use Rattle.model.specs.declared.Rule.{Rule}
 use Rattle.model.specs.declared.Check.{Check}
 use Rattle.model.specs.Rules.{Label, DependsOn, dependsOn, Known, known}
-use Rattle.model.specs.Schedule.{Valid, valid}
+use Rattle.model.specs.Schedule.{flagged, Valid, valid}
 use Rattle.model.specs.Check.{RangeHolds, Damaged, damaged, Holds, holds, Consistent, consistent}
-use Rattle.model.specs.Test.{Test, schedules, TestHolds, testHolds, Bad, bad, badCount, SmallestBad, smallestBad}
+use Rattle.model.specs.Test.{Test, schedules, TestHolds, testHolds, Bad, bad, countBelow, badCount, SmallestBad, smallestBad}
 
 -- a label depends on another
 abbrev pub Depends : Type 0
@@ -52,7 +53,11 @@ HoldingTest = (rules : List Rule) (t : Test) → (TestHolds rules t ↔ testHold
 abbrev pub Decided : Type 0
 Decided = (rules : List Rule) (t : Test) → (TestHolds rules t ⊎ ((s : ℕ) × Bad rules t s)) × ((s : ℕ) → Bad rules t s → TestHolds rules t → ⊥)
 
--- the smallest failing schedule: where a test does not hold there is one, and only one; it is what is computed, and nothing is computed exactly if the test holds
+-- a schedule has as many flagged writes as its number has ones
+abbrev pub FlagsCounted : Type 0
+FlagsCounted = (t : Test) (s : ℕ) → s < schedules t → countBelow (flagged s) (length (t .main)) ≡ ones s
+
+-- the smallest failing schedule: where a test does not hold there is one, and only one; it is what is computed, and the computed form is none exactly if the test holds
 pub record SmallestFailing (rules : List Rule) (t : Test) : Type 0 where
   pub one : (TestHolds rules t → ⊥) → (s : ℕ) × SmallestBad rules t s
   pub only : (s k : ℕ) → SmallestBad rules t s → SmallestBad rules t k → s ≡ k

@@ -2,23 +2,30 @@
 -- members and number: there is at most one smallest, it is what is computed, and ranks are in this order.
 use mathlib.Core.Path.{_≡_, refl, sym, ap, subst, _∙_}
 use mathlib.Core.Logic.{_⊎_, inl, inr, ⊎-elim}
-use mathlib.Core.Bool.{Bool, true, false, cond, false≢true}
+use mathlib.Core.Bool.{Bool, true, false, cond}
 use mathlib.Core.Option.{Option, none, some}
 use Prim.Native.Nat.{ℕ, zero, suc, _+_, _*_, _/_, _%_, _^_, _≤_, _<_}
 use native.Mathlib.Nat.{div-one, pow-suc}
+use native.Mathlib.Decide.{ℕ-discrete}
 use native.Mathlib.Omega.{arith}
 use lib.Arith.{digits-mod}
 use lib.Count.{ones, ones-step, ones-le}
 use lib.Dec.{ltb}
 use borrow.Author.Tests.{ltb-true, ltb-false}
 use borrow.Author.Needs.{needs}
-use Rattle.relation.specs.Best.{BestOf, taken, bestBelow, Smaller, Smallest, fewer, smallestBelow, setWords, rank}
+use Rattle.relation.specs.Best.{taken, bestBelow, Smaller, Smallest, fewer, smallestBelow}
+use Rattle.relation.specs.Rank.{setWords, rank}
 use Rattle.relation.specs.Bits.{bit}
 use Rattle.relation.specs.Union.{partOf}
-use Rattle.relation.proofs.BitLaws.{two-cases, bit-zero}
+use Rattle.relation.proofs.BitLaws.{two-cases}
 use Rattle.relation.proofs.ListLaws.{clash, below-suc}
 use Rattle.relation.proofs.UnionLaws.{part-true, part-from}
 use Rattle.relation.proofs.WithoutLaws.{lowest-odd}
+
+-- none passes, or the one given does, and stands in a relation to all that do
+unfoldable pub BestOf : (ℕ → ℕ → Type 0) → (ℕ → Bool) → ℕ → Option ℕ → Type 0
+BestOf R p n none = (k : ℕ) → k < n → p k ≡ false
+BestOf R p n (some m) = (m < n) × (p m ≡ true) × ((k : ℕ) → k < n → p k ≡ true → R m k)
 
 module _ (R : ℕ → ℕ → Type 0) (over : ℕ → ℕ → Bool) (self : (m : ℕ) → R m m) (through : (a b c : ℕ) → R a b → R b c → R a c)
     (takes : (m k : ℕ) → k < m → over m k ≡ true → R m k) (keeps : (m k : ℕ) → k < m → over m k ≡ false → R k m) (p : ℕ → Bool) where
@@ -129,19 +136,10 @@ upto-one s k u v =
 -- there is at most one smallest
 pub smallest-one : (P : ℕ → Type 0) (s k : ℕ) → Smallest P s → Smallest P k → s ≡ k
 unfolding Smallest
-smallest-one P s k a b = go (upto-decided s k)
-  where
-    upto-decided : (x y : ℕ) → (x ≡ y) ⊎ (x ≡ y → ⊥)
-    upto-decided x y = lies (ltb x y) (ltb y x) refl refl
-      where
-        lies : (t u : Bool) → ltb x y ≡ t → ltb y x ≡ u → (x ≡ y) ⊎ (x ≡ y → ⊥)
-        lies true u e q = let l = ltb-true x y e in inr (λ z. omega (arith, l, z))
-        lies false true e q = let l = ltb-true y x q in inr (λ z. omega (arith, l, z))
-        lies false false e q = let l = ltb-false x y e in let m = ltb-false y x q in inl (omega (arith, l, m))
-
-    go : (s ≡ k) ⊎ (s ≡ k → ⊥) → s ≡ k
-    go (inl e) = e
-    go (inr d) = upto-one s k (smaller-upto s k (a .1 k (b .0) (λ e. d (sym e)))) (smaller-upto k s (b .1 s (a .0) d))
+smallest-one P s k a b = elim (ℕ-discrete s k) [
+  | yes e ↦ e
+  | no d ↦ upto-one s k (smaller-upto s k (a .1 k (b .0) (λ e. d (sym e)))) (smaller-upto k s (b .1 s (a .0) d))
+]
 
 -- ---- what is computed
 

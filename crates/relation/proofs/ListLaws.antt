@@ -104,6 +104,9 @@ module _ (p : ℕ → Bool) where
   allBelow-intro zero h = refl
   allBelow-intro (suc n) h = and-intro (allBelow p n) (p n) (allBelow-intro n (λ k l. h k (omega arith))) (h n (omega arith))
 
+pub allBelow-not : (p : ℕ → Bool) (n k : ℕ) → k < n → p k ≡ false → allBelow p n ≡ false
+allBelow-not p n k h e = untrue (allBelow p n) (λ t. clash (p k) (allBelow-true p n t k h) e)
+
 pub anyBelow-ext : (p q : ℕ → Bool) (n : ℕ) → ((k : ℕ) → k < n → p k ≡ q k) → anyBelow p n ≡ anyBelow q n
 unfolding anyBelow
 anyBelow-ext p q zero h = refl

@@ -1,15 +1,23 @@
--- Going through the members of a set, from the highest down: what is known of those that are no longer left.
-use mathlib.Core.Path.{_≡_, refl, sym, _∙_}
+-- The members of a set: they are below its length; and going through them, from the highest down, what is known of those that are no longer left.
+use mathlib.Core.Path.{_≡_, refl, _∙_}
 use mathlib.Core.Bool.{Bool, true, false}
 use Prim.Native.Nat.{ℕ, _*_, _%_, _^_, _<_}
+use native.Mathlib.Decide.{decLt}
 use native.Mathlib.Omega.{arith}
 use lib.Dec.{eqb, ltb}
-use borrow.Author.Needs.{needs}
+use lib.Pow.{pow-mono}
 use borrow.Author.Tests.{eqb-true, eq-eqb, ltb-true, ltb-false}
 use Rattle.relation.specs.Bits.{bit, without, Highest}
 use Rattle.relation.proofs.BitLaws.{bit-zero, bit-pow, power-is}
 use Rattle.relation.proofs.ListLaws.{clash, untrue}
+use Rattle.relation.proofs.WithoutLaws.{bit-most}
 use Rattle.relation.proofs.SetLaws.{without-member, member-without, without-falls}
+
+pub member-below : (m n i : ℕ) → m < 2 ^ n → bit m i ≡ true → i < n
+member-below m n i h e = elim (decLt i n) [
+  | yes l ↦ l
+  | no l ↦ let p = pow-mono {i = n} {j = i} (omega (arith, l)) in let b = bit-most m i e in absurd (omega (arith, p, b, h))
+]
 
 module _ (P : ℕ → Type 0) (set : ℕ) where
   pub record Left (left : ℕ) : Type 0 where

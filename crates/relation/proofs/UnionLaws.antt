@@ -7,7 +7,7 @@ use Prim.Native.Nat.{ℕ, zero, suc, _+_, _-_, _*_, _/_, _%_, _^_, _≤_, _<_}
 use native.Mathlib.Nat.{pow-suc, div-eq-of-lt}
 use native.Mathlib.Numerals.{add-one}
 use native.Mathlib.Omega.{arith}
-use lib.Bits.{bitAnd, bitOr, and-mod, and-shr, or-lt}
+use lib.Bits.{bitAnd, bitOr, and-shr, or-lt}
 use lib.Dec.{eqb, ltb, lit<}
 use lib.ListN.{length, getD, set}
 use lib.Pow.{pow-pos, pow-mono}
@@ -57,15 +57,10 @@ part-or a b s = bool-equal _ _
     (λ (r : bit b j ≡ true). part-true b s j (and-right (partOf a s) (partOf b s) h) r)
     (or-cases (bit a j) (bit b j) (sym (bit-or a b j) ∙ q))))
 
--- a part's members below k are those of the set's, and so are its members from k on
-module _ (a s k : ℕ) (h : partOf a s ≡ true) where
-  pub part-below : partOf (a % 2 ^ k) (s % 2 ^ k) ≡ true
-  unfolding partOf
-  part-below = eq-eqb _ _ (sym (and-mod a s k) ∙ ap (λ (x : ℕ). x % 2 ^ k) (eqb-true _ _ h))
-
-  pub part-from : partOf (a / 2 ^ k) (s / 2 ^ k) ≡ true
-  unfolding partOf
-  part-from = eq-eqb _ _ (sym (and-shr a s k) ∙ ap (λ (x : ℕ). x / 2 ^ k) (eqb-true _ _ h))
+-- a part's members from k on are the set's
+pub part-from : (a s k : ℕ) → partOf a s ≡ true → partOf (a / 2 ^ k) (s / 2 ^ k) ≡ true
+unfolding partOf
+part-from a s k h = eq-eqb _ _ (sym (and-shr a s k) ∙ ap (λ (x : ℕ). x / 2 ^ k) (eqb-true _ _ h))
 
 -- ---- unions
 

@@ -1,18 +1,13 @@
--- The best of the numbers below a bound that pass a test, in whatever order; and the order of sets by their members, then by number.
-use Prim.Native.Nat.{ℕ, zero, suc, _+_, _*_, _^_, _≤_, _<_}
+-- The best of the numbers below a bound that pass a test, in whatever order. The smallest: by the members of a set, then by its number.
+use Prim.Native.Nat.{ℕ, zero, suc, _<_}
 use mathlib.Core.Path.{_≡_}
 use mathlib.Core.Logic.{_⊎_}
-use mathlib.Core.Bool.{Bool, true, false, cond}
+use mathlib.Core.Bool.{Bool, cond}
 use mathlib.Core.Option.{Option, none, some}
 use lib.Count.{ones}
 use lib.Dec.{ltb}
 
--- none passes, or the one given does, and stands in a relation to all that do
-unfoldable pub BestOf : (ℕ → ℕ → Type 0) → (ℕ → Bool) → ℕ → Option ℕ → Type 0
-BestOf R p n none = (k : ℕ) → k < n → p k ≡ false
-BestOf R p n (some m) = (m < n) × (p m ≡ true) × ((k : ℕ) → k < n → p k ≡ true → R m k)
-
--- the same, computed from 0 up: `over m k` says whether m takes the place of k, a smaller number
+-- from 0 up: `over m k` says whether m takes the place of k, a smaller number
 unfoldable pub taken : (ℕ → ℕ → Bool) → ℕ → Option ℕ → Option ℕ
 taken over m none = some m
 taken over m (some k) = cond (over m k) (some m) (some k)
@@ -33,16 +28,10 @@ Smaller s k = (ones s < ones k) ⊎ ((ones s ≡ ones k) × (s < k))
 unfoldable pub Smallest : (ℕ → Type 0) → ℕ → Type 0
 Smallest P s = P s × ((k : ℕ) → P k → (k ≡ s → ⊥) → Smaller s k)
 
--- the same among those below n that pass a test, computed: one with fewer members takes the place of a smaller number
+-- m has fewer members than k
 unfoldable pub fewer : ℕ → ℕ → Bool
 fewer m k = ltb (ones m) (ones k)
 
+-- the same among those below n that pass a test, computed: one with fewer members takes the place of a smaller number
 abbrev pub smallestBelow : (ℕ → Bool) → ℕ → Option ℕ
 smallestBelow p n = bestBelow fewer p n
-
--- the order as an order of numbers, for sets of numbers below 32
-abbrev pub setWords : ℕ
-setWords = 2 ^ 32
-
-unfoldable pub rank : ℕ → ℕ
-rank s = ones s * setWords + s

@@ -5,3 +5,4 @@ pub mod Finite
 pub mod Union
 pub mod Tables
 pub mod Best
+pub mod Rank

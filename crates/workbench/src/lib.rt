@@ -36,7 +36,8 @@ pub extern "C" fn pelzhondy_cyclic(file: &[u8]) -> u64
 }
 
 // Judges test `test`, counted from 1: how many schedules are valid, from bit 21 on how many of these
-// are bad, from bit 42 on the number of the smallest bad one, or 0 where none is. Refused by reading, 8, 9.
+// are bad, from bit 42 on the number of the smallest bad one, or 0 where none is: of those with the fewest
+// flagged writes the smallest number. Refused by reading, 8, 9.
 #[no_mangle]
 pub extern "C" fn pelzhondy_judge(file: &[u8], test: u64) -> u64
     ensures { λ r. ⌜ r ≡ judgeAnswer (caseIn (now (file .entry)) test) ⌝ }
@@ -48,7 +49,7 @@ pub extern "C" fn pelzhondy_judge(file: &[u8], test: u64) -> u64
 }
 
 // The verdict on test `test`, counted from 1: 0 if it holds, else one more than the number of the
-// smallest schedule that is valid and leaves an inconsistent disk. Refused by reading, 8, 9.
+// schedule that judge shows. Refused by reading, 8, 9.
 #[no_mangle]
 pub extern "C" fn pelzhondy_verdict(file: &[u8], test: u64) -> u64
     ensures { λ r. ⌜ r ≡ verdictAnswer (caseIn (now (file .entry)) test) ⌝ }

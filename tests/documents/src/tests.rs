@@ -461,42 +461,44 @@ fn edited(sources: &Sources, path: &str, old: &str, new: &str) -> Sources {
 
 /// What the benchmark has copies of.
 const COPIED: [(&str, &str); 6] = [
-    ("judge_schedules", "first_half"),
-    ("judge_schedules", "first_flags"),
+    ("relation", "highest"),
+    ("relation", "without"),
     ("judge_schedules", "is_valid"),
-    ("judge_schedules", "may_begin"),
-    ("judge_schedules", "may_end"),
-    ("judge_search", "joined"),
+    ("judge_schedules", "with_rows"),
+    ("judge_schedules", "bring"),
+    ("judge_schedules", "complete"),
 ];
 
-/// Who asks a question of judging, which, and how: what is answered no is passed over.
+/// Who asks whether a schedule is valid, up to the one who does it once for a test, and how.
 const ASKED: [(&str, &str, &str, &str); 3] = [
     (
         "judge_schedules",
-        "list_ends",
-        "may_end",
-        "if !may_end(high, near, y) { y += 1; continue 'ends; } ends[many] = y;",
-    ),
-    (
-        "judge_search",
-        "search_by",
-        "may_begin",
-        "if !judge_schedules::may_begin(low, near, x) { x += 1; continue 'search; }",
-    ),
-    (
-        "judge_search",
-        "search_by",
+        "bring",
         "is_valid",
-        "let y = ends[k]; let s = joined(x, near, y); \
-         if !judge_schedules::is_valid(low, high, near, s) { k += 1; continue 'ends; }",
+        "while !is_valid(rows, n, set) { set = with_rows(rows, n, set); }",
+    ),
+    (
+        "judge_schedules",
+        "complete",
+        "bring",
+        "while i < n { rows[i] = bring(rows, n, i); i += 1; }",
+    ),
+    (
+        "judge_suspects",
+        "suspects",
+        "complete",
+        "judge_schedules::complete(rows, n);",
     ),
 ];
 
-/// The body of a function, if there is one of that name.
+/// The body of a function, if there is one of that name and no other.
 fn body_of(source: &str, name: &str) -> Option<String> {
-    functions(source)
+    let mut named = functions(source)
         .into_iter()
-        .find(|function| function.name == name)
+        .filter(|function| function.name == name);
+    let found = named.next();
+    found
+        .filter(|_| named.next().is_none())
         .map(|function| function.body)
 }
 
@@ -520,20 +522,15 @@ fn turns_elsewhere(sources: &Sources) -> Vec<String> {
                 name, function, question
             ));
         }
-    }
-    // Another function could ask as well.
-    for path in sources.code() {
-        let all = functions(sources.get(path));
-        for question in ["is_valid", "may_begin", "may_end"] {
-            let known = ASKED.iter().filter(|(_, _, asked, _)| *asked == question);
-            let known = known
-                .filter(|(name, ..)| path.split('/').next() == Some(name))
-                .count();
+        // Another function could ask as well.
+        for path in sources.code() {
+            let all = functions(sources.get(path));
             let made: usize = all
                 .iter()
                 .map(|function| uses(&function.body, question))
                 .sum();
-            if made != known {
+            let known = path.split('/').next() == Some(name);
+            if made != usize::from(known) {
                 faults.push(format!("{} asks {} {} times", path, question, made));
             }
         }
@@ -551,29 +548,57 @@ fn the_turns_counted_are_those_of_the_code() {
 fn other_turns_are_noticed() {
     let sources = Sources::load();
     for (name, old, new) in [
+        ("relation", "63 - u64::leading_zeros(mask)", "0 * mask"),
+        ("relation", "mask & !other", "mask & other"),
         (
             "judge_schedules",
-            "if first & s != first {",
-            "if first & s > first {",
+            "if row & s != row {",
+            "if row & s > row {",
         ),
-        ("judge_schedules", "(n + 1) / 2", "n / 2"),
         (
             "judge_schedules",
-            "if !may_end(",
-            "if !may_end(high, near, 0) && !may_end(",
+            "            return false;",
+            "            broken = true;",
         ),
-        ("judge_search", "x | (y << near)", "x + (y << near)"),
-        ("judge_search", "let y = ends[k];", "let y = k as u64;"),
-        ("judge_search", "::may_begin(low", "::may_begin(high"),
+        (
+            "judge_schedules",
+            "set = set | rows[i];",
+            "set = set | (1 << i);",
+        ),
+        (
+            "judge_schedules",
+            "while !is_valid(rows, n, set) {",
+            "while !is_valid(rows, n, 0) || !is_valid(rows, n, set) {",
+        ),
+        (
+            "judge_schedules",
+            "bring(rows, n, i);",
+            "bring(rows, n, 0);",
+        ),
+        (
+            "judge_suspects",
+            "judge_schedules::complete(rows, n);",
+            "judge_schedules::complete(rows, m);",
+        ),
+        (
+            "judge_suspects",
+            "judge_schedules::complete(rows, n);",
+            "judge_schedules::complete(rows, n);\n    judge_schedules::complete(rows, n);",
+        ),
         (
             "judge_search",
-            "::first_half(n);",
-            "::first_half(n);\n    judge_schedules::may_begin(low, near, 0);",
+            "let s = list[k] % relation::SET_WORDS;",
+            "let s = list[k] % relation::SET_WORDS;\n    judge_schedules::is_valid(rows, n, s);",
+        ),
+        (
+            "judge_counting",
+            "{\n    let ",
+            "{\n    judge_schedules::is_valid(rows, n, 0);\n    let ",
         ),
         (
             "find_table",
             "{\n    let ",
-            "{\n    judge_schedules::is_valid(low, high, near, 0);\n    let ",
+            "{\n    judge_schedules::complete(rows, n);\n    let ",
         ),
     ] {
         let changed = edited(&sources, &format!("{}/src/lib.rt", name), old, new);
@@ -583,7 +608,7 @@ fn other_turns_are_noticed() {
 
 /// What is done once for a file, or once for a test of it, and who does it: each of these is done once
 /// too, up to the routines that nothing of the kit calls.
-const DONE_ONCE: [(&str, &[&str]); 27] = [
+const DONE_ONCE: [(&str, &[&str]); 34] = [
     (
         "read",
         &[
@@ -642,6 +667,14 @@ const DONE_ONCE: [(&str, &[&str]); 27] = [
         "judge_test",
         &["judge_cases::judge", "judge_text::put_case"],
     ),
+    // The verdict's preparations, and its search.
+    ("complete", &["judge_suspects::suspects"]),
+    ("mark", &["judge_suspects::suspects"]),
+    ("list_ones", &["judge_suspects::suspects"]),
+    ("list_twos", &["judge_suspects::suspects"]),
+    ("suspects", &["judge_search::smallest_bad"]),
+    ("search_by", &["judge_search::smallest_bad"]),
+    ("smallest_bad", &["judge_cases::decide_test"]),
     ("decide_test", &["judge_cases::decide"]),
     ("judge", &["workbench::pelzhondy_judge"]),
     ("decide", &["workbench::pelzhondy_verdict"]),
@@ -674,9 +707,12 @@ const FROM_TEST_TO_TEST: [&str; 3] = [
 /// Those that ask for rings among rules that are not a file's: a state's, and a set of candidates.
 const OF_OTHER_RULES: [&str; 2] = ["cache_soundness::is_sound", "find_choice::better_of"];
 
-/// What is against it that a file is scanned, its rules loaded and asked for rings, a test loaded once:
-/// a caller that is not known to, one that does it twice, or in a loop, or one that is not called
-/// once itself, for all that is known.
+/// Calls of others that have the name of one of these.
+const OF_OTHERS: [&str; 2] = ["libc::read(", "cache_stores::mark("];
+
+/// What is against it that a file is scanned, its rules loaded and asked for rings, a test loaded and
+/// prepared once: a caller that is not known to, one that does it twice, or in a loop, or one that is
+/// not called once itself, for all that is known.
 fn done_again(sources: &Sources) -> Vec<String> {
     let mut faults = Vec::new();
     let mut found = BTreeSet::new();
@@ -688,7 +724,9 @@ fn done_again(sources: &Sources) -> Vec<String> {
             if function.exported || function.name == "main" {
                 outermost.insert(of.clone());
             }
-            let body = function.body.replace("libc::read(", "");
+            let body = OF_OTHERS
+                .iter()
+                .fold(function.body, |body, other| body.replace(other, ""));
             let made = calls(&body);
             for (what, _) in DONE_ONCE {
                 let count = made.iter().filter(|(called, _)| called == what).count();
@@ -770,6 +808,31 @@ fn decoding_again_is_noticed() {
             "workbench/src/lib.rt",
             "    find_call::find(",
             "    judge_cases::judge(file, 1);\n    find_call::find(",
+        ),
+        (
+            "judge_search/src/lib.rt",
+            "    search_by(&list,",
+            "    judge_suspects::suspects(&mut list, rows, stores, n, checks, m);\n    search_by(&list,",
+        ),
+        (
+            "judge_search/src/lib.rt",
+            "let many = judge_suspects::suspects(",
+            "while false {}\n    let many = judge_suspects::suspects(",
+        ),
+        (
+            "judge_suspects/src/lib.rt",
+            "let marks = mark(",
+            "let marks = mark(stores, n, checks, 0);\n    let marks = mark(",
+        ),
+        (
+            "judge_suspects/src/lib.rt",
+            "now = list_row(",
+            "judge_schedules::complete(rows, n);\n        now = list_row(",
+        ),
+        (
+            "judge_cases/src/lib.rt",
+            "    judge_counting::count_all(",
+            "    judge_search::smallest_bad(&mut rows, base, &stores, 0, checks, 0);\n    judge_counting::count_all(",
         ),
     ] {
         let changed = edited(&sources, path, old, new);

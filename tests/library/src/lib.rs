@@ -31,9 +31,9 @@ routines! {
     "locate" LOCATE = pelzhondy_locate(Bytes, usize, u64);
     /// Of a file: 1 if its rules are cyclic, else 0.
     "cyclic" CYCLIC = pelzhondy_cyclic(Bytes, usize);
-    /// Of a file and a test's number: valid + 2^21 * bad + 2^42 * some bad schedule's number.
+    /// Of a file and a test's number: valid + 2^21 * bad + 2^42 * the smallest bad schedule's number.
     "judge" JUDGE = pelzhondy_judge(Bytes, usize, u64);
-    /// Of a file and a test's number: 0 if the test holds, else 1 + some bad schedule's number.
+    /// Of a file and a test's number: 0 if the test holds, else 1 + the smallest bad schedule's number.
     "verdict" VERDICT = pelzhondy_verdict(Bytes, usize, u64);
     /// Of a file and a buffer: the length of what the judging program prints, written there.
     "judge_lines" JUDGE_LINES = pelzhondy_judge_lines(Bytes, usize, Buffer, usize);
