@@ -59,12 +59,16 @@ uint64_t pelzhondy_cyclic(const uint8_t *file, size_t file_length);
  * The smallest bad schedule is the one with the fewest flagged writes, and among those the one with the
  * smallest number. No other is shown, and verdict shows the same. It need not have the smallest number
  * of all bad ones: where these are write 3 alone, number 4, and writes 1 and 2 together, number 3, it
- * is 4. Schedule 0, in which nothing is stored, has the fewest flags of all; where it is bad, 0 is shown
+ * is 4. Schedule 0, in which no main write is stored, has the fewest flags of all; where it is bad, 0 is shown
  * with a count of bad ones above 0. So it is that count which tells whether the test holds, and not the
  * number shown. Refused, in this order: by reading; 8; 9.
  */
 uint64_t pelzhondy_judge(const uint8_t *file, size_t file_length, uint64_t test);
 
+/*
+ * The parts of a judge's answer. Ask pelzhondy_is_refused first: of a refused one they are no counts of
+ * a test, and look like some.
+ */
 static inline uint32_t pelzhondy_judged_valid(uint64_t answer)
 {
     return (uint32_t)(answer & UINT32_C(0x1FFFFF));
@@ -83,7 +87,8 @@ static inline uint32_t pelzhondy_judged_schedule(uint64_t answer)
 
 /*
  * The verdict alone. Answers 0 if the test holds, or 1 + the number of the smallest bad schedule, the
- * one that judge shows; so 1 if that is schedule 0. Refused as judge is.
+ * one that judge shows; so 1 if that is schedule 0. A refusal is not 0 either: ask pelzhondy_is_refused
+ * before taking it for a schedule. Refused as judge is.
  *
  * It looks only at schedules that can be the smallest bad one: the empty one, and those in which one
  * write or two are flagged, with all that they depend on, directly or by way of others, and no more. For

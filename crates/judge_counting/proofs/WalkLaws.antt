@@ -14,7 +14,7 @@ use lib.Pow.{pow-mono, pow-pos}
 use borrow.Author.Needs.{needs}
 use borrow.Author.Tests.{leb-true, leb-false}
 use Rattle.relation.specs.Best.{fewer, smallestBelow}
-use Rattle.relation.specs.Rank.{setWords, rank}
+use Rattle.relation.specs.Rank.{smallSets, rank}
 use Rattle.relation.specs.Bits.{bit, without}
 use Rattle.relation.proofs.BestLaws.{best-same, passes-none, least-smallest, rank-set, part-rank}
 use Rattle.relation.proofs.BitLaws.{power-is}
@@ -135,10 +135,10 @@ module _ (dependencies : List ℕ) (n chosen free : ℕ) (t : Tally) (room : Roo
   fits-bad = rw e (room .bad)
 
 -- schedules are small enough to have a rank
-words : (n : ℕ) → n ≤ mostMain → 2 ^ n ≤ setWords
+words : (n : ℕ) → n ≤ mostMain → 2 ^ n ≤ smallSets
 words n few = let p = pow-mono {i = n} {j = mostMain} few in omega (arith, p)
 
-pub chosen-word : (column base writers dependencies : List ℕ) (n chosen free : ℕ) → Ready column base n writers → Choice dependencies n chosen free → chosen < setWords
+pub chosen-word : (column base writers dependencies : List ℕ) (n chosen free : ℕ) → Ready column base n writers → Choice dependencies n chosen free → chosen < smallSets
 chosen-word column base writers dependencies n chosen free ready g = let w = words n (ready .few) in let m = g .chosen-most in omega (arith, w, m)
 
 -- ---- a free write left out, or flagged
@@ -301,7 +301,7 @@ module _ (rows dependencies dependents : List ℕ) (n : ℕ) (few : n ≤ mostMa
     unfolding rank
     ranked s l = let w = words n few in let o = ones-le 32 s (omega (arith, l, w)) in omega (arith, l, w, o)
 
-    shown-any : r .best % setWords ≡ shownOf (smallestBelow bad-any (2 ^ n))
+    shown-any : r .best % smallSets ≡ shownOf (smallestBelow bad-any (2 ^ n))
     unfolding shownOf
     shown-any =
         ⊎-elim
@@ -319,7 +319,7 @@ module _ (rows dependencies dependents : List ℕ) (n : ℕ) (few : n ≤ mostMa
     count-done =
         let v : r .valid ≡ countBelow (validRows rows n) (2 ^ n) = let g = gain .valid in let e = count-ext _ _ (2 ^ n) valid-same in omega (arith, g, e, zero-valid) in
         let b : r .bad ≡ countBelow bad-rows (2 ^ n) = let g = gain .bad in let e = count-ext _ _ (2 ^ n) bad-same in omega (arith, g, e, zero-bad) in
-        let s : r .best % setWords ≡ shownOf (smallestBelow bad-rows (2 ^ n)) = shown-any ∙ ap shownOf (best-same fewer bad-any bad-rows (2 ^ n) bad-same) in
+        let s : r .best % smallSets ≡ shownOf (smallestBelow bad-rows (2 ^ n)) = shown-any ∙ ap shownOf (best-same fewer bad-any bad-rows (2 ^ n) bad-same) in
         rw (v, b, s)
 
 pub ruleset walking = (needs, good-is, bad-is, fits-valid, fits-bad, chosen-word, walk-good, walk-bad, all-some)

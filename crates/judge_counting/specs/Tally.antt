@@ -5,7 +5,7 @@ use mathlib.Core.Logic.{_⊎_}
 use mathlib.Core.Bool.{Bool, true, not, _&&_}
 use mathlib.Core.List.{List}
 use Rattle.relation.specs.Best.{smallestBelow}
-use Rattle.relation.specs.Rank.{setWords, rank}
+use Rattle.relation.specs.Rank.{smallSets, rank}
 use Rattle.model.specs.declared.Check.{Check}
 use Rattle.model.specs.Limits.{mostSchedules}
 use Rattle.model.specs.Test.{shownOf, countBelow}
@@ -22,7 +22,7 @@ tallied v b n = record { valid = countBelow v n; bad = countBelow b n; shown = s
 
 -- above the rank of every schedule, and 0 in its lower half
 abbrev pub noRank : ℕ
-noRank = 64 * setWords
+noRank = 64 * smallSets
 
 -- more valid schedules in the counts, that leave consistent disks; more, that are all bad, and s the smallest of them
 unfoldable pub withGood : Tally → ℕ → Tally

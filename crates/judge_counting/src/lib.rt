@@ -8,7 +8,7 @@ use model::MOST_INITIAL;
 ghost use mathlib.Core.Path.{_≡_};
 ghost use Prim.Native.Nat.{_+_, _^_, _<_, _≤_};
 ghost use lib.ListN.{take};
-ghost use Rattle.relation.specs.Rank.{setWords};
+ghost use Rattle.relation.specs.Rank.{smallSets};
 ghost use Rattle.model.specs.Limits.{mostMain, mostChecks, mostSchedules};
 ghost use Rattle.judge_disks.specs.Packed.{heldFrom};
 ghost use Rattle.judge_schedules.specs.Valid.{validRows, badRows, Narrow};
@@ -31,8 +31,8 @@ struct Tally {
     best: u64,
 }
 
-// Above the rank of every schedule. What it is the rank of, by its lower half, is 0: shown where none is bad.
-const NO_RANK: u64 = 64 * relation::SET_WORDS;
+// Above the rank of every schedule. Its lower half is 0, which is what is shown where none is bad.
+const NO_RANK: u64 = 64 * relation::SMALL_SETS;
 
 // The lesser of two ranks.
 fn lesser(x: u64, y: u64) -> u64
@@ -58,7 +58,7 @@ fn add_good(t: Tally, many: u64) -> Tally
 
 // More valid schedules in the counts, all of which are bad, and s the smallest of them.
 fn add_bad(t: Tally, many: u64, s: u64) -> Tally
-    requires { ⌜ ((t .valid + many ≤ mostSchedules) × (t .bad + many ≤ mostSchedules)) × (s < setWords) ⌝ }
+    requires { ⌜ ((t .valid + many ≤ mostSchedules) × (t .bad + many ≤ mostSchedules)) × (s < smallSets) ⌝ }
     ensures { λ r. ⌜ r ≡ withBad t many s ⌝ }
 {
     Tally {
@@ -195,6 +195,6 @@ pub fn count_all(
     Judgement {
         valid: t.valid,
         bad: t.bad,
-        shown: t.best % relation::SET_WORDS,
+        shown: t.best % relation::SMALL_SETS,
     }
 }

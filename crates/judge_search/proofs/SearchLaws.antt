@@ -12,7 +12,7 @@ use lib.Pow.{pow-mono}
 use borrow.Author.Needs.{needs}
 use borrow.Author.Tests.{eqb-true, lt-ltb, ltb-true}
 use Rattle.relation.specs.Best.{smallestBelow}
-use Rattle.relation.specs.Rank.{setWords, rank}
+use Rattle.relation.specs.Rank.{smallSets, rank}
 use Rattle.relation.proofs.BestLaws.{rank-set, least-smallest, passes-none}
 use Rattle.relation.proofs.ListLaws.{clash, untrue, below-extend, and-left, and-right, and-intro}
 use Rattle.model.specs.declared.Write.{Write}
@@ -89,7 +89,7 @@ module _ (rows column base : List ℕ) (n : ℕ) (cs : List Check) (list : List 
   abbrev spoilt : ℕ → Bool
   spoilt = leavesInconsistent base (heldFrom column 0 n) cs
 
-  words : 2 ^ n ≤ setWords
+  words : 2 ^ n ≤ smallSets
   words = let p = pow-mono {i = n} {j = 20} few in omega (arith, p)
 
   bad-spoilt : (s : ℕ) → bad s ≡ true → spoilt s ≡ true
@@ -98,7 +98,7 @@ module _ (rows column base : List ℕ) (n : ℕ) (cs : List Check) (list : List 
 
   -- the schedule of a rank that is listed
   of-rank : (t i : ℕ) → t < 2 ^ n → getD list i 0 ≡ rank t → listed list i ≡ t
-  of-rank t i h e = let w = words in ap (λ (x : ℕ). x % setWords) e ∙ rank-set t (omega (arith, h, w))
+  of-rank t i h e = let w = words in ap (λ (x : ℕ). x % smallSets) e ∙ rank-set t (omega (arith, h, w))
 
   found : (v : Verdict) → StopsAt spoilt list many v → v ≡ verdictBy (smallestBelow bad (2 ^ n))
   unfolding StopsAt verdictBy badRows leavesInconsistent Rising

@@ -6,7 +6,7 @@ use mathlib.Core.List.{List}
 use lib.Dec.{eqb, ltb}
 use lib.ListN.{getD}
 use Rattle.relation.specs.Best.{smallestBelow}
-use Rattle.relation.specs.Rank.{setWords}
+use Rattle.relation.specs.Rank.{smallSets}
 use Rattle.model.specs.declared.Write.{Write}
 use Rattle.model.specs.declared.Check.{Check}
 use Rattle.model.specs.Schedule.{run}
@@ -31,7 +31,7 @@ leavesInconsistent base ws checks s = not (consistent checks (run ws s base))
 
 -- the schedule whose rank is entry k of a list
 abbrev pub listed : List ℕ → ℕ → ℕ
-listed list k = getD list k 0 % setWords
+listed list k = getD list k 0 % smallSets
 
 -- a search through the first `many` stops at the first schedule that passes, or does not stop
 unfoldable pub StopsAt : (ℕ → Bool) → List ℕ → ℕ → Verdict → Type 0

@@ -53,7 +53,7 @@ fn search_by(
             k += 1;
             continue 'search;
         }
-        let s = list[k] % relation::SET_WORDS;
+        let s = list[k] % relation::SMALL_SETS;
         judge_disks::apply(&mut disk, stores, 0, n, s);
         let mut i: usize = 0;
         'checks: while i < m {

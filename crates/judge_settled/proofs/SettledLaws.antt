@@ -15,7 +15,8 @@ use borrow.Author.Tests.{eqb-true, eq-eqb, ne-eqb, ltb-true, lt-ltb, not-false}
 use Rattle.relation.specs.Bits.{bit, without, Highest}
 use Rattle.relation.proofs.BitLaws.{bit-and, bit-or, bit-zero, bit-pow, bit-mask, power-is}
 use Rattle.relation.proofs.ListLaws.{untrue, or-cases, and-left, and-right, and-intro, clash}
-use Rattle.relation.proofs.SetLaws.{without-member, member-without, without-falls}
+use Rattle.relation.proofs.MemberLaws.{left-less}
+use Rattle.relation.proofs.SetLaws.{without-member, member-without}
 use Rattle.model.specs.declared.Check.{Check}
 use Rattle.model.specs.Limits.{diskBlocks, mostMain}
 use Rattle.model.specs.Disk.{empty, blockAt}
@@ -251,11 +252,6 @@ module _ (column base writers : List ℕ) (n chosen free a may : ℕ) (ready : R
 
     pub value-last : (h : ℕ) (c : Bool) → Highest may h → c ≡ bit chosen h → c ≡ true → own ≡ unpacked (getD column h 0) .block → Says (isBlock column base n a v) chosen free answer
     value-last h c top z y q = value-says (λ s b. fixed-last h top s b (between-has chosen free s b h (sym z ∙ y)) ∙ sym q)
-
--- the next set of writes to look at is a smaller number
-pub left-less : (left h next : ℕ) → Highest left h → h < 64 → next ≡ without left (1 * 2 ^ h % 18446744073709551616) → next < left
-unfolding Highest
-left-less left h next top l e = rw (e, power-is h l) (without-falls left (2 ^ h) h l (top .0) (bit-pow h h ∙ eq-eqb h h refl))
 
 -- ---- a check, by the address a of its own block
 

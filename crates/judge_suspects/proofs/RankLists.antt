@@ -14,7 +14,7 @@ use lib.Pow.{pow-mono, pow-pos}
 use lib.Seq.{getD-set-same, getD-set-other}
 use borrow.Author.Needs.{needs}
 use borrow.Author.Tests.{not-true}
-use Rattle.relation.specs.Rank.{setWords, rank}
+use Rattle.relation.specs.Rank.{smallSets, rank}
 use Rattle.relation.specs.Bits.{bit}
 use Rattle.relation.proofs.BitLaws.{bit-zero, bit-or}
 use Rattle.relation.proofs.ListLaws.{clash, below-suc, or-left, or-right, or-cases}
@@ -187,10 +187,10 @@ module _ (brought : List ℕ) (n : ℕ) (c : Completes brought n brought) where
       let q = c .at l b in
       record { set = bitOr (getD brought h 0) (getD brought l 0); most = or-lt n _ _ (p .most) (q .most); valid = valid-or brought n _ _ (p .valid) (q .valid); is = e }
 
-  pub brought-word : n ≤ mostMain → (i : ℕ) → i < n → getD brought i 0 < setWords
+  pub brought-word : n ≤ mostMain → (i : ℕ) → i < n → getD brought i 0 < smallSets
   brought-word few i h = let b = c .at i h .most in let p = pow-mono {i = n} {j = 20} few in omega (arith, b, p)
 
-  pub brought-words : n ≤ mostMain → (h l : ℕ) → h < n → l < h → bitOr (getD brought h 0) (getD brought l 0) < setWords
+  pub brought-words : n ≤ mostMain → (h l : ℕ) → h < n → l < h → bitOr (getD brought h 0) (getD brought l 0) < smallSets
   brought-words few h l a b = or-lt 32 _ _ (brought-word few h a) (brought-word few l (omega (arith, a, b)))
 
   zero-ranked : (list : List ℕ) → 0 < length list → Ranks brought n 1 (set list 0 0)

@@ -47,7 +47,7 @@ fn can_open(c: Check, write: u64) -> bool
     }
 }
 
-// Whether a write's block can make it fail, beside that one.
+// Whether a check can fail by a write's block, beside the one that it begins with.
 fn can_spoil(c: Check, write: u64) -> bool
     ensures { λ r. ⌜ r ≡ spoils c (unpacked write .address) (unpacked write .block) ⌝ }
 {
@@ -60,7 +60,7 @@ fn can_spoil(c: Check, write: u64) -> bool
     }
 }
 
-// Which of the first n writes can be the one that a check begins with, and which the other one.
+// Which of the first n writes can be the one that a check begins with.
 fn opening(stores: &[u64; MOST_INITIAL], n: usize, c: Check) -> u64
     requires { ⌜ n ≤ mostMain ⌝ }
     ensures { λ r. ⌜ r ≡ maskOf (opensIn (now (stores .entry)) c) n ⌝ }
@@ -74,6 +74,7 @@ fn opening(stores: &[u64; MOST_INITIAL], n: usize, c: Check) -> u64
     mask
 }
 
+// And which can be the other one.
 fn spoiling(stores: &[u64; MOST_INITIAL], n: usize, c: Check) -> u64
     requires { ⌜ n ≤ mostMain ⌝ }
     ensures { λ r. ⌜ r ≡ maskOf (spoilsIn (now (stores .entry)) c) n ⌝ }
@@ -87,7 +88,7 @@ fn spoiling(stores: &[u64; MOST_INITIAL], n: usize, c: Check) -> u64
     mask
 }
 
-// The same over the first m checks.
+// Both, over the first m checks.
 fn mark(stores: &[u64; MOST_INITIAL], n: usize, checks: [Check; MOST_CHECKS], m: usize) -> Marks
     requires { ⌜ (n ≤ mostMain) × (m ≤ mostChecks) ⌝ }
     ensures { λ r. ⌜ Marked (now (stores .entry)) n (take m checks) (r .own) (r .other) ⌝ }

@@ -14,7 +14,7 @@ use lib.Dec.{ltb}
 use borrow.Author.Tests.{ltb-true, ltb-false}
 use borrow.Author.Needs.{needs}
 use Rattle.relation.specs.Best.{taken, bestBelow, Smaller, Smallest, fewer, smallestBelow}
-use Rattle.relation.specs.Rank.{setWords, rank}
+use Rattle.relation.specs.Rank.{smallSets, rank}
 use Rattle.relation.specs.Bits.{bit}
 use Rattle.relation.specs.Union.{partOf}
 use Rattle.relation.proofs.BitLaws.{two-cases}
@@ -177,7 +177,7 @@ module _ (p : ℕ → Bool) (n : ℕ) where
 
 -- ---- ranks
 
-module _ (s k : ℕ) (hs : s < setWords) (hk : k < setWords) where
+module _ (s k : ℕ) (hs : s < smallSets) (hk : k < smallSets) where
   rank-upto : rank s ≤ rank k → Upto s k
   unfolding rank Upto
   rank-upto h = (omega arith, λ e. omega (arith, h, e))
@@ -186,12 +186,12 @@ module _ (s k : ℕ) (hs : s < setWords) (hk : k < setWords) where
   unfolding rank
   rank-one h = omega arith
 
-pub rank-set : (s : ℕ) → s < setWords → rank s % setWords ≡ s
+pub rank-set : (s : ℕ) → s < smallSets → rank s % smallSets ≡ s
 unfolding rank
-rank-set s h = digits-mod (ones s) {m = setWords} {r = s} h
+rank-set s h = digits-mod (ones s) {m = smallSets} {r = s} h
 
 -- the least rank of those that pass is that of the smallest
-pub least-smallest : (p : ℕ → Bool) (n s : ℕ) → n ≤ setWords → s < n → p s ≡ true → ((k : ℕ) → k < n → p k ≡ true → rank s ≤ rank k) → smallestBelow p n ≡ some s
+pub least-smallest : (p : ℕ → Bool) (n s : ℕ) → n ≤ smallSets → s < n → p s ≡ true → ((k : ℕ) → k < n → p k ≡ true → rank s ≤ rank k) → smallestBelow p n ≡ some s
 least-smallest p n s m h e least =
     is-smallest p n s
     (unfold Smallest in ((h, e), λ k q d. upto-smaller s k (rank-upto s k (omega arith) (let l = q .0 in omega (arith, l, m)) (least k (q .0) (q .1))) d))
@@ -220,7 +220,7 @@ part-rank k t s h l e = let m = part-most k t s h l e in let a = m .0 in let b =
 -- ---- rank
 
 -- so few members: all steps stay in 64 bits
-module _ (s : ℕ) (h : s < setWords) where
+module _ (s : ℕ) (h : s < smallSets) where
   few : ones s ≤ 32
   few = ones-le 32 s h
 

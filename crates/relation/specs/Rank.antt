@@ -2,8 +2,8 @@
 use Prim.Native.Nat.{ℕ, _+_, _*_, _^_}
 use lib.Count.{ones}
 
-abbrev pub setWords : ℕ
-setWords = 2 ^ 32
+abbrev pub smallSets : ℕ
+smallSets = 2 ^ 32
 
 unfoldable pub rank : ℕ → ℕ
-rank s = ones s * setWords + s
+rank s = ones s * smallSets + s

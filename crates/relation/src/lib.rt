@@ -3,7 +3,7 @@ ghost use mathlib.Core.Path.{_≡_};
 ghost use mathlib.Core.Bool.{cond};
 ghost use Prim.Native.Nat.{_+_, _^_, _<_, _≤_};
 ghost use lib.ListN.{length};
-ghost use Rattle.relation.specs.Rank.{setWords, rank};
+ghost use Rattle.relation.specs.Rank.{smallSets, rank};
 ghost use Rattle.relation.specs.Bits.{bit, withBit, without, Highest};
 ghost use Rattle.relation.specs.Finite.{joined, round, closed, loops};
 ghost use Rattle.relation.specs.Union.{Unites, Doubled};
@@ -51,15 +51,15 @@ pub fn highest(mask: u64) -> usize
 }
 
 // How many sets of numbers below 32 there are.
-pub const SET_WORDS: u64 = 4294967296;
+pub const SMALL_SETS: u64 = 4294967296;
 
 // A set's rank among these: those with fewer members come before those with more, and of as many the smaller
 // number first.
 pub fn rank(set: u64) -> u64
-    requires { ⌜ set < setWords ⌝ }
+    requires { ⌜ set < smallSets ⌝ }
     ensures { λ r. ⌜ r ≡ rank set ⌝ }
 {
-    u64::count_ones(set) as u64 * SET_WORDS + set
+    u64::count_ones(set) as u64 * SMALL_SETS + set
 }
 
 // row, with what k reaches where row reaches k.

@@ -502,8 +502,8 @@ mod tests {
         });
     }
 
-    /// One question more than its needs are deep, at most; and three, at most, about a write that
-    /// needs only writes before it: by itself, with its row, with what these bring.
+    /// One question more than its dependencies are deep, at most; and three, at most, about a write that
+    /// depends only on writes before it: by itself, with its row, with what these bring.
     #[test]
     fn few_questions_are_asked_about_a_write() {
         let mut before = [0; 4];
@@ -519,7 +519,7 @@ mod tests {
             }
         });
         assert!(before[1..].iter().all(|&count| count > 10), "{before:?}");
-        // The most: each of 20 writes needs the one behind it.
+        // The most: each of 20 writes depends on the one behind it.
         let chain = (1..=20).map(|i| (i..20).take(1).collect());
         let questions = Form::Brought.asked(&chain.collect::<Vec<Vec<usize>>>());
         assert_eq!(questions.len(), 20 * 21 / 2);

@@ -817,7 +817,8 @@ fn judge_and_verdict(run: &mut Run) -> Outcome {
             }
             _ if found.bad == 0 => {
                 holds += 1;
-                found.shown
+                require(found.shown == 0, "0 shown", found.shown.to_string())?;
+                0
             }
             _ => {
                 fails += 1;

@@ -116,7 +116,8 @@ fn stack_of_verdict(run: &mut Run) -> Outcome {
     on_tests(run, 400, routine, usual, MOST_OF_JUDGING, any_file)
 }
 
-/// Tests of no more main writes than there could be before 20 were allowed.
+/// Tests of no more main writes than there could be before 20 were allowed: at [8] these had tables of
+/// their own.
 fn short_file(random: &mut Random, _: u64) -> Vec<u8> {
     let main = random.between(0, MOST_TO_FIND);
     crashes::file_of(random, main).to_bytes()

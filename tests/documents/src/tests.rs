@@ -587,8 +587,8 @@ fn other_turns_are_noticed() {
         ),
         (
             "judge_search",
-            "let s = list[k] % relation::SET_WORDS;",
-            "let s = list[k] % relation::SET_WORDS;\n    judge_schedules::is_valid(rows, n, s);",
+            "let s = list[k] % relation::SMALL_SETS;",
+            "let s = list[k] % relation::SMALL_SETS;\n    judge_schedules::is_valid(rows, n, s);",
         ),
         (
             "judge_counting",

@@ -255,7 +255,8 @@ impl Making {
     }
 }
 
-/// A test of so many main writes, two or more: more flags are bad by a lower number than fewer flags.
+/// A test of so many main writes, two or more: more flags are bad by a lower number than fewer
+/// flags, mostly.
 pub fn fewer_flags(random: &mut Random, main: usize) -> File {
     let mut making = Making::new(random);
     let mut flags = random.between(2, 6.min(main - 1).max(2));
@@ -347,8 +348,9 @@ pub fn ties(random: &mut Random, main: usize) -> File {
     making.shuffled(random)
 }
 
-/// A test of so many main writes, two or more: a check fails only with two writes to different blocks,
-/// and each has others behind it, which may be the same.
+/// A test of so many main writes, two or more: each check is made to fail only with two writes to
+/// different blocks, and each of these has others behind it, which may be the same; what is filled in
+/// behind may change that.
 pub fn two_blocks(random: &mut Random, main: usize) -> File {
     let mut making = Making::new(random);
     let most = random.between(1, 3);

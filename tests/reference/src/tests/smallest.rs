@@ -28,7 +28,7 @@ fn four_and_not_three() {
     let test = four_not_three();
     assert_eq!(bad_schedules(&[], &test), [3, 4, 5, 6, 7]);
     assert_eq!(judge_test(&[], &test).shown, 4);
-    // With the third write after the others both need them.
+    // Where the third write depends on the others it is bad only with them: then 3 is shown.
     let mut after = test.clone();
     after.main[2].name = 2;
     let rules = [rule(2, Predicate::Equal, 1)];
