@@ -13,7 +13,7 @@ use lib.ListN.{length}
 use borrow.Author.Tests.{leb-true, leb-false, not-true}
 use Rattle.relation.specs.Lists.{all}
 use Rattle.relation.proofs.BitLaws.{two-cases}
-use Rattle.relation.proofs.BestLaws.{BestOf, best-below}
+use Rattle.relation.proofs.BestLaws.{BestOf, best-below, ByMembers, members-self, members-through}
 use Rattle.relation.proofs.ListLaws.{and-left, and-right, and-intro, all-true, all-intro}
 use Rattle.model.specs.declared.Rule.{Rule}
 use Rattle.model.specs.Rules.{Known}
@@ -43,33 +43,26 @@ counted (c ∷ cs) m h =
 -- ---- the number that is preferred
 
 -- no more ones, and of as many no smaller number
-unfoldable Preferred : ℕ → ℕ → Type 0
-Preferred m k = (ones m ≤ ones k) × (ones k ≡ ones m → k ≤ m)
+abbrev Preferred : ℕ → ℕ → Type 0
+Preferred m k = ByMembers (λ (m k : ℕ). k ≤ m) m k
 
 abbrev Best : (ℕ → Bool) → ℕ → Option ℕ → Type 0
 Best p n o = BestOf Preferred p n o
 
-preferred-self : (m : ℕ) → Preferred m m
-unfolding Preferred
-preferred-self m = (omega arith, λ e. omega arith)
-
-preferred-through : (a b c : ℕ) → Preferred a b → Preferred b c → Preferred a c
-unfolding Preferred
-preferred-through a b c u v =
-    let x = u .0 in
-    let y = v .0 in
-    (omega arith, λ e. let l = u .1 (omega (arith, x, y, e)) in let m = v .1 (omega (arith, x, y, e)) in omega (arith, l, m))
-
 preferred-takes : (m k : ℕ) → k < m → preferred m k ≡ true → Preferred m k
-unfolding Preferred preferred
+unfolding ByMembers preferred
 preferred-takes m k h e = let l = leb-true (ones m) (ones k) e in (omega arith, λ q. omega arith)
 
 preferred-keeps : (m k : ℕ) → k < m → preferred m k ≡ false → Preferred k m
-unfolding Preferred preferred
+unfolding ByMembers preferred
 preferred-keeps m k h e = let l = leb-false (ones m) (ones k) e in (omega arith, λ q. absurd (omega (arith, l, q)))
 
 best : (p : ℕ → Bool) (n : ℕ) → Best p n (chosenBelow p n)
-best p n = best-below Preferred preferred preferred-self preferred-through preferred-takes preferred-keeps p n
+best p n =
+    best-below Preferred preferred
+    (members-self (λ (m k : ℕ). k ≤ m) (λ m. omega arith))
+    (members-through (λ (m k : ℕ). k ≤ m) (λ a b c h l. omega (arith, h, l)))
+    preferred-takes preferred-keeps p n
 
 -- ---- the computed form of sufficiency
 
@@ -115,7 +108,7 @@ module _ (tests : List Test) where
   none-best e = subst (Best passes (2 ^ length cs)) e (best passes (2 ^ length cs))
 
   pub some-chosen : (m : ℕ) → chosen tests cs ≡ some m → Chosen tests cs m
-  unfolding Chosen BestOf Preferred
+  unfolding Chosen BestOf ByMembers
   some-chosen m e =
       let b = some-best m e in
       (b .0, suffices-true tests (picked cs m) (b .1), λ k l h. b .2 k l (true-suffices tests (picked cs k) (picked-known tests k) h))
@@ -154,7 +147,7 @@ refused tests = (none-suffices tests, suffices-none tests)
 -- ---- no number that passes has fewer ones than the preferred one
 
 pub chosen-fewest : (p : ℕ → Bool) (n k : ℕ) → k < n → p k ≡ true → (m : ℕ) × (chosenBelow p n ≡ some m) × (ones m ≤ ones k)
-unfolding BestOf Preferred
+unfolding BestOf ByMembers
 chosen-fewest p n k h e = go (chosenBelow p n) refl (best p n)
   where
     go : (o : Option ℕ) → chosenBelow p n ≡ o → Best p n o → (m : ℕ) × (o ≡ some m) × (ones m ≤ ones k)

@@ -21,7 +21,7 @@ use Rattle.model.specs.declared.Check.the-variants.{Range, Pair, Pointer}
 use Rattle.model.specs.Limits.{mostChecks}
 use Rattle.model.specs.Disk.{empty}
 use Rattle.judge_disks.specs.Packed.{unpacked}
-use Rattle.judge_suspects.specs.Suspects.{opens, spoils, opensIn, spoilsIn, Marked, matesOf}
+use Rattle.judge_suspects.specs.Suspects.{opens, spoils, opensIn, spoilsIn, MarkedFor, Marked, matesOf}
 
 -- ---- one check and one write
 
@@ -59,16 +59,24 @@ module _ (c : Check) (x y v u a : ℕ) (at : x ≡ y) (is : v ≡ u) where
 
 -- ---- all writes
 
-module _ (column : List ℕ) (c : Check) (i mask next : ℕ) (b : Bool) (q : next ≡ cond b (withBit mask i) mask) where
-  pub opening-more : mask ≡ maskOf (opensIn column c) i → b ≡ opens c (unpacked (getD column i 0) .address) (unpacked (getD column i 0) .block) → next ≡ maskOf (opensIn column c) (i + 1)
-  opening-more e z = mask-more (opensIn column c) i mask next b e (unfold opensIn in z) q
+module _ (column : List ℕ) (c : Check) where
+  pub marked-begun : MarkedFor column 0 c 0 0
+  marked-begun = record { own-is = mask-begun (opensIn column c); other-is = mask-begun (spoilsIn column c) }
 
-  pub spoiling-more : mask ≡ maskOf (spoilsIn column c) i → b ≡ spoils c (unpacked (getD column i 0) .address) (unpacked (getD column i 0) .block) → next ≡ maskOf (spoilsIn column c) (i + 1)
-  spoiling-more e z = mask-more (spoilsIn column c) i mask next b e (unfold spoilsIn in z) q
+  pub marked-write : (i own other more others : ℕ) (a b : Bool) → MarkedFor column i c own other
+      → a ≡ opens c (unpacked (getD column i 0) .address) (unpacked (getD column i 0) .block) → b ≡ spoils c (unpacked (getD column i 0) .address) (unpacked (getD column i 0) .block)
+      → more ≡ cond a (withBit own i) own → others ≡ cond b (withBit other i) other → MarkedFor column (i + 1) c more others
+  marked-write i own other more others a b g e q x y = record {
+    own-is = mask-more (opensIn column c) i own more a (g .own-is) (unfold opensIn in e) x;
+    other-is = mask-more (spoilsIn column c) i other others b (g .other-is) (unfold spoilsIn in q) y;
+  }
+
+  pub marked-writes : (i n own other : ℕ) → MarkedFor column i c own other → i ≤ n → n ≤ i → MarkedFor column n c own other
+  marked-writes i n own other g h l = record { own-is = mask-all (opensIn column c) i n own (g .own-is) h l; other-is = mask-all (spoilsIn column c) i n other (g .other-is) h l }
 
 pub ruleset marking = (needs, at-other, at-same, opens-range, opens-pair, opens-pointer, spoils-range, spoils-pair, spoils-pointer)
 
-pub ruleset masking = (needs, mask-begun, mask-all, opening-more, spoiling-more)
+pub ruleset masking = (needs, marked-begun, marked-write, marked-writes)
 
 -- ---- all checks
 
@@ -85,11 +93,11 @@ module _ (column : List ℕ) (n : ℕ) (checks : List Check) where
   marked-none = record { own-is = unfold any in mask-none n; other-is = unfold any in mask-none n }
 
   pub marked-more : (z : Check) (k m own other more others : ℕ) → Marked column n (take k checks) own other → k < m → m ≤ mostChecks → length checks ≡ mostChecks
-      → more ≡ maskOf (opensIn column (getD checks k z)) n → others ≡ maskOf (spoilsIn column (getD checks k z)) n
+      → MarkedFor column n (getD checks k z) more others
       → Marked column n (take (k + 1) checks) (bitOr own more) (bitOr other others)
-  marked-more z k m own other more others g h few size e q = record {
-    own-is = rw (g .own-is, e) (any-more (opensIn column) n checks z k (omega arith));
-    other-is = rw (g .other-is, q) (any-more (spoilsIn column) n checks z k (omega arith));
+  marked-more z k m own other more others g h few size f = record {
+    own-is = rw (g .own-is, f .own-is) (any-more (opensIn column) n checks z k (omega arith));
+    other-is = rw (g .other-is, f .other-is) (any-more (spoilsIn column) n checks z k (omega arith));
   }
 
   pub marked-all : (k m own other : ℕ) → Marked column n (take k checks) own other → k ≤ m → m ≤ k → Marked column n (take m checks) own other

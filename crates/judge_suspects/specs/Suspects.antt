@@ -39,7 +39,12 @@ opensIn column c i = opens c (unpacked (getD column i 0) .address) (unpacked (ge
 unfoldable pub spoilsIn : List ℕ → Check → ℕ → Bool
 spoilsIn column c i = spoils c (unpacked (getD column i 0) .address) (unpacked (getD column i 0) .block)
 
--- the masks of the first n writes that are such for some check
+-- the masks of the first n writes that are such for a check
+pub record MarkedFor (column : List ℕ) (n : ℕ) (c : Check) (own other : ℕ) : Type 0 where
+  pub own-is : own ≡ maskOf (opensIn column c) n
+  pub other-is : other ≡ maskOf (spoilsIn column c) n
+
+-- the masks of those that are such for some check
 pub record Marked (column : List ℕ) (n : ℕ) (checks : List Check) (own other : ℕ) : Type 0 where
   pub own-is : own ≡ maskOf (λ i. any (λ c. opensIn column c i) checks) n
   pub other-is : other ≡ maskOf (λ i. any (λ c. spoilsIn column c i) checks) n

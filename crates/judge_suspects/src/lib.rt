@@ -9,11 +9,10 @@ ghost use mathlib.Core.Bool.{cond, _&&_};
 ghost use Prim.Native.Nat.{_+_, _<_, _≤_};
 ghost use lib.Dec.{eqb};
 ghost use lib.ListN.{length, take};
-ghost use Rattle.relation.specs.Bits.{maskOf};
 ghost use Rattle.model.specs.Limits.{mostMain, mostChecks};
 ghost use Rattle.judge_disks.specs.Packed.{unpacked};
 ghost use Rattle.judge_schedules.specs.Valid.{Narrow, Completes};
-ghost use Rattle.judge_suspects.specs.Suspects.{opens, spoils, opensIn, spoilsIn, Marked, mostListed, MakesRoom, Inserts, matesOf, Ranks, OnesListed, RowListed, TwosListed, Suspects};
+ghost use Rattle.judge_suspects.specs.Suspects.{opens, spoils, MarkedFor, Marked, mostListed, MakesRoom, Inserts, matesOf, Ranks, OnesListed, RowListed, TwosListed, Suspects};
 
 // No write, one write, and two different ones.
 pub const MOST_LISTED: usize = 1 + model::MOST_MAIN + model::MOST_MAIN * (model::MOST_MAIN - 1) / 2;
@@ -60,35 +59,24 @@ fn can_spoil(c: Check, write: u64) -> bool
     }
 }
 
-// Which of the first n writes can be the one that a check begins with.
-fn opening(stores: &[u64; MOST_INITIAL], n: usize, c: Check) -> u64
+// Which of the first n writes can be the one that a check begins with, and which the other one.
+fn mark_for(stores: &[u64; MOST_INITIAL], n: usize, c: Check) -> Marks
     requires { ⌜ n ≤ mostMain ⌝ }
-    ensures { λ r. ⌜ r ≡ maskOf (opensIn (now (stores .entry)) c) n ⌝ }
+    ensures { λ r. ⌜ MarkedFor (now (stores .entry)) n c (r .own) (r .other) ⌝ }
 {
-    let mut mask: u64 = 0;
+    let mut own: u64 = 0;
+    let mut other: u64 = 0;
     let mut i: usize = 0;
     while i < n {
-        mask = relation::with_if(mask, i, can_open(c, stores[i]));
+        let write = stores[i];
+        own = relation::with_if(own, i, can_open(c, write));
+        other = relation::with_if(other, i, can_spoil(c, write));
         i += 1;
     }
-    mask
+    Marks { own, other }
 }
 
-// And which can be the other one.
-fn spoiling(stores: &[u64; MOST_INITIAL], n: usize, c: Check) -> u64
-    requires { ⌜ n ≤ mostMain ⌝ }
-    ensures { λ r. ⌜ r ≡ maskOf (spoilsIn (now (stores .entry)) c) n ⌝ }
-{
-    let mut mask: u64 = 0;
-    let mut i: usize = 0;
-    while i < n {
-        mask = relation::with_if(mask, i, can_spoil(c, stores[i]));
-        i += 1;
-    }
-    mask
-}
-
-// Both, over the first m checks.
+// The same over the first m checks.
 fn mark(stores: &[u64; MOST_INITIAL], n: usize, checks: [Check; MOST_CHECKS], m: usize) -> Marks
     requires { ⌜ (n ≤ mostMain) × (m ≤ mostChecks) ⌝ }
     ensures { λ r. ⌜ Marked (now (stores .entry)) n (take m checks) (r .own) (r .other) ⌝ }
@@ -97,9 +85,9 @@ fn mark(stores: &[u64; MOST_INITIAL], n: usize, checks: [Check; MOST_CHECKS], m:
     let mut other: u64 = 0;
     let mut k: usize = 0;
     while k < m {
-        let c = checks[k];
-        own = own | opening(stores, n, c);
-        other = other | spoiling(stores, n, c);
+        let found = mark_for(stores, n, checks[k]);
+        own = own | found.own;
+        other = other | found.other;
         k += 1;
     }
     Marks { own, other }

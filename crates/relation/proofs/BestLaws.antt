@@ -78,31 +78,42 @@ best-same over p q (suc n) h = rw (h n (omega arith), best-same over p q n (λ k
 
 -- ---- fewest members first
 
+-- no more members, and of as many one that stands in a relation
+unfoldable pub ByMembers : (ℕ → ℕ → Type 0) → ℕ → ℕ → Type 0
+ByMembers T m k = (ones m ≤ ones k) × (ones k ≡ ones m → T m k)
+
+module _ (T : ℕ → ℕ → Type 0) where
+  pub members-self : ((m : ℕ) → T m m) → (m : ℕ) → ByMembers T m m
+  unfolding ByMembers
+  members-self self m = (omega arith, λ e. self m)
+
+  pub members-through : ((a b c : ℕ) → T a b → T b c → T a c) → (a b c : ℕ) → ByMembers T a b → ByMembers T b c → ByMembers T a c
+  unfolding ByMembers
+  members-through through a b c u v =
+      let x = u .0 in
+      let y = v .0 in
+      (omega (arith, x, y), λ e. through a b c (u .1 (omega (arith, x, y, e))) (v .1 (omega (arith, x, y, e))))
+
 -- a set comes before another, or is that one
-unfoldable pub Upto : ℕ → ℕ → Type 0
-Upto s k = (ones s ≤ ones k) × (ones s ≡ ones k → s ≤ k)
+abbrev Upto : ℕ → ℕ → Type 0
+Upto s k = ByMembers (λ (m k : ℕ). m ≤ k) s k
 
 upto-self : (m : ℕ) → Upto m m
-unfolding Upto
-upto-self m = (omega arith, λ e. omega arith)
+upto-self = members-self (λ (m k : ℕ). m ≤ k) (λ m. omega arith)
 
 upto-through : (a b c : ℕ) → Upto a b → Upto b c → Upto a c
-unfolding Upto
-upto-through a b c u v =
-    let x = u .0 in
-    let y = v .0 in
-    (omega arith, λ e. let l = u .1 (omega (arith, x, y, e)) in let m = v .1 (omega (arith, x, y, e)) in omega (arith, l, m))
+upto-through = members-through (λ (m k : ℕ). m ≤ k) (λ a b c h l. omega (arith, h, l))
 
 upto-takes : (m k : ℕ) → k < m → fewer m k ≡ true → Upto m k
-unfolding Upto fewer
+unfolding ByMembers fewer
 upto-takes m k h e = let l = ltb-true (ones m) (ones k) e in (omega arith, λ q. absurd (omega (arith, l, q)))
 
 upto-keeps : (m k : ℕ) → k < m → fewer m k ≡ false → Upto k m
-unfolding Upto fewer
+unfolding ByMembers fewer
 upto-keeps m k h e = let l = ltb-false (ones m) (ones k) e in (omega arith, λ q. omega arith)
 
 upto-smaller : (s k : ℕ) → Upto s k → (k ≡ s → ⊥) → Smaller s k
-unfolding Upto Smaller
+unfolding ByMembers Smaller
 upto-smaller s k u d = go (ltb (ones s) (ones k)) refl
   where
     go : (b : Bool) → ltb (ones s) (ones k) ≡ b → (ones s < ones k) ⊎ ((ones s ≡ ones k) × (s < k))
@@ -111,7 +122,7 @@ upto-smaller s k u d = go (ltb (ones s) (ones k)) refl
         let l = ltb-false (ones s) (ones k) e in
         let x = u .0 in
         let same : ones s ≡ ones k = omega (arith, l, x) in
-        let y = u .1 same in
+        let y = u .1 (sym same) in
         inr (same, less (ltb s k) refl y)
       where
         less : (t : Bool) → ltb s k ≡ t → s ≤ k → s < k
@@ -119,13 +130,13 @@ upto-smaller s k u d = go (ltb (ones s) (ones k)) refl
         less false q y = absurd (d (let z = ltb-false s k q in omega (arith, z, y)))
 
 smaller-upto : (s k : ℕ) → Smaller s k → Upto s k
-unfolding Upto Smaller
+unfolding ByMembers Smaller
 smaller-upto s k (inl l) = (omega (arith, l), λ e. absurd (omega (arith, l, e)))
 smaller-upto s k (inr c) = let e = c .0 in let l = c .1 in (omega (arith, e), λ q. omega (arith, l))
 
 -- two that are each before the other or the same are the same
 upto-one : (s k : ℕ) → Upto s k → Upto k s → s ≡ k
-unfolding Upto
+unfolding ByMembers
 upto-one s k u v =
     let x = u .0 in
     let y = v .0 in
@@ -179,12 +190,8 @@ module _ (p : ℕ → Bool) (n : ℕ) where
 
 module _ (s k : ℕ) (hs : s < smallSets) (hk : k < smallSets) where
   rank-upto : rank s ≤ rank k → Upto s k
-  unfolding rank Upto
+  unfolding rank ByMembers
   rank-upto h = (omega arith, λ e. omega (arith, h, e))
-
-  pub rank-one : rank s ≡ rank k → s ≡ k
-  unfolding rank
-  rank-one h = omega arith
 
 pub rank-set : (s : ℕ) → s < smallSets → rank s % smallSets ≡ s
 unfolding rank

@@ -17,17 +17,14 @@ abbrev μ-loop : tie.MeasureT-loop
 loop-holds : tie.Need-loop-holds Inv-loop μ-loop
 loop-holds c = search checking
 
-mul-c : tie.Need-mul-c Inv-loop μ-loop
-mul-c c = search checking
+mul-mark-for : tie.Need-mul-mark-for Inv-loop μ-loop
+mul-mark-for c = search checking
 
-array-copy-out-c : tie.Need-array-copy-out-c Inv-loop μ-loop
-array-copy-out-c c = search checking
+array-copy-out-mark-for : tie.Need-array-copy-out-mark-for Inv-loop μ-loop
+array-copy-out-mark-for c = search checking
 
-opening-requires : tie.Need-opening-requires Inv-loop μ-loop
-opening-requires c κs = search checking
-
-spoiling-requires : tie.Need-spoiling-requires Inv-loop μ-loop
-spoiling-requires c κs = search checking
+mark-for-requires : tie.Need-mark-for-requires Inv-loop μ-loop
+mark-for-requires c κs = search checking
 
 add-k : tie.Need-add-k Inv-loop μ-loop
 add-k c = search checking
@@ -48,10 +45,9 @@ mark-spec =
     Inv-loop
     μ-loop
     loop-holds
-    mul-c
-    array-copy-out-c
-    opening-requires
-    spoiling-requires
+    mul-mark-for
+    array-copy-out-mark-for
+    mark-for-requires
     add-k
     loop-less
     loop-again
