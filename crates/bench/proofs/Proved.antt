@@ -45,9 +45,9 @@ use Rattle.judge_text.specs.Decimal.{decimalWith, decimal}
 use Rattle.judge_text.specs.Lines.{refusedLine, testLine, lines, textOf, programText}
 use Rattle.find_candidates.specs.Tests.{tooLong}
 use Rattle.find_call.specs.Finder.{Found, over, wrote, findAmong, findIn, findOf}
-use Rattle.cache_model.specs.Needs.{needs, needsRing, met, readyFrom, ready}
+use Rattle.model.specs.Needs.{needs, needsRing, met, readyFrom, ready, late}
 use Rattle.cache_model.specs.State.{ruleIn, writeIn, rulesIn, writesIn, storedIn, rulesBytes, opened, entryBytes, handed, marked, storedOn}
-use Rattle.cache_model.specs.Calls.{openWith, openOf, late, storing, stepped}
+use Rattle.cache_model.specs.Calls.{openWith, openOf, storing, stepped}
 use Rattle.bench.proofs.CallLaws.{all-called}
 use Rattle.bench.specs.Sheet.{put, K, together, Finding, RangeAt, Call, Gave, gave, blank, Calling, Sheet, K-initial, K-main, Unstarred, trimmed, long, puts, Requested}
 

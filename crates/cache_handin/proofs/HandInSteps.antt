@@ -21,11 +21,11 @@ use Rattle.model.specs.Rules.{labelOf, dependsOn}
 use Rattle.file_format.specs.Bytes.{byte}
 use Rattle.rule_match.specs.declared.Rules.{Rules}
 use Rattle.rule_match.specs.Held.{rulesOf}
-use Rattle.cache_model.specs.Needs.{needsRing}
-use Rattle.cache_model.specs.Needs as cache
+use Rattle.model.specs.Needs.{needsRing, late}
+use Rattle.model.specs.Needs as cache
 use Rattle.cache_model.specs.State.{ruleCount, acceptedCount, rulesIn, writesIn, writeIn, storedIn, handed}
 use Rattle.cache_model.specs.Sound.{sound}
-use Rattle.cache_model.specs.Calls.{left, late, handInOf}
+use Rattle.cache_model.specs.Calls.{left, handInOf}
 use Rattle.cache_soundness.specs.Parts.{Tabled, TabledIf}
 use Rattle.cache_contents.proofs.ContentSteps.{writes-length, write-at}
 use Rattle.cache_layout.proofs.LayoutSteps.{flag-read}

@@ -7,9 +7,8 @@ ghost use Prim.Native.Nat.{_+_, _<_, _≤_};
 ghost use lib.ListN.{length};
 ghost use Rattle.model.specs.Limits.{mostRules, mostHeld};
 ghost use Rattle.rule_match.specs.Held.{rulesOf};
-ghost use Rattle.cache_model.specs.Needs.{needsRing};
+ghost use Rattle.model.specs.Needs.{needsRing, late};
 ghost use Rattle.cache_model.specs.State.{acceptedCount, rulesIn, writesIn, storedIn};
-ghost use Rattle.cache_model.specs.Calls.{late};
 ghost use Rattle.cache_soundness.specs.Parts.{Tabled};
 ghost use Rattle.cache_steps.specs.Given.{lateAt, handFault};
 

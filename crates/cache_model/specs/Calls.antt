@@ -5,19 +5,16 @@ use mathlib.Core.Bool.{Bool, true, cond, not, _&&_}
 use mathlib.Core.List.{List, [], _∷_, _++_}
 use lib.Dec.{eqb, leb, ltb}
 use lib.ListN.{length}
-use Rattle.relation.specs.Lists.{anyBelow}
 use Rattle.model.specs.Limits.{mostHeld}
 use Rattle.model.specs.declared.Write.{Write}
-use Rattle.model.specs.declared.Rule.{Rule}
 use Rattle.model.specs.Answer.{Outcome, answer, refused}
 use Rattle.model.specs.Disk.{block}
-use Rattle.model.specs.Rules.{labelOf, DependsOn, dependsOn}
 use Rattle.model.specs.Cyclic.{cyclic}
-use Rattle.model.specs.Schedule.{writeAt, labelAt}
+use Rattle.model.specs.Schedule.{writeAt}
 use Rattle.model.specs.Test.{File}
 use Rattle.file_format.specs.Bytes.{diskLength}
 use Rattle.file_format.specs.File.{readOf}
-use Rattle.cache_model.specs.Needs.{needsRing, ready}
+use Rattle.model.specs.Needs.{late, needsRing, ready}
 use Rattle.cache_model.specs.State.{stateSize, acceptedCount, storedCount, rulesIn, writesIn, storedIn, opened, handed, marked, storedOn}
 use Rattle.cache_model.specs.Sound.{sound}
 
@@ -44,13 +41,6 @@ openOf file state disk =
     cond (eqb (length state) stateSize) (openWith (readOf file) state disk) (left (refused 14 0) state disk)
 
 -- ---- hand-in: 14; 15 state not sound; 16 64 writes accepted; 17 late; 18 it would close a ring of needs. Answers the write's place from 1
-
--- *late*: a stored write depends on it
-unfoldable pub Late : List Rule → List Write → (ℕ → Bool) → Write → Type 0
-Late rules ws stored w = (i : ℕ) × (i < length ws) × (stored i ≡ true) × DependsOn rules (labelAt ws i) (labelOf w)
-
-unfoldable pub late : List Rule → List Write → (ℕ → Bool) → Write → Bool
-late rules ws stored w = anyBelow (λ i. stored i && dependsOn rules (labelAt ws i) (labelOf w)) (length ws)
 
 unfoldable pub handInOf : Write → List ℕ → List ℕ → Left
 handInOf w state disk =

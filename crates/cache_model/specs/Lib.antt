@@ -1,4 +1,3 @@
-pub mod Needs
 pub mod State
 pub mod Sound
 pub mod Calls

@@ -11,7 +11,7 @@ use Rattle.model.specs.Rules.{Known, known}
 use Rattle.model.specs.Cyclic.{Cyclic, cyclic}
 use Rattle.model.specs.Test.{countBelow}
 use Rattle.file_format.specs.Bytes.{byte}
-use Rattle.cache_model.specs.Needs.{Needs, NeedsRing, needsRing, met}
+use Rattle.model.specs.Needs.{Needs, NeedsRing, needsRing, met}
 use Rattle.cache_model.specs.State.{stateSize, ruleCount, acceptedCount, storedCount, ruleBase, writeBase, flagIn, rulesIn, writesIn, storedIn}
 
 -- *sound*: this layout within the limits, known predicates, acyclic rules, a stored count that equals its flags,

@@ -26,7 +26,7 @@ use Rattle.rule_match.specs.declared.Rules.{Rules}
 use Rattle.rule_match.specs.Held.{rulesOf}
 use Rattle.rule_match.proofs.MatchSteps.{length-mapped}
 use Rattle.rule_match.specs.Held.{itemAt}
-use Rattle.cache_model.specs.Needs as cache
+use Rattle.model.specs.Needs as cache
 use Rattle.cache_model.specs.State.{acceptedCount, writeIn, writesIn}
 use Rattle.cache_masks.specs.declared.Epochs.{Epochs}
 use Rattle.cache_masks.specs.Masks.{namedMask, addressMask, epochMask, secondMask, standingBy, withRule, pairedBy, Compared, dependentMask, needsOf, neededMask}

@@ -12,7 +12,7 @@ ghost use Rattle.relation.specs.Lists.{tabulate};
 ghost use Rattle.relation.specs.Finite.{rowsOf};
 ghost use Rattle.model.specs.Limits.{mostRules, mostHeld};
 ghost use Rattle.rule_match.specs.Held.{rulesOf};
-ghost use Rattle.cache_model.specs.Needs.{needs};
+ghost use Rattle.model.specs.Needs.{needs};
 ghost use Rattle.cache_model.specs.State.{acceptedCount, writeIn, writesIn};
 ghost use Rattle.cache_masks.specs.Masks.{secondMask, standingBy, withRule, pairedBy, Compared};
 

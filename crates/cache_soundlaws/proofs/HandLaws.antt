@@ -25,13 +25,12 @@ use Rattle.file_format.specs.Bytes.{byte, writeBytes}
 use Rattle.file_format.specs.File.{writeOf}
 use Rattle.file_format.specs.Encode.{WriteFits}
 use Rattle.file_encoding.proofs.PartLaws.{write-back}
-use Rattle.cache_model.specs.Needs.{Needs, NeedsRing}
+use Rattle.model.specs.Needs.{Needs, NeedsRing, Late}
 use Rattle.cache_model.specs.State.{ruleCount, acceptedCount, writeBase, writeIn, flagIn, rulesIn, writesIn, storedIn, entryBytes, handed}
 use Rattle.cache_model.specs.Sound.{Sound}
-use Rattle.cache_model.specs.Calls.{Late}
 use Rattle.cache_contents.proofs.ContentSteps.{writes-length}
 use Rattle.cache_soundlaws.proofs.GeneralLaws.{part-is, sets-out, sets-in}
-use Rattle.cache_soundlaws.proofs.ReadyLaws.{needs-left, needs-right}
+use Rattle.model.proofs.ReadyLaws.{needs-left, needs-right}
 use Rattle.cache_soundlaws.proofs.KeepLaws.{rules-same, write-same}
 
 -- ---- needs, with one write behind the others

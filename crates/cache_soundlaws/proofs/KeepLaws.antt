@@ -15,14 +15,14 @@ use Rattle.model.specs.Limits.{mostRules, mostHeld}
 use Rattle.model.specs.declared.Write.{Write}
 use Rattle.file_format.specs.Bytes.{byte, bytes4, blockLength, diskLength}
 use Rattle.file_format.specs.File.{ruleOf, writeOf}
-use Rattle.cache_model.specs.Needs.{Needs, Earliest, met, ready}
+use Rattle.model.specs.Needs.{Needs, Earliest, met, ready}
 use Rattle.cache_model.specs.State.{stateSize, ruleCount, acceptedCount, storedCount, ruleBase, writeBase, ruleIn, writeIn, flagIn, rulesIn, writesIn, storedIn, marked, storedOn}
 use Rattle.cache_model.specs.Sound.{Sound, sound}
 use Rattle.cache_model.specs.Calls.{Left, storing, checked, stepped, stepOf, stepsOf}
 use Rattle.cache_contents.proofs.ContentSteps.{writes-length}
 use Rattle.cache_soundness.proofs.SoundLaws.{sound-true, true-sound}
 use Rattle.cache_soundlaws.proofs.GeneralLaws.{part-same, count-one-more}
-use Rattle.cache_soundlaws.proofs.ReadyLaws.{ready-earliest}
+use Rattle.model.proofs.ReadyLaws.{ready-earliest}
 
 -- ---- states whose bytes agree where their rules and writes stand
 

@@ -1,5 +1,4 @@
 pub mod GeneralLaws
-pub mod ReadyLaws
 pub mod KeepLaws
 pub mod HandLaws
 pub mod RefusalLaws

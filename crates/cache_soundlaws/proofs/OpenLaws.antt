@@ -21,13 +21,13 @@ use Rattle.file_format.specs.File.{ruleOf}
 use Rattle.file_reader.proofs.CallerLaws.{holding-limits}
 use Rattle.file_encoding.proofs.PartLaws.{rule-back}
 use Rattle.rule_cyclelaws.proofs.CyclicLaws.{cyclic-true, true-cyclic}
-use Rattle.cache_model.specs.Needs.{Needs, NeedsRing}
+use Rattle.model.specs.Needs.{Needs, NeedsRing}
 use Rattle.cache_model.specs.State.{stateSize, ruleCount, acceptedCount, ruleBase, ruleIn, rulesIn, writesIn, rulesBytes, opened}
 use Rattle.cache_model.specs.Sound.{Sound}
 use Rattle.cache_model.specs.Calls.{openWith, openOf}
 use Rattle.cache_soundlaws.specs.Theorem.{Opens}
 use Rattle.cache_soundlaws.proofs.GeneralLaws.{part-is, tabulate-getD, sets-out, sets-in}
-use Rattle.cache_soundlaws.proofs.ReadyLaws.{needs-left}
+use Rattle.model.proofs.ReadyLaws.{needs-left}
 
 -- ---- the rules' bytes
 

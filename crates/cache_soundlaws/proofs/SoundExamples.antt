@@ -18,7 +18,7 @@ use Rattle.model.specs.Test.{countBelow}
 use Rattle.file_format.specs.Bytes.{half, word, diskLength, writeBytes, ruleBytes}
 use Rattle.file_format.specs.Encode.{WriteFits}
 use Rattle.file_format.specs.File.{ruleOf, writeOf}
-use Rattle.cache_model.specs.Needs.{needs, needsRing, met}
+use Rattle.model.specs.Needs.{needs, needsRing, met}
 use Rattle.cache_model.specs.State.{ruleIn, writeIn, rulesIn, writesIn, storedIn, rulesBytes, opened, entryBytes, handed, marked}
 use Rattle.cache_model.specs.Sound.{Sound, zeros, layout, sound}
 use Rattle.cache_model.specs.Calls.{drainOf}

@@ -16,16 +16,16 @@ use Rattle.model.specs.Answer.{answer, refused}
 use Rattle.model.proofs.CountLaws.{count-none}
 use Rattle.file_format.specs.Bytes.{diskLength}
 use Rattle.file_format.specs.Encode.{WriteFits}
-use Rattle.cache_model.specs.Needs.{NeedsRing, Earliest, needsRing, ready}
+use Rattle.model.specs.Needs.{NeedsRing, Earliest, needsRing, ready, Late, late}
 use Rattle.cache_model.specs.State.{stateSize, acceptedCount, storedCount, rulesIn, writesIn, writeIn, storedIn, handed, marked, storedOn}
 use Rattle.cache_model.specs.Sound.{Sound, sound}
-use Rattle.cache_model.specs.Calls.{Left, left, Held, holding, Late, late, handInOf, storing, checked, stepped, stepOf, waiting, stepsOf, drained, drainOf}
-use Rattle.cache_model.proofs.NeedsLaws.{late-true, true-late, needsRing-true, true-needsRing}
+use Rattle.cache_model.specs.Calls.{Left, left, Held, holding, handInOf, storing, checked, stepped, stepOf, waiting, stepsOf, drained, drainOf}
+use Rattle.model.proofs.NeedsLaws.{late-true, true-late, needsRing-true, true-needsRing}
 use Rattle.cache_soundlaws.specs.Theorem.{SoundDecided, Keeps, SomeWaits, AllStored, waitingCount, OneStored, Steps, Drains, HandsIn}
 use Rattle.cache_contents.proofs.ContentSteps.{writes-length, write-at}
 use Rattle.cache_soundness.proofs.SoundLaws.{sound-true, true-sound, stored-most}
 use Rattle.cache_soundlaws.proofs.GeneralLaws.{count-split, count-some}
-use Rattle.cache_soundlaws.proofs.ReadyLaws.{ready-earliest, none-ready}
+use Rattle.model.proofs.ReadyLaws.{ready-earliest, none-ready}
 use Rattle.cache_soundlaws.proofs.HandLaws.{rules-handed, writes-handed, stored-new, stored-old, hand-keeps}
 use Rattle.cache_soundlaws.proofs.RefusalLaws.{checked-length}
 use Rattle.cache_soundlaws.proofs.KeepLaws.{rules-marked, writes-marked, acceptedCount-marked, storedCount-marked, stored-here, stored-else, mark-keeps, earliest-accepted, length-stepped, checked-sound, step-sound, steps-sound, sound-stepped}

@@ -14,10 +14,10 @@ use Rattle.model.specs.Test.{File, countBelow}
 use Rattle.file_format.specs.Bytes.{diskLength}
 use Rattle.file_format.specs.File.{readOf}
 use Rattle.file_format.specs.Encode.{WriteFits}
-use Rattle.cache_model.specs.Needs.{NeedsRing, Earliest}
+use Rattle.model.specs.Needs.{NeedsRing, Earliest, Late}
 use Rattle.cache_model.specs.State.{stateSize, acceptedCount, rulesIn, writesIn, writeIn, storedIn, opened, handed, marked, storedOn}
 use Rattle.cache_model.specs.Sound.{Sound, sound}
-use Rattle.cache_model.specs.Calls.{Left, left, holding, Late, openOf, handInOf, stepOf, stepsOf, drainOf}
+use Rattle.cache_model.specs.Calls.{Left, left, holding, openOf, handInOf, stepOf, stepsOf, drainOf}
 
 -- the computed test decides soundness
 abbrev pub SoundDecided : Type 0

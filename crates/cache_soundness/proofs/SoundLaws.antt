@@ -16,10 +16,10 @@ use Rattle.model.proofs.CountLaws.{count-most}
 use Rattle.model.proofs.RuleLaws.{known-true, true-known}
 use Rattle.file_format.specs.Bytes.{byte}
 use Rattle.rule_cyclelaws.proofs.CyclicLaws.{cyclic-true, true-cyclic}
-use Rattle.cache_model.specs.Needs.{Needs, needs, needsRing, met}
+use Rattle.model.specs.Needs.{Needs, needs, needsRing, met}
 use Rattle.cache_model.specs.State.{ruleCount, acceptedCount, storedCount, ruleBase, writeBase, rulesIn, writesIn, storedIn}
 use Rattle.cache_model.specs.Sound.{Sound, zeros, layout, sound}
-use Rattle.cache_model.proofs.NeedsLaws.{needs-true, true-needs, needsRing-true, true-needsRing}
+use Rattle.model.proofs.NeedsLaws.{needs-true, true-needs, needsRing-true, true-needsRing}
 use Rattle.cache_contents.proofs.ContentSteps.{writes-length}
 
 so-not : (b : Bool) → not b ≡ true → b ≡ true → ⊥

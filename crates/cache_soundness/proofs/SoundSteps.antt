@@ -22,8 +22,8 @@ use Rattle.model.specs.Cyclic.{cyclic}
 use Rattle.model.specs.Test.{countBelow}
 use Rattle.rule_match.specs.declared.Rules.{Rules}
 use Rattle.rule_match.specs.Held.{rulesOf}
-use Rattle.cache_model.specs.Needs.{needsRing, met}
-use Rattle.cache_model.specs.Needs as cache
+use Rattle.model.specs.Needs.{needsRing, met}
+use Rattle.model.specs.Needs as cache
 use Rattle.cache_model.specs.State.{ruleCount, acceptedCount, storedCount, rulesIn, writesIn, storedIn}
 use Rattle.cache_model.specs.Sound.{layout, sound}
 use Rattle.relation.specs.Union.{partOf}

@@ -9,7 +9,7 @@ use Rattle.relation.specs.Lists.{allBelow}
 use Rattle.relation.specs.Finite.{rowsOf}
 use Rattle.relation.specs.Union.{partOf}
 use Rattle.model.specs.declared.Rule.{Rule}
-use Rattle.cache_model.specs.Needs.{needs, needsRing, met}
+use Rattle.model.specs.Needs.{needs, needsRing, met}
 use Rattle.cache_model.specs.State.{acceptedCount, rulesIn, writesIn, storedIn}
 
 -- a table's first rows are what a state's writes need

@@ -8,7 +8,7 @@ ghost use Rattle.relation.specs.Finite.{rowsOf};
 ghost use Rattle.model.specs.Limits.{mostRules, mostHeld};
 ghost use Rattle.model.specs.Rules.{known};
 ghost use Rattle.rule_match.specs.Held.{rulesOf};
-ghost use Rattle.cache_model.specs.Needs.{needs};
+ghost use Rattle.model.specs.Needs.{needs};
 ghost use Rattle.cache_model.specs.State.{acceptedCount, writesIn};
 ghost use Rattle.cache_model.specs.Sound.{sound};
 ghost use Rattle.cache_soundness.specs.Parts.{TabledIf, covered, coveredAt, needsHold};

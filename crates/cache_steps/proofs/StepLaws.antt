@@ -18,7 +18,7 @@ use Rattle.model.specs.declared.Write.{Write}
 use Rattle.model.specs.Answer.{refused, refusal, coded}
 use Rattle.file_format.specs.Bytes.{diskLength}
 use Rattle.rule_match.specs.declared.Rules.{Rules}
-use Rattle.cache_model.specs.Needs.{readyFrom, ready}
+use Rattle.model.specs.Needs.{readyFrom, ready}
 use Rattle.cache_model.specs.State.{ruleCount, acceptedCount, storedCount, rulesIn, writesIn, writeIn, storedIn, marked, storedOn}
 use Rattle.cache_model.specs.Sound.{sound}
 use Rattle.cache_model.specs.Calls.{Left, Held, holding, left, storing, checked, stepped, stepOf, stepsOf, drained}
@@ -27,7 +27,7 @@ use Rattle.cache_soundness.specs.Parts.{Tabled, TabledIf}
 use Rattle.cache_contents.proofs.ContentSteps.{writes-length, write-at}
 use Rattle.cache_soundness.proofs.SoundSteps.{stored-bit, row-met}
 use Rattle.cache_soundness.proofs.SoundLaws.{sound-true, stored-most}
-use Rattle.cache_soundlaws.proofs.ReadyLaws.{ready-earliest}
+use Rattle.model.proofs.ReadyLaws.{ready-earliest}
 use Rattle.cache_soundlaws.proofs.KeepLaws.{sound-size, rules-marked, writes-marked, acceptedCount-marked, stored-marked, sound-stepped, length-stepped, step-sound as step-once}
 use Rattle.cache_steps.specs.Given.{callLeaves, codedLeft, faultBy, callFault}
 

@@ -12,10 +12,10 @@ use Rattle.model.specs.Answer.{refusal, coded}
 use Rattle.model.specs.Rules.{labelOf, dependsOn}
 use Rattle.model.specs.Cyclic.{cyclic}
 use Rattle.file_format.specs.Bytes.{diskLength}
-use Rattle.cache_model.specs.Needs.{needsRing}
+use Rattle.model.specs.Needs.{needsRing, late}
 use Rattle.cache_model.specs.State.{acceptedCount, writeIn, rulesIn, writesIn, storedIn, opened}
 use Rattle.cache_model.specs.Sound.{sound}
-use Rattle.cache_model.specs.Calls.{Left, late}
+use Rattle.cache_model.specs.Calls.{Left}
 
 -- of a routine that is lent a state and a disk
 pub record Given : Type 0 where

@@ -7,7 +7,7 @@ ghost use lib.ListN.{length};
 ghost use Rattle.relation.specs.Bits.{bit, withBit, maskOf};
 ghost use Rattle.model.specs.Limits.{mostHeld};
 ghost use Rattle.file_format.specs.Bytes.{diskLength};
-ghost use Rattle.cache_model.specs.Needs.{ready};
+ghost use Rattle.model.specs.Needs.{ready};
 ghost use Rattle.cache_model.specs.State.{acceptedCount, storedCount, writeIn, rulesIn, writesIn, storedIn, marked, storedOn};
 ghost use Rattle.cache_model.specs.Sound.{sound};
 ghost use Rattle.cache_model.specs.Calls.{stepped, drained};

@@ -45,12 +45,12 @@ use Rattle.log_get.specs.Get.{keyed, headOf, tailOf, getFrom, getOf, valueCode}
 use Rattle.file_format.specs.Encode.{testBytes}
 use Rattle.log_get.specs.Puts.{Put, Traced, traced, putsOf, logTest, emptyPut, traceOf}
 use Rattle.workbench.specs.Printed.{printedOf}
-use Rattle.cache_model.specs.Needs.{needsRing, ready}
+use Rattle.model.specs.Needs.{needsRing, ready, late}
 use Rattle.cache_model.specs.State.{stateSize, acceptedCount, rulesIn, writesIn, storedIn}
 use Rattle.cache_model.specs.Sound.{sound}
-use Rattle.cache_model.specs.Calls.{Left, late, storing, checked, stepped, drained, openWith, openOf, handInOf, stepOf, drainOf}
+use Rattle.cache_model.specs.Calls.{Left, storing, checked, stepped, drained, openWith, openOf, handInOf, stepOf, drainOf}
 use Rattle.cache_soundness.proofs.SoundLaws.{sound-true}
-use Rattle.cache_soundlaws.proofs.ReadyLaws.{ready-earliest}
+use Rattle.model.proofs.ReadyLaws.{ready-earliest}
 use Rattle.cache_contents.proofs.ContentSteps.{writes-length}
 use Rattle.exports.specs.Theorem.{bit63, ToldApart, NoneReachesBit63, JudgeTakenApart}
 

@@ -1,5 +1,7 @@
 pub mod RuleLaws
 pub mod ScheduleLaws
+pub mod NeedsLaws
+pub mod ReadyLaws
 pub mod CheckLaws
 pub mod CountLaws
 pub mod TestLaws

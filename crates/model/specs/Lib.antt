@@ -4,6 +4,7 @@ pub mod Rules
 pub mod Cyclic
 pub mod Schedule
 pub mod Check
+pub mod Needs
 pub mod Test
 pub mod Answer
 pub mod Find

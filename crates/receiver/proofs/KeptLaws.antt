@@ -11,10 +11,10 @@ use Rattle.model.specs.Answer.{Outcome, answer, refused}
 use Rattle.model.specs.Cyclic.{cyclic}
 use Rattle.model.specs.Test.{File}
 use Rattle.file_format.specs.File.{readOf}
-use Rattle.cache_model.specs.Needs.{needsRing}
+use Rattle.model.specs.Needs.{needsRing, late}
 use Rattle.cache_model.specs.State.{acceptedCount, rulesIn, writesIn, storedIn}
 use Rattle.cache_model.specs.Sound.{sound}
-use Rattle.cache_model.specs.Calls.{Left, late, openWith, openOf, handInOf}
+use Rattle.cache_model.specs.Calls.{Left, openWith, openOf, handInOf}
 use Rattle.cache_steps.specs.Given.{callLeaves, codedLeft, codedKept}
 
 -- answer and state are those with no disk, and the disk is as it was

@@ -34,10 +34,10 @@ use Rattle.file_reader.proofs.CallerLaws.{holding-limits}
 use Rattle.rule_cyclelaws.proofs.CyclicLaws.{cyclic-true}
 use Rattle.log_get.specs.Puts.{Put, writesOf, putWrites, afterAll, logTest, start as startLog, after as afterPut}
 use Rattle.log_get.specs.Get.{keyed, getFrom, getOf, valueCode}
-use Rattle.cache_model.specs.Needs.{needs, needsRing, met, readyFrom, ready}
+use Rattle.model.specs.Needs.{needs, needsRing, met, readyFrom, ready, late}
 use Rattle.cache_model.specs.State.{ruleIn, writeIn, rulesIn, writesIn, storedIn, rulesBytes, opened, entryBytes, handed, marked, storedOn}
 use Rattle.cache_model.specs.Sound.{Sound, zeros, layout, sound}
-use Rattle.cache_model.specs.Calls.{openWith, openOf, given, late, handInOf, storing, checked, stepped, stepOf, stepsOf, drained, drainOf}
+use Rattle.cache_model.specs.Calls.{openWith, openOf, given, handInOf, storing, checked, stepped, stepOf, stepsOf, drained, drainOf}
 use Rattle.run_laws.specs.Book.{Book, accepted, flagAt, flagging, entry, waitingIn, appended, stepEntered, stepsEntered, entered, noted, Begins}
 use Rattle.run_laws.specs.Run.{Call, opening, handIn, step, drain, get, Lent, own, other, Moment, OpensNone, Listed, valued, called, ownAfter, isRefused, next, steps, moments}
 use Rattle.run_laws.specs.Theorem.{Safe, NoneBeyond, begun, Demand3}

@@ -15,9 +15,8 @@ use Rattle.model.specs.Rules.{Known, DependsOn}
 use Rattle.model.specs.Cyclic.{Cyclic}
 use Rattle.model.specs.Schedule.{noWrite, writeAt, labelAt}
 use Rattle.file_format.specs.Encode.{WriteFits}
-use Rattle.cache_model.specs.Needs.{Needs, NeedsRing, Earliest, ready}
-use Rattle.cache_model.specs.Calls.{Late}
-use Rattle.cache_soundlaws.proofs.ReadyLaws.{needs-left, needs-right, ready-earliest}
+use Rattle.model.specs.Needs.{Needs, NeedsRing, Earliest, ready, Late}
+use Rattle.model.proofs.ReadyLaws.{needs-left, needs-right, ready-earliest}
 use Rattle.cache_soundlaws.proofs.HandLaws.{closed-with}
 use Rattle.run_laws.specs.Book.{entry, Book, accepted, flagAt, appended, flagging, stepEntered}
 use Rattle.model.specs.Test.{countBelow}

@@ -26,10 +26,10 @@ use Rattle.rule_cyclelaws.proofs.CyclicLaws.{true-cyclic, cyclic-true}
 use Rattle.model.specs.Check.{damaged}
 use Rattle.log_get.specs.Get.{headOf, tailOf, LogGets, LogDamaged, getFrom, getOf, getCode, getAnswer}
 use Rattle.log_get.proofs.Theorems.{highest, get-answers, refused-gets}
-use Rattle.cache_model.specs.Needs.{needsRing}
+use Rattle.model.specs.Needs.{needsRing, late}
 use Rattle.cache_model.specs.State.{stateSize, rulesIn, writesIn, storedIn, acceptedCount, opened}
 use Rattle.cache_model.specs.Sound.{Sound, sound}
-use Rattle.cache_model.specs.Calls.{Held, Left, left, late, openWith, openOf, handInOf, checked}
+use Rattle.cache_model.specs.Calls.{Held, Left, left, openWith, openOf, handInOf, checked}
 use Rattle.cache_soundness.proofs.SoundLaws.{sound-true}
 use Rattle.cache_soundlaws.specs.Theorem.{Unchanged}
 use Rattle.cache_soundlaws.proofs.RefusalLaws.{refuses}

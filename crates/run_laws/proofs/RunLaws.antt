@@ -28,18 +28,18 @@ use Rattle.file_reader.proofs.CallerLaws.{holding-limits}
 use Rattle.rule_cyclelaws.proofs.CyclicLaws.{true-cyclic}
 use Rattle.log_get.specs.Get.{LogDamaged, getOf, valueCode}
 use Rattle.log_get.proofs.Theorems.{get-answers, refused-gets}
-use Rattle.cache_model.specs.Needs.{Needs, NeedsRing, Earliest, needsRing, ready}
+use Rattle.model.specs.Needs.{Needs, NeedsRing, Earliest, needsRing, ready, Late, late}
 use Rattle.cache_model.specs.State as State
 use Rattle.cache_model.specs.State.{stateSize, storedIn, handed, storedOn}
 use Rattle.cache_model.specs.Sound.{sound}
-use Rattle.cache_model.specs.Calls.{Left, left, Late, late, openWith, openOf, handInOf, stepped as stepOn, stepOf, drained as drainOn, drainOf}
-use Rattle.cache_model.proofs.NeedsLaws.{late-true, true-late, needsRing-true, true-needsRing}
+use Rattle.cache_model.specs.Calls.{Left, left, openWith, openOf, handInOf, stepped as stepOn, stepOf, drained as drainOn, drainOf}
+use Rattle.model.proofs.NeedsLaws.{late-true, true-late, needsRing-true, true-needsRing}
 use Rattle.cache_soundness.proofs.SoundLaws.{true-sound}
 use Rattle.run_laws.specs.Book.{Book, accepted, flagAt, waitingIn, appended, flagging, stepEntered, stepsEntered, applied, entered, noted}
 use Rattle.run_laws.specs.Run.{Call, opening, handIn, step, drain, get, Lent, own, other, WrongLength, UnsoundLent, Unusable, OpensNone, Listed, lentTo, valued, stateLent, diskLent, called, ownAfter, isRefused, next, steps, within, Moment, moments}
 use Rattle.run_laws.specs.Theorem.{Safe, Gives, wrong-length, unsound, full, too-late, ring, taken, stored, idle, emptied, unread, with-tests, with-cycle, log-damaged, got, Answers, Made, now, later, inside, begun, Demand3}
 use Rattle.cache_soundlaws.proofs.GeneralLaws.{count-one-more}
-use Rattle.cache_soundlaws.proofs.ReadyLaws.{needs-left, ready-earliest, none-ready}
+use Rattle.model.proofs.ReadyLaws.{needs-left, ready-earliest, none-ready}
 use Rattle.run_laws.proofs.LayoutLaws.{stateOf, length-state, state-rules, state-writes, state-accepted, state-flags, handed-state, opened-state, length-flagging, flag-here, flag-else}
 use Rattle.run_laws.proofs.BookLaws.{Fine, length-accepted, fine-stepped, fine-appended, fine-sound}
 use Rattle.run_laws.proofs.DiskLaws.{valid-book, consistent-left, length-applied}

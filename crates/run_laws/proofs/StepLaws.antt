@@ -13,12 +13,12 @@ use Rattle.model.specs.Answer.{answer}
 use Rattle.model.specs.Rules.{labelOf, dependsOn}
 use Rattle.model.specs.Schedule.{labelAt}
 use Rattle.file_format.specs.Bytes.{diskLength}
-use Rattle.cache_model.specs.Needs.{needs, met, readyFrom, ready}
+use Rattle.model.specs.Needs.{needs, met, readyFrom, ready, late}
 use Rattle.cache_model.specs.State.{stateSize, rulesIn, writesIn, storedIn}
-use Rattle.cache_model.specs.Calls.{Held, Left, left, late, storing, checked, stepped as stepOn, stepOf, waiting, stepsOf, drained as drainOn, drainOf}
+use Rattle.cache_model.specs.Calls.{Held, Left, left, storing, checked, stepped as stepOn, stepOf, waiting, stepsOf, drained as drainOn, drainOf}
 use Rattle.cache_soundness.proofs.SoundLaws.{true-sound}
 use Rattle.cache_soundlaws.proofs.GeneralLaws.{count-split}
-use Rattle.cache_soundlaws.proofs.ReadyLaws.{ready-earliest}
+use Rattle.model.proofs.ReadyLaws.{ready-earliest}
 use Rattle.run_laws.specs.Book.{Book, accepted, flagAt, waitingIn, flagging, stepEntered, stepsEntered, applied}
 use Rattle.run_laws.proofs.LayoutLaws.{stateOf, flagCount, length-state, state-rules, state-writes, state-accepted, state-stored, state-flags, marked-state}
 use Rattle.run_laws.proofs.BookLaws.{Fine, length-accepted, fine-stepped, fine-sound}

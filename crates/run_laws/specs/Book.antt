@@ -9,7 +9,7 @@ use Rattle.model.specs.declared.Rule.{Rule}
 use Rattle.relation.specs.Bits.{maskOf}
 use Rattle.model.specs.Schedule.{noWrite}
 use Rattle.model.specs.Test.{countBelow}
-use Rattle.cache_model.specs.Needs.{ready}
+use Rattle.model.specs.Needs.{ready}
 use Rattle.cache_model.specs.State.{storedOn}
 
 -- a write of the book: *accepted*; *stored* if flagged, *waiting* if not

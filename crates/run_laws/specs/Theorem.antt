@@ -19,10 +19,10 @@ use Rattle.file_format.specs.Bytes.{diskLength, blocksOf}
 use Rattle.file_format.specs.File.{readOf}
 use Rattle.file_format.specs.Encode.{WriteFits}
 use Rattle.log_get.specs.Get.{LogGets, LogDamaged, getOf, valueCode, getAnswer}
-use Rattle.cache_model.specs.Needs.{Earliest, NeedsRing}
+use Rattle.model.specs.Needs.{Earliest, NeedsRing, Late}
 use Rattle.cache_model.specs.State.{stateSize}
 use Rattle.cache_model.specs.Sound.{Sound}
-use Rattle.cache_model.specs.Calls.{left, Late, openOf, handInOf, given}
+use Rattle.cache_model.specs.Calls.{left, openOf, handInOf, given}
 use Rattle.run_laws.specs.Book.{Book, accepted, flagAt, flagging, waitingIn, applied, scheduleOf, Begins}
 use Rattle.run_laws.specs.Run.{Call, opening, handIn, step, drain, get, Lent, own, lentTo, WrongLength, UnsoundLent, Listed, valued, called, isRefused, next, steps, Moment, moments}
 

@@ -4,7 +4,7 @@ use Prim.Native.Nat.{_≤_, _-_}
 use lib.ListN.{length, take}
 use Rattle.model.specs.Limits.{mostHeld}
 use Rattle.rule_match.specs.Held.{rulesOf}
-use Rattle.cache_model.specs.Needs.{needs}
+use Rattle.model.specs.Needs.{needs}
 use Rattle.cache_model.specs.State.{acceptedCount, writesIn}
 use Rattle.cache_masks.specs.Masks.{Compared}
 use Rattle.cache_needs.proofs.NeedSteps.{rowsFrom}

@@ -14,10 +14,10 @@ use Rattle.relation.proofs.ListLaws.{and-left, and-right, and-intro, allBelow-t
 use Rattle.relation.proofs.MaskLaws.{implies, implied}
 use Rattle.relation.proofs.TransitiveLaws.{plus-map}
 use Rattle.relation.proofs.FiniteLaws as Finite
 use Rattle.model.specs.declared.Write.{Write}
 use Rattle.model.specs.declared.Rule.{Rule}
-use Rattle.cache_model.specs.Needs.{Needs, NeedsRing, Earliest, needs, met, readyFrom, ready}
-use Rattle.cache_model.proofs.NeedsLaws.{needs-true, true-needs, below-needs}
+use Rattle.model.specs.Needs.{Needs, NeedsRing, Earliest, needs, met, readyFrom, ready}
+use Rattle.model.proofs.NeedsLaws.{needs-true, true-needs, below-needs}
 
 pub needs-left : (rules : List Rule) (ws : List Write) (i j : ℕ) → Needs rules ws i j → i < length ws
 unfolding Needs

@@ -11,13 +11,12 @@ use Rattle.relation.specs.Finite.{Below}
 use Rattle.relation.proofs.ListLaws.{or-cases, or-left, or-right, and-left, and-right, and-intro, anyBelow-true, anyBelow-intro}
 use Rattle.relation.proofs.TransitiveLaws.{plus-map}
 use Rattle.relation.proofs.FiniteLaws.{hasRing-ring, ring-hasRing}
 use Rattle.model.specs.declared.Write.{Write}
 use Rattle.model.specs.declared.Rule.{Rule}
 use Rattle.model.specs.Rules.{labelOf, dependsOn}
 use Rattle.model.specs.Schedule.{labelAt}
 use Rattle.model.proofs.RuleLaws.{dependsOn-true, true-dependsOn}
-use Rattle.cache_model.specs.Needs.{Needs, NeedsRing, needs, needsRing}
-use Rattle.cache_model.specs.Calls.{Late, late}
+use Rattle.model.specs.Needs.{Needs, NeedsRing, Late, needs, needsRing, late}
 
 module _ (rules : List Rule) (ws : List Write) where
   pub needs-true : (i j : ℕ) → i < length ws → j < length ws → needs rules ws i j ≡ true → Needs rules ws i j

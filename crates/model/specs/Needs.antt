@@ -6,13 +6,13 @@ use mathlib.Core.Bool.{Bool, true, false, not, cond, _&&_, _||_}
 use mathlib.Core.List.{List}
 use lib.Dec.{eqb, ltb}
 use lib.ListN.{length}
-use Rattle.relation.specs.Lists.{allBelow}
+use Rattle.relation.specs.Lists.{allBelow, anyBelow}
 use Rattle.relation.specs.Finite.{hasRing}
 use Rattle.relation.specs.Transitive.{Ring}
 use Rattle.model.specs.declared.Write.{Write}
 use Rattle.model.specs.declared.Rule.{Rule}
-use Rattle.model.specs.Rules.{DependsOn, dependsOn}
+use Rattle.model.specs.Rules.{labelOf, DependsOn, dependsOn}
 use Rattle.model.specs.Schedule.{writeAt, labelAt}
 
 -- *needs*: a write needs what it depends on and every earlier accepted write to its address
 unfoldable pub Needs : List Rule → List Write → ℕ → ℕ → Type 0
@@ -30,6 +30,10 @@ pub record Earliest (rules : List Rule) (ws : List Write) (stored : ℕ → Bool
   pub waits : stored i ≡ false
   pub met : (j : ℕ) → Needs rules ws i j → stored j ≡ true
   pub first : (k : ℕ) → k < i → stored k ≡ false → ((j : ℕ) → Needs rules ws k j → stored j ≡ true) → ⊥
+
+-- *late*: a stored write depends on it
+unfoldable pub Late : List Rule → List Write → (ℕ → Bool) → Write → Type 0
+Late rules ws stored w = (i : ℕ) × (i < length ws) × (stored i ≡ true) × DependsOn rules (labelAt ws i) (labelOf w)
 
 -- ---- the same, computed; `needs` speaks of writes below the list's length only
 
@@ -52,3 +56,6 @@ readyFrom rules ws stored i (suc n) =
 
 unfoldable pub ready : List Rule → List Write → (ℕ → Bool) → ℕ
 ready rules ws stored = readyFrom rules ws stored 0 (length ws)
+
+unfoldable pub late : List Rule → List Write → (ℕ → Bool) → Write → Bool
+late rules ws stored w = anyBelow (λ i. stored i && dependsOn rules (labelAt ws i) (labelOf w)) (length ws)
