@@ -1,3 +1,1 @@
-pub mod ZerosLaws
-pub mod CallLaws
 pub mod Proved

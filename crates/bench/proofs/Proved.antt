@@ -46,10 +46,11 @@ use Rattle.judge_text.specs.Lines.{refusedLine, testLine, lines, textOf, progra
 use Rattle.find_candidates.specs.Tests.{tooLong}
 use Rattle.find_call.specs.Finder.{Found, over, wrote, findAmong, findIn, findOf}
 use Rattle.model.specs.Needs.{needs, needsRing, met, readyFrom, ready, late}
-use Rattle.cache_model.specs.State.{ruleIn, writeIn, rulesIn, writesIn, storedIn, rulesBytes, opened, entryBytes, handed, marked, storedOn}
-use Rattle.cache_model.specs.Calls.{openWith, openOf, storing, stepped}
-use Rattle.bench.proofs.CallLaws.{all-called}
-use Rattle.bench.specs.Sheet.{put, K, together, Finding, RangeAt, Call, Gave, gave, blank, Calling, Sheet, K-initial, K-main, Unstarred, trimmed, long, puts, Requested}
+use Rattle.cache_model.specs.Entries.{flagAt, flagCount}
+use Rattle.cache_model.specs.State.{ruleIn, writeIn, rulesIn, writesIn, storedIn, entriesIn, bytesEach, entryBytes, front, back, stateOf, opened, handed, marked, storedOn}
+use Rattle.cache_model.specs.Sound.{same, layout, ruled, needsHold, sound}
+use Rattle.cache_model.specs.Calls.{openWith, openOf, handInOf, storing, checked, stepped, stepOf}
+use Rattle.bench.specs.Sheet.{put, K, K3-rules, together, Finding, RangeAt, Call, call, Gave, gave, calls, blank, Calling, Sheet, K-initial, K-main, Unstarred, trimmed, long, puts, Requested}
 
 -- ---- what the lines are computed by: to unfold one of these is to unfold all that it unfolds
 
@@ -85,8 +86,8 @@ searched tests buffer = findAmong tests buffer
 
 -- calls of the cache
 called : List Call → Gave
-unfolding judged ringed fileRead all-called openOf openWith opened rulesBytes stepped storing late known countBelow met needs needsRing readyFrom ready rulesIn writesIn storedIn ruleIn writeIn handed marked storedOn entryBytes
-called cs = all-called cs blank blank .0
+unfolding judged ringed fileRead calls call openOf openWith opened bytesEach handInOf stepOf checked stepped storing sound ruled needsHold layout same stateOf front back entriesIn flagCount flagAt late known countBelow met needs needsRing readyFrom ready rulesIn writesIn storedIn ruleIn writeIn handed marked storedOn entryBytes
+called cs = calls cs blank blank
 
 -- traces of puts
 made : List ℕ → List ℕ → List ℕ → Traced
@@ -112,7 +113,7 @@ finding t left e short h buffer l = rw (e, short, le-ltb (length buffer) 96 l) (
 
 calling : (cs : List Call) (outcomes : List (Outcome ℕ)) (disk : List ℕ) → called cs ≡ gave outcomes disk → Calling cs outcomes disk
 unfolding called
-calling cs outcomes disk e = all-called cs blank blank .1 ∙ e
+calling cs outcomes disk e = e
 
 range : (head tail : ℕ) (result : Bool) → ((disk : List ℕ) → rangeHolds disk (firstOf (block head tail)) (secondOf (block head tail)) ≡ result) → RangeAt head tail result
 unfolding holds
@@ -124,10 +125,10 @@ pub sheet : Sheet
 sheet =
     record {
       K1 = ((unfold caseRead in refl, unfold counted in refl, unfold counted in refl), count-holds _ _ (unfold counted in refl));
-      K2 = ((unfold caseRead in refl, unfold counted in refl, unfold counted in refl), bad-fails [] K 2 (bad-true [] K 2 (unfold counted in lit< tt) (unfold counted in refl)), computed-smallest _ _ _ (unfold counted in refl));
+      K2 = ((unfold caseRead in refl, unfold counted in refl, unfold counted in refl), bad-fails [] K 2 (bad-true [] K 2 (unfold counted in lit< tt) (unfold counted in refl)), computed-smallest [] K 2 (unfold counted in refl));
       K3 = (
         (unfold caseRead in refl, unfold counted in refl, unfold counted in refl),
-        computed-smallest _ _ _ (unfold counted in refl),
+        computed-smallest K3-rules K 12 (unfold counted in refl),
         only _ _ _ (unfold counted in refl),
       );
       K4 = finding _ _ (unfold searched in refl) (unfold searched in refl) (λ buffer. unfold searched in refl);

@@ -1,21 +1,23 @@
 -- A state's rules and writes: one law for each return and each turn of a loop.
-use mathlib.Core.Path.{_≡_, refl, ap, _∙_}
-use mathlib.Core.List.{List, [], _∷_, _++_}
-use Prim.Native.Nat.{ℕ, _+_, _-_, _*_, _≤_, _<_}
+use mathlib.Core.Path.{_≡_, refl, sym, ap, subst, _∙_}
+use mathlib.Core.Logic.{_≢_}
+use mathlib.Core.List.{List}
+use Prim.Native.Nat.{ℕ, _+_, _-_, _≤_, _<_}
+use native.Mathlib.Decide.{ℕ-discrete}
 use native.Mathlib.Numerals.{add-one}
 use native.Mathlib.Omega.{arith}
-use lib.ListN.{length, take, drop, set, List·getD-append}
-use lib.Seq.{take-suc-set, getD-at}
+use lib.ListN.{length, getD, take, drop, set}
+use lib.Seq.{take-suc-set, getD-take, getD-drop, getD-set-same, getD-set-other}
 use borrow.Author.Needs.{needs}
 use Rattle.relation.specs.Lists.{tabulate}
-use Rattle.relation.proofs.ListLaws.{length-tabulate, getD-tabulate}
 use Rattle.model.specs.declared.Rule.{Rule}
 use Rattle.model.specs.declared.Write.{Write}
-use Rattle.model.specs.Schedule.{noWrite, writeAt}
-use Rattle.model.specs.Limits.{mostRules}
+use Rattle.model.specs.Limits.{mostRules, mostHeld}
+use Rattle.file_format.specs.Bytes.{byte, half, word}
 use Rattle.file_format.specs.File.{ruleLength, writeLength, ruleOf, writeOf}
 use Rattle.rule_match.proofs.MatchSteps.{length-mapped}
-use Rattle.cache_model.specs.State.{ruleCount, acceptedCount, ruleIn, writeIn, rulesIn, writesIn}
+use Rattle.cache_model.specs.State.{ruleCount, acceptedCount, ruleBase, writeBase, ruleIn, writeIn, rulesIn}
+use Rattle.cache_contents.specs.Columns.{Columned}
 
 -- ---- state_rules, write_in
 
@@ -24,12 +26,12 @@ module _ (s : List ℕ) where
   unfolding tabulate
   rules-begun l = refl
 
-  pub rules-more : (l : List Rule) (i n : ℕ) (r : Rule) → length l ≡ mostRules → n ≡ ruleCount s → ruleCount s ≤ mostRules → i < n → take i l ≡ tabulate (ruleIn s) i
-      → r ≡ ruleOf (take (4 + ruleLength * i + ruleLength - (4 + ruleLength * i)) (drop (4 + ruleLength * i) s)) → take (i + 1) (set l i r) ≡ tabulate (ruleIn s) (i + 1)
+  pub rules-more : (l : List Rule) (i n b : ℕ) (r : Rule) → length l ≡ mostRules → n ≡ ruleCount s → ruleCount s ≤ mostRules → i < n → take i l ≡ tabulate (ruleIn s) i
+      → b ≡ ruleBase i → r ≡ ruleOf (take (b + ruleLength - b) (drop b s)) → take (i + 1) (set l i r) ≡ tabulate (ruleIn s) (i + 1)
   unfolding tabulate ruleIn
-  rules-more l i n r all c few h e q =
-      let z : 4 + ruleLength * i + ruleLength - (4 + ruleLength * i) ≡ ruleLength = omega arith in
-      rw (add-one i, take-suc-set l i r (omega arith), e, q, z)
+  rules-more l i n b r all c few h e p q =
+      let z : b + ruleLength - b ≡ ruleLength = omega arith in
+      rw (add-one i, take-suc-set l i r (omega arith), e, q, z, p)
 
   pub rules-done : (l : List Rule) (i n : ℕ) → n ≡ ruleCount s → i ≤ n → n ≤ i → take i l ≡ tabulate (ruleIn s) i → take n l ≡ rulesIn s
   unfolding rulesIn
@@ -37,28 +39,56 @@ module _ (s : List ℕ) where
       let z : i ≡ n = omega arith in
       (rw z at e) ∙ ap (tabulate (ruleIn s)) c
 
-  pub write-read : (i : ℕ) (r : Write) → r ≡ writeOf (take (100 + 12 * i + writeLength - (100 + 12 * i)) (drop (100 + 12 * i) s)) → r ≡ writeIn s i
+  pub write-read : (i b : ℕ) (r : Write) → b ≡ writeBase i → r ≡ writeOf (take (b + writeLength - b) (drop b s)) → r ≡ writeIn s i
   unfolding writeIn
-  write-read i r e =
-      let z : 100 + 12 * i + writeLength - (100 + 12 * i) ≡ writeLength = omega arith in
-      rw z at e
+  write-read i b r p e =
+      let z : b + writeLength - b ≡ writeLength = omega arith in
+      e ∙ rw (z, p)
 
--- ---- the accepted writes
+-- ---- fill_columns
 
-module _ (s : List ℕ) where
-  pub writes-length : length (writesIn s) ≡ acceptedCount s
-  unfolding writesIn
-  writes-length = length-tabulate (writeIn s) (acceptedCount s)
+module _ (s : List ℕ) (i : ℕ) where
+  body-byte : (j : ℕ) → j < writeLength → byte (take writeLength (drop (writeBase i) s)) j ≡ byte s (writeBase i + j)
+  body-byte j h = getD-take writeLength (drop (writeBase i) s) j 0 h ∙ getD-drop (writeBase i) s j 0
 
-  pub write-at : (i : ℕ) → i < acceptedCount s → writeAt (writesIn s) i ≡ writeIn s i
-  unfolding writesIn
-  write-at i h = getD-tabulate (writeIn s) (acceptedCount s) i noWrite h
+  address-in : byte s (writeBase i) ≡ writeIn s i .address
+  unfolding writeIn writeOf
+  address-in = let z : writeBase i + 0 ≡ writeBase i = omega arith in sym (body-byte 0 (omega arith) ∙ ap (byte s) z)
 
-  -- the same with a write behind them
-  pub front-at : (w : Write) (i : ℕ) → i < acceptedCount s → writeAt (writesIn s ++ (w ∷ [])) i ≡ writeAt (writesIn s) i
-  front-at w i h = List·getD-append (writesIn s) (w ∷ []) noWrite i (omega (arith, writes-length))
+  name-in : byte s (writeBase i + 1) ≡ writeIn s i .name
+  unfolding writeIn writeOf
+  name-in = sym (body-byte 1 (omega arith))
 
-  pub last-at : (w : Write) → writeAt (writesIn s ++ (w ∷ [])) (acceptedCount s) ≡ w
-  last-at w = getD-at (writesIn s) w [] noWrite (acceptedCount s) writes-length
+  epoch-in : word s (writeBase i + 2) ≡ writeIn s i .epoch
+  unfolding writeIn writeOf word half
+  epoch-in =
+      let x : writeBase i + 2 + 1 ≡ writeBase i + 3 = omega arith in
+      let y : writeBase i + 2 + 2 ≡ writeBase i + 4 = omega arith in
+      let z : writeBase i + 4 + 1 ≡ writeBase i + 5 = omega arith in
+      rw (body-byte 2 (omega arith), body-byte 3 (omega arith), body-byte 4 (omega arith), body-byte 5 (omega arith), x, y, z)
 
-pub ruleset reading = (needs, length-mapped, rules-begun, rules-more, rules-done, write-read)
+  -- a column with one entry more
+  grown : (f : ℕ → ℕ) (l : List ℕ) (x : ℕ) → i < length l → ((j : ℕ) → j < i → getD l j 0 ≡ f j) → x ≡ f i → (j : ℕ) → j < i + 1 → getD (set l i x) j 0 ≡ f j
+  grown f l x h old e j b = elim (ℕ-discrete j i) [
+    | yes z ↦ rw z (getD-set-same l i x 0 h ∙ e)
+    | no n ↦ getD-set-other l i j x 0 n ∙ old j (let d : j ≢ i = n in omega arith)
+  ]
+
+  pub columns-more : (at z n : ℕ) (addresses names epochs : List ℕ) → at ≡ writeBase i → i < n → n ≡ acceptedCount s → acceptedCount s ≤ mostHeld
+      → length addresses ≡ mostHeld → length names ≡ mostHeld → length epochs ≡ mostHeld → z ≡ word s (at + 2) → Columned s i addresses names epochs
+      → Columned s (i + 1) (set addresses i (byte s at)) (set names i (byte s (at + 1))) (set epochs i z)
+  columns-more at z n addresses names epochs p h m few la ln le ez c =
+      record {
+        address = grown (λ j. writeIn s j .address) addresses (byte s at) (omega arith) (c .address) (ap (byte s) p ∙ address-in);
+        name = grown (λ j. writeIn s j .name) names (byte s (at + 1)) (omega arith) (c .name) (ap (λ (k : ℕ). byte s (k + 1)) p ∙ name-in);
+        epoch = grown (λ j. writeIn s j .epoch) epochs z (omega arith) (c .epoch) (ez ∙ ap (λ (k : ℕ). word s (k + 2)) p ∙ epoch-in);
+      }
+
+pub columns-begun : (s addresses names epochs : List ℕ) → Columned s 0 addresses names epochs
+columns-begun s addresses names epochs =
+    record { address = λ i h. absurd (omega arith); name = λ i h. absurd (omega arith); epoch = λ i h. absurd (omega arith) }
+
+pub columns-done : (s addresses names epochs : List ℕ) (i n : ℕ) → n ≡ acceptedCount s → i ≤ n → n ≤ i → Columned s i addresses names epochs → Columned s (acceptedCount s) addresses names epochs
+columns-done s addresses names epochs i n c a b h = let z : i ≡ acceptedCount s = omega arith in subst (λ (k : ℕ). Columned s k addresses names epochs) z h
+
+pub ruleset reading = (needs, length-mapped, rules-begun, rules-more, rules-done, write-read, columns-begun, columns-more, columns-done)

@@ -1,138 +1,211 @@
--- The steps of hand-in: one law for each return and each turn of a loop, whose premises are what is known at that place.
-use mathlib.Core.Path.{_≡_, refl, sym, ap, _∙_}
-use mathlib.Core.Bool.{Bool, true, false, cond, not}
+-- The steps of hand-in: one law for each return, whose premises are what is known at that place.
+use mathlib.Core.Path.{_≡_, refl, sym, ap, subst, _∙_}
+use mathlib.Core.Bool.{Bool, true, false, cond, not, false≢true, or-false, _&&_}
 use mathlib.Core.List.{List, [], _∷_, _++_}
-use Prim.Native.Nat.{ℕ, _+_, _*_, _≤_, _<_}
-use native.Mathlib.Numerals.{add-one}
+use Prim.Native.Nat.{ℕ, _+_, _≤_, _<_}
 use native.Mathlib.Omega.{arith}
+use lib.Bits.{bitAnd}
 use lib.Dec.{eqb, leb}
 use lib.ListN.{length, take, length-append}
 use borrow.Author.Needs.{needs}
-use borrow.Author.Tests.{eqb-true, eq-eqb, ne-eqb, leb-false, le-leb, lt-leb, not-true, not-false}
+use borrow.Author.Tests.{eqb-true, eq-eqb, ne-eqb, leb-false, le-leb, lt-leb, lt-ltb, le-ltb}
+use Rattle.relation.specs.Bits.{bit, maskOf}
 use Rattle.relation.specs.Lists.{anyBelow}
-use Rattle.relation.specs.Finite.{rowsOf, closed, loops}
-use Rattle.relation.proofs.ListLaws.{anyBelow-intro, anyBelow-ext}
-use Rattle.relation.proofs.FiniteLaws.{loops-closed}
+use Rattle.relation.specs.Finite.{rowsOf, hasRing}
+use Rattle.relation.specs.Reach.{closesRing}
+use Rattle.relation.specs.Transitive.{Plus}
+use Rattle.relation.proofs.BitLaws.{bit-mask, mask-ext, mask-below}
+use Rattle.relation.proofs.ListLaws.{anyBelow-true, anyBelow-intro, anyBelow-ext, and-left, and-right, and-intro, untrue, true-unless, clash}
+use Rattle.relation.proofs.FiniteLaws.{Agree}
+use Rattle.relation.proofs.SetLaws.{apart-bit, bits-apart}
+use Rattle.relation.proofs.MemberLaws.{member-below}
+use Rattle.relation.proofs.AddedLaws.{added-ring, closes-none}
 use Rattle.model.specs.Limits.{mostRules, mostHeld}
 use Rattle.model.specs.declared.Rule.{Rule}
 use Rattle.model.specs.declared.Write.{Write}
 use Rattle.model.specs.Answer.{refused, answer, refusal, coded}
 use Rattle.model.specs.Rules.{labelOf, dependsOn}
-use Rattle.file_format.specs.Bytes.{byte}
-use Rattle.rule_match.specs.declared.Rules.{Rules}
-use Rattle.rule_match.specs.Held.{rulesOf}
+use Rattle.model.specs.Cyclic.{Cyclic, cyclic}
+use Rattle.model.specs.Schedule.{labelAt}
 use Rattle.model.specs.Needs.{needsRing, late}
 use Rattle.model.specs.Needs as cache
-use Rattle.cache_model.specs.State.{ruleCount, acceptedCount, rulesIn, writesIn, writeIn, storedIn, handed}
-use Rattle.cache_model.specs.Sound.{sound}
+use Rattle.model.proofs.RuleLaws.{dependsOn-true}
+use Rattle.model.proofs.NeedsLaws.{Alike, alike-rows, alike-ring, alike-late, alike-more, needsRing-true}
+use Rattle.rule_cyclelaws.proofs.CyclicLaws.{cyclic-true, true-cyclic}
+use Rattle.rule_match.specs.Held.{rulesOf}
+use Rattle.cache_model.specs.State.{stateSize, acceptedCount, rulesIn, writesIn, storedIn, handed}
+use Rattle.cache_model.specs.Sound.{Sound, ruled, needsHold, sound}
 use Rattle.cache_model.specs.Calls.{left, handInOf}
-use Rattle.cache_soundness.specs.Parts.{Tabled, TabledIf}
-use Rattle.cache_contents.proofs.ContentSteps.{writes-length, write-at}
-use Rattle.cache_layout.proofs.LayoutSteps.{flag-read}
-use Rattle.cache_soundness.proofs.SoundSteps.{table-agrees}
-use Rattle.cache_steps.specs.Given.{callLeavesState, codedKept, lateAt, handFaultBy, handFault}
-use Rattle.cache_steps.proofs.StepLaws.{few-rules, few-writes}
+use Rattle.cache_statelaws.proofs.LayoutLaws.{writes-length, accepted-in}
+use Rattle.cache_statelaws.proofs.SoundLaws.{sound-true}
+use Rattle.cache_masks.specs.Columns.{columned}
+use Rattle.cache_masks.proofs.ColumnLaws.{columned-length, columned-at, front-at, last-at}
+use Rattle.cache_needs.specs.Needed.{neededMask, dependentMask}
+use Rattle.cache_needs.proofs.NeedLaws.{dependents-any}
+use Rattle.cache_soundness.specs.declared.Examined.{Examined}
+use Rattle.cache_soundness.specs.Parts.{Tabled, Seen}
+use Rattle.cache_soundness.proofs.SoundSteps.{columns-alike, not-ruled, ruled-decoded, not-holding, all-sound}
+use Rattle.cache_steps.specs.Given.{callLeavesState, codedKept, handFaultBy, handFault}
 
--- ---- late_at, is_late
+-- ---- closes_ring, fault_behind
 
-module _ (rules : List Rule) (s : List ℕ) (w : Write) (i : ℕ) where
-  pub late-waits : (byte s (110 + 12 * i) ≡ 1 → ⊥) → false ≡ lateAt rules s w i
-  unfolding lateAt
-  late-waits h = rw (← flag-read s i, ne-eqb (byte s (110 + 12 * i)) 1 h)
+module _ (rules : List Rule) (addresses names epochs : List ℕ) (n : ℕ) (w : Write) where
+  abbrev ws : List Write
+  ws = columned addresses names epochs n
 
-  pub late-depends : (v : Write) (r : Bool) → byte s (110 + 12 * i) ≡ 1 → v ≡ writeIn s i → r ≡ dependsOn rules (labelOf v) (labelOf w) → r ≡ lateAt rules s w i
-  unfolding lateAt
-  late-depends v r h e q = rw (← flag-read s i, eq-eqb (byte s (110 + 12 * i)) 1 h, ← e) q
+  -- the needs with w behind the others
+  abbrev wider : ℕ → ℕ → Bool
+  wider = cache.needs rules (ws ++ (w ∷ []))
 
-module _ (rules : List Rule) (s : List ℕ) (w : Write) where
-  pub late-begun : anyBelow (lateAt rules s w) 0 ≡ false
-  unfolding anyBelow
-  late-begun = refl
+  wider-length : length (ws ++ (w ∷ [])) ≡ n + 1
+  wider-length = length-append ws (w ∷ []) ∙ ap (λ (k : ℕ). k + 1) (columned-length addresses names epochs n)
 
-  pub late-more : (i : ℕ) (b : Bool) → anyBelow (lateAt rules s w) i ≡ false → b ≡ lateAt rules s w i → b ≡ false → anyBelow (lateAt rules s w) (i + 1) ≡ false
-  unfolding anyBelow
-  late-more i b none e f = rw (add-one i, none) (sym e ∙ f)
+  same-below : Agree n wider (cache.needs rules ws)
+  unfolding cache.needs
+  same-below i j hi hj =
+      rw (front-at addresses names epochs n w i hi, front-at addresses names epochs n w j hj, columned-at addresses names epochs n i hi, columned-at addresses names epochs n j hj)
 
-  late-all : late rules (writesIn s) (storedIn s) w ≡ anyBelow (lateAt rules s w) (acceptedCount s)
-  unfolding late lateAt
-  late-all = rw (writes-length s) (anyBelow-ext _ _ (acceptedCount s) (λ i h. rw (write-at s i h)))
+  column : maskOf (λ i. wider i n) n ≡ dependentMask rules ws w n
+  unfolding cache.needs dependentMask
+  column =
+      mask-ext _ _ n (λ i h. rw (front-at addresses names epochs n w i h, last-at addresses names epochs n w, columned-at addresses names epochs n i h, le-ltb n i (omega arith)) (or-false _))
 
-  pub late-found : (n i : ℕ) (b : Bool) → n ≡ acceptedCount s → i < n → b ≡ lateAt rules s w i → b ≡ true → true ≡ late rules (writesIn s) (storedIn s) w
-  late-found n i b c h e t = sym (late-all ∙ anyBelow-intro (lateAt rules s w) (acceptedCount s) i (omega arith) (sym e ∙ t))
+  -- no label depends on itself under acyclic rules
+  not-itself : cyclic rules ≡ false → wider n n ≡ false
+  unfolding cache.needs
+  not-itself a =
+      rw (last-at addresses names epochs n w, le-ltb n n (omega arith), or-false (dependsOn rules (labelOf w) (labelOf w)))
+      (untrue (dependsOn rules (labelOf w) (labelOf w)) (λ e. false≢true (sym a ∙ true-cyclic rules (unfold Cyclic in (labelOf w, Plus.one (dependsOn-true rules (labelOf w) (labelOf w) e))))))
 
-  pub late-none : (n i : ℕ) → n ≡ acceptedCount s → i ≤ n → n ≤ i → anyBelow (lateAt rules s w) i ≡ false → false ≡ late rules (writesIn s) (storedIn s) w
-  late-none n i c a b none =
-      let q : i ≡ acceptedCount s = omega arith in
-      sym (late-all ∙ (rw q at none))
+  module _ (rows : List ℕ) (dependents : ℕ) (few : n < mostHeld) (t : take n rows ≡ rowsOf (cache.needs rules ws) n) (a : cyclic rules ≡ false)
+      (ringless : needsRing rules ws ≡ false) (d : dependents ≡ dependentMask rules (columned [] names epochs n) w n) where
+    ring-is : (needed : ℕ) → needed ≡ neededMask rules ws w n → closesRing rows needed dependents ≡ needsRing rules (ws ++ (w ∷ []))
+    unfolding needsRing neededMask
+    ring-is needed e =
+        added-ring (cache.needs rules ws) wider n rows needed dependents few t same-below
+        (ap (hasRing (cache.needs rules ws)) (sym (columned-length addresses names epochs n)) ∙ ringless)
+        (not-itself a) e (d ∙ dependents-any rules [] addresses names epochs n w ∙ sym column)
+        ∙ ap (hasRing wider) (sym wider-length)
 
-pub ruleset lateness = (needs, late-waits, late-depends, late-begun, late-more, late-found, late-none)
+    pub ring-none : dependents ≡ 0 → false ≡ needsRing rules (ws ++ (w ∷ []))
+    ring-none z = closes-none rows (neededMask rules ws w n) dependents z ∙ ring-is (neededMask rules ws w n) refl
 
--- ---- closes_ring
+    pub ring-looked : (needed : ℕ) (r : Bool) → needed ≡ neededMask rules ws w n → r ≡ closesRing rows needed dependents → r ≡ needsRing rules (ws ++ (w ∷ []))
+    ring-looked needed r e q = q ∙ ring-is needed e
 
-pub ring-closed : (rules : List Rule) (s rows reached : List ℕ) (w : Write) (n : ℕ) (b : Bool) → n ≡ acceptedCount s
-    → take (acceptedCount s + 1) rows ≡ rowsOf (cache.needs rules (writesIn s ++ (w ∷ []))) (acceptedCount s + 1)
-    → reached ≡ closed (n + 1) rows → b ≡ loops reached (n + 1) → b ≡ needsRing rules (writesIn s ++ (w ∷ []))
-unfolding needsRing
-ring-closed rules s rows reached w n b c e q f =
-    let z : length (writesIn s ++ (w ∷ [])) ≡ acceptedCount s + 1 = length-append (writesIn s) (w ∷ []) ∙ ap (λ (k : ℕ). k + 1) (writes-length s) in
-    f ∙ rw (q, c, z) (loops-closed rows (cache.needs rules (writesIn s ++ (w ∷ []))) (acceptedCount s + 1) (table-agrees _ rows (acceptedCount s + 1) e))
+  module _ (stored dependents : ℕ) (d : dependents ≡ dependentMask rules (columned [] names epochs n) w n) where
+    depends-bit : (i : ℕ) → i < n → bit dependents i ≡ dependsOn rules (labelAt ws i) (labelOf w)
+    unfolding dependentMask
+    depends-bit i h =
+        ap (λ (m : ℕ). bit m i) (d ∙ dependents-any rules [] addresses names epochs n w)
+        ∙ bit-mask (λ j. dependsOn rules (labelAt ws j) (labelOf w)) n i ∙ rw (lt-ltb i n h)
 
--- the table of the accepted writes, by the rules that were read
-pub ring-table : (rules : List Rule) (s rows : List ℕ) → rules ≡ rulesIn s → Tabled s rows
-    → take (acceptedCount s) rows ≡ rowsOf (cache.needs rules (writesIn s)) (acceptedCount s)
-unfolding Tabled
-ring-table rules s rows i h = rw i h
+    pub none-late : bitAnd dependents stored ≡ 0 → late rules ws (bit stored) w ≡ false
+    unfolding late
+    none-late z =
+        untrue _ (λ e.
+        let k = anyBelow-true (λ i. bit stored i && dependsOn rules (labelAt ws i) (labelOf w)) (length ws) e in
+        let h : k .0 < n = subst (λ (m : ℕ). k .0 < m) (columned-length addresses names epochs n) (k .1) in
+        clash (bit stored (k .0)) (and-left (bit stored (k .0)) _ (k .2)) (apart-bit dependents stored (k .0) z (depends-bit (k .0) h ∙ and-right (bit stored (k .0)) _ (k .2))))
 
-pub ring-most : (s : List ℕ) (n : ℕ) → acceptedCount s < mostHeld → n ≡ acceptedCount s → n + 1 ≤ mostHeld
-ring-most s n h c = omega arith
+    pub some-late : (bitAnd dependents stored ≡ 0 → ⊥) → late rules ws (bit stored) w ≡ true
+    unfolding late
+    some-late z = true-unless _ (λ f. z (bits-apart dependents stored (λ i e. untrue (bit stored i) (λ s. clash _ (there i e s) f))))
+      where
+        there : (i : ℕ) → bit dependents i ≡ true → bit stored i ≡ true → anyBelow (λ i. bit stored i && dependsOn rules (labelAt ws i) (labelOf w)) (length ws) ≡ true
+        there i e s =
+            let h : i < n = member-below dependents n i (rw d (unfold dependentMask in mask-below _ n)) e in
+            anyBelow-intro (λ i. bit stored i && dependsOn rules (labelAt ws i) (labelOf w)) (length ws) i (subst (λ (m : ℕ). i < m) (sym (columned-length addresses names epochs n)) h)
+            (and-intro (bit stored i) _ s (sym (depends-bit i h) ∙ e))
 
-pub ruleset ringing = (needs, ring-table, ring-closed, ring-most)
+    -- the refusals
+    abbrev behindFault : ℕ
+    behindFault = cond (late rules ws (bit stored) w) 17 (cond (needsRing rules (ws ++ (w ∷ []))) 18 0)
+
+    pub behind-late : (bitAnd dependents stored ≡ 0 → ⊥) → 17 ≡ behindFault
+    behind-late h = rw (some-late h)
+
+    module _ (h : bitAnd dependents stored ≡ 0) (b : Bool) (q : b ≡ needsRing rules (ws ++ (w ∷ []))) where
+      pub behind-ring : b ≡ true → 18 ≡ behindFault
+      behind-ring e = rw (none-late h, ← q, e)
+
+      pub behind-none : b ≡ false → 0 ≡ behindFault
+      behind-none e = rw (none-late h, ← q, e)
+
+pub ruleset behind = (needs, ring-none, ring-looked, behind-late, behind-ring, behind-none)
 
 -- ---- hand_fault
 
 module _ (w : Write) (s : List ℕ) where
-  pub hand-short : (length s ≡ 1024 → ⊥) → 14 ≡ handFault w s
+  pub hand-short : (length s ≡ stateSize → ⊥) → 14 ≡ handFault w s
   unfolding handFault handFaultBy
   hand-short h = rw (ne-eqb _ _ h)
 
-  module _ (hs : length s ≡ 1024) (b : Bool) (e : b ≡ sound s) where
-    pub hand-unsound : not b ≡ true → 15 ≡ handFault w s
+  module _ (hs : length s ≡ stateSize) (a : Bool) (e : a ≡ ruled s) where
+    pub hand-unruled : not a ≡ true → 15 ≡ handFault w s
     unfolding handFault handFaultBy
-    hand-unsound t = rw (eq-eqb _ _ hs, ← e, not-true b t)
+    hand-unruled t = rw (eq-eqb _ _ hs, not-ruled s a e t)
 
-    module _ (t : not b ≡ false) where
-      pub hand-rules : ruleCount s ≤ mostRules
-      hand-rules = few-rules s (sym e ∙ not-false b t)
-
-      pub hand-writes : acceptedCount s ≤ mostHeld
-      hand-writes = few-writes s (sym e ∙ not-false b t)
-
-      pub hand-tabled : (rows : List ℕ) → TabledIf b s rows → Tabled s rows
-      unfolding TabledIf
-      hand-tabled rows h = h (not-false b t)
-
-      pub hand-held : (r : Rules) → r .count ≡ ruleCount s → r .count ≤ mostRules
-      hand-held r c = rw c hand-rules
-
-      pub hand-full : mostHeld ≤ acceptedCount s → 16 ≡ handFault w s
+    module _ (t : not a ≡ false) (b : Bool) (f : b ≡ needsHold s) where
+      pub hand-needs : not b ≡ true → 15 ≡ handFault w s
       unfolding handFault handFaultBy
-      hand-full h = rw (eq-eqb _ _ hs, ← e, not-false b t, le-leb _ _ h)
+      hand-needs h = rw (eq-eqb _ _ hs, not-holding s a e t b f h)
 
-      module _ (m : acceptedCount s < mostHeld) (r : Rules) (i : rulesOf r ≡ rulesIn s) (l : Bool) (f : l ≡ late (rulesOf r) (writesIn s) (storedIn s) w) where
-        pub hand-late : l ≡ true → 17 ≡ handFault w s
+      module _ (h : not b ≡ false) (n : ℕ) (c : n ≡ acceptedCount s) where
+        well : sound s ≡ true
+        well = all-sound s a e t b f h
+
+        pub hand-full : mostHeld ≤ n → 16 ≡ handFault w s
         unfolding handFault handFaultBy
-        hand-late h = rw (eq-eqb _ _ hs, ← e, not-false b t, lt-leb _ _ m, ← i, ← f, h)
+        hand-full g = rw (eq-eqb _ _ hs, well, ← c, le-leb _ _ g)
 
-        module _ (g : l ≡ false) (k : Bool) (q : k ≡ needsRing (rulesOf r) (writesIn s ++ (w ∷ []))) where
-          pub hand-ring : k ≡ true → 18 ≡ handFault w s
+        module _ (r : Examined) (rows addresses names epochs : List ℕ) (m : n < mostHeld) (seen : Seen s rows addresses names epochs r) where
+          good : Sound s
+          good = sound-true s well
+
+          here : Alike (columned addresses names epochs n) (writesIn s)
+          here = subst (λ (k : ℕ). Alike (columned addresses names epochs k) (writesIn s)) (sym c) (columns-alike s addresses names epochs (seen .columns))
+
+          rules-are : rulesOf (r .rules) ≡ rulesIn s
+          rules-are = seen .decoded .rules
+
+          -- what the columns' refusals ask
+          pub behind-few : r .rules .count ≤ mostRules
+          behind-few = seen .decoded .few
+
+          pub behind-rows : take n rows ≡ rowsOf (cache.needs (rulesOf (r .rules)) (columned addresses names epochs n)) n
+          unfolding Tabled
+          behind-rows =
+              ap (λ (k : ℕ). take k rows) c ∙ seen .tabled
+              ∙ sym (rw rules-are (ap (rowsOf (cache.needs (rulesIn s) (columned addresses names epochs n))) (sym (columned-length addresses names epochs n))
+              ∙ alike-rows (rulesIn s) (columned addresses names epochs n) (writesIn s) here ∙ ap (rowsOf (cache.needs (rulesIn s) (writesIn s))) (writes-length s)))
+
+          pub behind-acyclic : cyclic (rulesOf (r .rules)) ≡ false
+          behind-acyclic = rw rules-are (untrue (cyclic (rulesIn s)) (λ q. good .holds .acyclic (cyclic-true (rulesIn s) (good .holds .known) q)))
+
+          pub behind-ringless : needsRing (rulesOf (r .rules)) (columned addresses names epochs n) ≡ false
+          behind-ringless =
+              rw (rules-are, alike-ring (rulesIn s) (columned addresses names epochs n) (writesIn s) here)
+              (untrue (needsRing (rulesIn s) (writesIn s)) (λ q. good .holds .ringless (rw (accepted-in s) (needsRing-true (rulesIn s) (writesIn s) q))))
+
+          late-is : late (rulesIn s) (columned addresses names epochs n) (bit (r .stored)) w ≡ late (rulesIn s) (writesIn s) (storedIn s) w
+          late-is =
+              alike-late (rulesIn s) (columned addresses names epochs n) (writesIn s) here (bit (r .stored)) w
+              ∙ late-same (rulesIn s) (writesIn s) (bit (r .stored)) (storedIn s)
+              (λ i h. let l : i < acceptedCount s = subst (λ (k : ℕ). i < k) (writes-length s) h in
+              rw (seen .decoded .stored, bit-mask (storedIn s) (acceptedCount s) i, lt-ltb i (acceptedCount s) l)) w
+            where
+              late-same : (rules : List Rule) (vs : List Write) (p q : ℕ → Bool) → ((i : ℕ) → i < length vs → p i ≡ q i) → (w : Write) → late rules vs p w ≡ late rules vs q w
+              late-same rules vs p q same w = unfold late in anyBelow-ext _ _ (length vs) (λ i h. rw (same i h))
+
+          pub hand-behind : (k : ℕ)
+              → k ≡ cond (late (rulesOf (r .rules)) (columned addresses names epochs n) (bit (r .stored)) w) 17 (cond (needsRing (rulesOf (r .rules)) (columned addresses names epochs n ++ (w ∷ []))) 18 0)
+              → k ≡ handFault w s
           unfolding handFault handFaultBy
-          hand-ring h = rw (eq-eqb _ _ hs, ← e, not-false b t, lt-leb _ _ m, ← i, ← f, g, ← q, h)
+          hand-behind k q =
+              q ∙ rw (rules-are, late-is, alike-ring (rulesIn s) (columned addresses names epochs n ++ (w ∷ [])) (writesIn s ++ (w ∷ [])) (alike-more (columned addresses names epochs n) (writesIn s) here w), eq-eqb _ _ hs, well, ← c, lt-leb _ _ m)
 
-          pub hand-none : k ≡ false → 0 ≡ handFault w s
-          unfolding handFault handFaultBy
-          hand-none h = rw (eq-eqb _ _ hs, ← e, not-false b t, lt-leb _ _ m, ← i, ← f, g, ← q, h)
-
-pub ruleset faulting = (needs, hand-short, hand-unsound, hand-rules, hand-writes, hand-tabled, hand-held, hand-full, hand-late, hand-ring, hand-none)
+pub ruleset faulting = (needs, hand-short, hand-unruled, hand-needs, hand-full, ruled-decoded)
 
 -- ---- pelzhondy_hand_in
 
@@ -140,7 +213,7 @@ module _ (w : Write) (s : List ℕ) (n : ℕ) (e : n ≡ handFault w s) where
   hand-refused : (r : ℕ) → (n ≡ 0 → ⊥) → r ≡ refusal n 0 → callLeavesState r s ≡ codedKept (handInOf w s [])
   unfolding handFault handFaultBy handInOf codedKept coded
   hand-refused r z q =
-      go (eqb (length s) 1024) (sound s) (leb mostHeld (acceptedCount s)) (late (rulesIn s) (writesIn s) (storedIn s) w) (needsRing (rulesIn s) (writesIn s ++ (w ∷ []))) e
+      go (eqb (length s) stateSize) (sound s) (leb mostHeld (acceptedCount s)) (late (rulesIn s) (writesIn s) (storedIn s) w) (needsRing (rulesIn s) (writesIn s ++ (w ∷ []))) e
     where
       go : (a b c d f : Bool) → n ≡ handFaultBy a b c d f
           → callLeavesState r s ≡ codedKept (cond (not a) (left (refused 14 0) s []) (cond (not b) (left (refused 15 0) s []) (cond c (left (refused 16 0) s []) (cond d (left (refused 17 0) s []) (cond f (left (refused 18 0) s []) (left (answer (acceptedCount s + 1)) (handed s w) []))))))
@@ -153,7 +226,7 @@ module _ (w : Write) (s : List ℕ) (n : ℕ) (e : n ≡ handFault w s) where
 
   -- what a hand-in that meets no refusal knows
   record Welcome : Type 0 where
-    size : eqb (length s) 1024 ≡ true
+    size : eqb (length s) stateSize ≡ true
     good : sound s ≡ true
     room : leb mostHeld (acceptedCount s) ≡ false
     timely : late (rulesIn s) (writesIn s) (storedIn s) w ≡ false
@@ -162,10 +235,10 @@ module _ (w : Write) (s : List ℕ) (n : ℕ) (e : n ≡ handFault w s) where
   welcome : n ≡ 0 → Welcome
   unfolding handFault handFaultBy
   welcome z =
-      go (eqb (length s) 1024) (sound s) (leb mostHeld (acceptedCount s)) (late (rulesIn s) (writesIn s) (storedIn s) w) (needsRing (rulesIn s) (writesIn s ++ (w ∷ [])))
+      go (eqb (length s) stateSize) (sound s) (leb mostHeld (acceptedCount s)) (late (rulesIn s) (writesIn s) (storedIn s) w) (needsRing (rulesIn s) (writesIn s ++ (w ∷ [])))
       refl refl refl refl refl (sym e ∙ z)
     where
-      go : (a b c d f : Bool) → eqb (length s) 1024 ≡ a → sound s ≡ b → leb mostHeld (acceptedCount s) ≡ c → late (rulesIn s) (writesIn s) (storedIn s) w ≡ d
+      go : (a b c d f : Bool) → eqb (length s) stateSize ≡ a → sound s ≡ b → leb mostHeld (acceptedCount s) ≡ c → late (rulesIn s) (writesIn s) (storedIn s) w ≡ d
           → needsRing (rulesIn s) (writesIn s ++ (w ∷ [])) ≡ f → handFaultBy a b c d f ≡ 0 → Welcome
       go true true false false false p q r t u z = record { size = p; good = q; room = r; timely = t; ringless = u }
       go false b c d f p q r t u z = absurd (omega arith)
@@ -174,7 +247,7 @@ module _ (w : Write) (s : List ℕ) (n : ℕ) (e : n ≡ handFault w s) where
       go true true false true f p q r t u z = absurd (omega arith)
       go true true false false true p q r t u z = absurd (omega arith)
 
-  pub hand-room : n ≡ 0 → (length s ≡ 1024) × (acceptedCount s < mostHeld)
+  pub hand-room : n ≡ 0 → (length s ≡ stateSize) × (acceptedCount s < mostHeld)
   hand-room z = (eqb-true _ _ (welcome z .size), leb-false _ _ (welcome z .room))
 
   hand-taken : (r : ℕ) (s′ : List ℕ) → n ≡ 0 → r ≡ acceptedCount s + 1 → s′ ≡ handed s w → callLeavesState r s′ ≡ codedKept (handInOf w s [])

@@ -1,45 +1,45 @@
--- The layout as a whole.
+-- The layout as a whole: one law for each return.
 use mathlib.Core.Path.{_≡_, _∙_}
 use mathlib.Core.Bool.{Bool, true, false, not}
 use mathlib.Core.List.{List}
-use Prim.Native.Nat.{ℕ, _+_, _-_, _*_, _≤_, _<_}
-use lib.ListN.{length}
+use Prim.Native.Nat.{ℕ, _-_, _≤_, _<_}
 use borrow.Author.Needs.{needs}
 use borrow.Author.Tests.{eq-eqb, ne-eqb, le-leb, lt-leb, not-true, not-false}
 use Rattle.relation.specs.Lists.{allBelow}
 use Rattle.model.specs.Limits.{mostRules, mostHeld}
 use Rattle.file_format.specs.Bytes.{byte}
-use Rattle.cache_model.specs.State.{ruleCount, acceptedCount}
-use Rattle.cache_model.specs.Sound.{zeros, layout}
-use Rattle.cache_layout.specs.Flags.{flagFits}
+use Rattle.cache_model.specs.State.{stateSize, writesStart, ruleCount, acceptedCount, ruleBase, writeBase}
+use Rattle.cache_layout.specs.Flags.{zeros, flagFits, framed}
 
--- ---- has_layout
+-- ---- is_framed
 
-module _ (s : List ℕ) (size : length s ≡ 1024) where
-  pub layout-rules : mostRules < ruleCount s → false ≡ layout s
-  unfolding layout
-  layout-rules h = rw (eq-eqb _ _ size, lt-leb _ _ h)
+module _ (s : List ℕ) (n : ℕ) (c : n ≡ ruleCount s) where
+  pub framed-rules : mostRules < n → false ≡ framed s
+  unfolding framed
+  framed-rules h = rw (← c, lt-leb _ _ h)
 
-  pub layout-writes : ruleCount s ≤ mostRules → mostHeld < acceptedCount s → false ≡ layout s
-  unfolding layout
-  layout-writes a h = rw (eq-eqb _ _ size, le-leb _ _ a, lt-leb _ _ h)
+  module _ (a : n ≤ mostRules) (m : ℕ) (d : m ≡ acceptedCount s) where
+    pub framed-writes : mostHeld < m → false ≡ framed s
+    unfolding framed
+    framed-writes h = rw (← c, le-leb _ _ a, ← d, lt-leb _ _ h)
 
-  pub layout-third : ruleCount s ≤ mostRules → acceptedCount s ≤ mostHeld → (byte s 3 ≡ 0 → ⊥) → false ≡ layout s
-  unfolding layout
-  layout-third a b h = rw (eq-eqb _ _ size, le-leb _ _ a, le-leb _ _ b, ne-eqb _ _ h)
+    module _ (b : m ≤ mostHeld) where
+      pub framed-third : (byte s 3 ≡ 0 → ⊥) → false ≡ framed s
+      unfolding framed
+      framed-third h = rw (← c, le-leb _ _ a, ← d, le-leb _ _ b, ne-eqb _ _ h)
 
-  module _ (n : ℕ) (x : Bool) (a : ruleCount s ≤ mostRules) (b : acceptedCount s ≤ mostHeld) (z : byte s 3 ≡ 0) (c : n ≡ ruleCount s) (e : x ≡ zeros s (4 + 3 * n) (100 - (4 + 3 * n))) where
-    pub layout-gap : not x ≡ true → false ≡ layout s
-    unfolding layout
-    layout-gap h = rw (eq-eqb _ _ size, le-leb _ _ a, le-leb _ _ b, eq-eqb _ _ z, ← c, ← e, not-true x h)
+      module _ (z : byte s 3 ≡ 0) (k : ℕ) (x : Bool) (p : k ≡ ruleBase n) (e : x ≡ zeros s k (writesStart - k)) where
+        pub framed-gap : not x ≡ true → false ≡ framed s
+        unfolding framed
+        framed-gap h = rw (← c, le-leb _ _ a, ← d, le-leb _ _ b, eq-eqb _ _ z, ← p, ← e, not-true x h)
 
-    module _ (m : ℕ) (y : Bool) (g : not x ≡ false) (d : m ≡ acceptedCount s) (f : y ≡ zeros s (100 + 12 * m) (1024 - (100 + 12 * m))) where
-      pub layout-tail : not y ≡ true → false ≡ layout s
-      unfolding layout
-      layout-tail h = rw (eq-eqb _ _ size, le-leb _ _ a, le-leb _ _ b, eq-eqb _ _ z, ← c, ← e, not-false x g, ← d, ← f, not-true y h)
+        module _ (g : not x ≡ false) (l : ℕ) (y : Bool) (q : l ≡ writeBase m) (f : y ≡ zeros s l (stateSize - l)) where
+          pub framed-tail : not y ≡ true → false ≡ framed s
+          unfolding framed
+          framed-tail h = rw (← c, le-leb _ _ a, ← d, le-leb _ _ b, eq-eqb _ _ z, ← p, ← e, not-false x g, ← q, ← f, not-true y h)
 
-      pub layout-flags : (r : Bool) → not y ≡ false → r ≡ allBelow (flagFits s) (acceptedCount s) → r ≡ layout s
-      unfolding layout flagFits
-      layout-flags r h q = q ∙ rw (eq-eqb _ _ size, le-leb _ _ a, le-leb _ _ b, eq-eqb _ _ z, ← c, ← e, not-false x g, ← d, ← f, not-false y h)
+          pub framed-flags : (r : Bool) → not y ≡ false → r ≡ allBelow (flagFits s) (acceptedCount s) → r ≡ framed s
+          unfolding framed
+          framed-flags r h t = t ∙ rw (← c, le-leb _ _ a, ← d, le-leb _ _ b, eq-eqb _ _ z, ← p, ← e, not-false x g, ← q, ← f, not-false y h)
 
-pub ruleset laying = (needs, layout-rules, layout-writes, layout-third, layout-gap, layout-tail, layout-flags)
+pub ruleset framing = (needs, framed-rules, framed-writes, framed-third, framed-gap, framed-tail, framed-flags)

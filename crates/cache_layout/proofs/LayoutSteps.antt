@@ -1,8 +1,8 @@
--- The steps of the layout, the flags and their count, in the terms of the code.
+-- The steps of the layout and the flags, in the terms of the code.
 use mathlib.Core.Path.{_≡_, refl, sym, _∙_}
 use mathlib.Core.Bool.{Bool, true, false, cond, not, _&&_}
 use mathlib.Core.List.{List}
-use Prim.Native.Nat.{ℕ, suc, _+_, _-_, _*_, _≤_, _<_}
+use Prim.Native.Nat.{ℕ, suc, _+_, _-_, _≤_, _<_}
 use native.Mathlib.Numerals.{add-one}
 use native.Mathlib.Omega.{arith}
 use lib.Dec.{eqb, leb}
@@ -11,12 +11,9 @@ use borrow.Author.Tests.{eq-eqb, ne-eqb, not-true, not-false}
 use Rattle.relation.specs.Bits.{withBit, maskOf}
 use Rattle.relation.specs.Lists.{allBelow}
 use Rattle.relation.proofs.ListLaws.{allBelow-not, and-intro}
-use Rattle.model.specs.Test.{countBelow}
 use Rattle.file_format.specs.Bytes.{byte}
-use Rattle.cache_model.specs.State.{acceptedCount, storedIn}
-use Rattle.cache_model.specs.Sound.{zeros}
-use Rattle.cache_layout.specs.Flags.{flagFits}
-use Rattle.cache_masks.proofs.MaskSteps.{mask-begun}
+use Rattle.cache_model.specs.State.{flagPlace, acceptedCount, writeBase, storedIn}
+use Rattle.cache_layout.specs.Flags.{zeros, flagFits}
 
 -- ---- tests of all numbers below a bound
 
@@ -40,48 +37,24 @@ module _ (p : ℕ → Bool) where
   pub all-stop : (n i : ℕ) (b : Bool) → i < n → b ≡ p i → not b ≡ true → false ≡ allBelow p n
   all-stop n i b h e t = not-all n i h (sym e ∙ not-true b t)
 
--- ---- stored_mask, count_stored
-
-count-one : (b : Bool) (k : ℕ) → cond b (k + 1) k ≡ cond b 1 0 + k
-count-one true k = omega arith
-count-one false k = omega arith
+-- ---- stored_mask
 
 module _ (s : List ℕ) where
-  pub flag-read : (i : ℕ) → eqb (byte s (110 + 12 * i)) 1 ≡ storedIn s i
-  unfolding storedIn
-  flag-read i =
-      let z : 110 + 12 * i ≡ 100 + 12 * i + 10 = omega arith in
-      rw z
-
-  pub stored-more : (i mask next : ℕ) → mask ≡ maskOf (storedIn s) i → next ≡ cond (eqb (byte s (110 + 12 * i)) 1) (withBit mask i) mask
-      → next ≡ maskOf (storedIn s) (i + 1)
+  pub stored-begun : 0 ≡ maskOf (storedIn s) 0
   unfolding maskOf
-  stored-more i mask next e q = q ∙ rw (add-one i, ← flag-read i, e)
+  stored-begun = refl
+
+  pub stored-more : (i at mask next : ℕ) → mask ≡ maskOf (storedIn s) i → at ≡ writeBase i + flagPlace → next ≡ cond (eqb (byte s at) 1) (withBit mask i) mask
+      → next ≡ maskOf (storedIn s) (i + 1)
+  unfolding maskOf storedIn
+  stored-more i at mask next e p q = q ∙ rw (add-one i, e, p)
 
   pub stored-done : (n i mask : ℕ) → n ≡ acceptedCount s → i ≤ n → n ≤ i → mask ≡ maskOf (storedIn s) i → mask ≡ maskOf (storedIn s) (acceptedCount s)
   stored-done n i mask c a b e =
       let q : i ≡ acceptedCount s = omega arith in
       rw q at e
 
-  pub count-begun : 0 ≡ countBelow (storedIn s) 0
-  unfolding countBelow
-  count-begun = refl
-
-  pub count-more : (i k next : ℕ) → k ≡ countBelow (storedIn s) i → next ≡ cond (eqb (byte s (110 + 12 * i)) 1) (k + 1) k
-      → next ≡ countBelow (storedIn s) (i + 1)
-  unfolding countBelow
-  count-more i k next e q = q ∙ count-one (eqb (byte s (110 + 12 * i)) 1) k ∙ rw (add-one i, ← flag-read i, e)
-
-  pub count-done : (n i k : ℕ) → n ≡ acceptedCount s → i ≤ n → n ≤ i → k ≡ countBelow (storedIn s) i → k ≡ countBelow (storedIn s) (acceptedCount s)
-  count-done n i k c a b e =
-      let q : i ≡ acceptedCount s = omega arith in
-      rw q at e
-
-pub count-most : (b : Bool) (i k next : ℕ) → k ≤ i → next ≡ cond b (k + 1) k → next ≤ i + 1
-count-most true i k next h q = omega arith
-count-most false i k next h q = omega arith
-
-pub ruleset flags = (needs, mask-begun, stored-more, stored-done, count-begun, count-more, count-done, count-most)
+pub ruleset flags = (needs, stored-begun, stored-more, stored-done)
 
 -- ---- are_zero
 
@@ -112,19 +85,18 @@ pub ruleset zeroes = (needs, zero-begun, zero-stop, zero-more, zero-done)
 
 -- ---- flags_fit
 
-module _ (s : List ℕ) where
-  pub flag-fits : (i : ℕ) (b : Bool) → b ≡ leb (byte s (110 + 12 * i)) 1 && eqb (byte s (110 + 12 * i + 1)) 0 → b ≡ flagFits s i
+module _ (s : List ℕ) (i at : ℕ) (b : Bool) (p : at ≡ writeBase i + flagPlace) (e : b ≡ leb (byte s at) 1 && eqb (byte s (at + 1)) 0) where
+  flag-fits : b ≡ flagFits s i
   unfolding flagFits
-  flag-fits i b e =
-      let z : 110 + 12 * i ≡ 100 + 12 * i + 10 = omega arith in
-      let y : 110 + 12 * i + 1 ≡ 100 + 12 * i + 11 = omega arith in
-      e ∙ rw (y, z)
+  flag-fits = e ∙ rw p
 
-  pub flags-stop : (n i : ℕ) (b : Bool) → n ≡ acceptedCount s → i < n → b ≡ leb (byte s (110 + 12 * i)) 1 && eqb (byte s (110 + 12 * i + 1)) 0 → not b ≡ true
-      → false ≡ allBelow (flagFits s) (acceptedCount s)
-  flags-stop n i b c h e t = all-stop (flagFits s) (acceptedCount s) i b (omega arith) (flag-fits i b e) t
+  pub flags-more : not b ≡ false → allBelow (flagFits s) i ≡ true → allBelow (flagFits s) (i + 1) ≡ true
+  flags-more t h = all-more (flagFits s) i b h flag-fits t
 
-  pub flags-done : (n i : ℕ) → n ≡ acceptedCount s → i ≤ n → n ≤ i → allBelow (flagFits s) i ≡ true → true ≡ allBelow (flagFits s) (acceptedCount s)
-  flags-done n i c a b h = all-done (flagFits s) i (acceptedCount s) (omega arith) (omega arith) h
+  pub flags-stop : (n : ℕ) → n ≡ acceptedCount s → i < n → not b ≡ true → false ≡ allBelow (flagFits s) (acceptedCount s)
+  flags-stop n c h t = all-stop (flagFits s) (acceptedCount s) i b (omega arith) flag-fits t
 
-pub ruleset fitting = (needs, all-begun, all-more, flag-fits, flags-stop, flags-done)
+pub flags-done : (s : List ℕ) (n i : ℕ) → n ≡ acceptedCount s → i ≤ n → n ≤ i → allBelow (flagFits s) i ≡ true → true ≡ allBelow (flagFits s) (acceptedCount s)
+flags-done s n i c a b h = all-done (flagFits s) i (acceptedCount s) (omega arith) (omega arith) h
+
+pub ruleset fitting = (needs, all-begun, flags-more, flags-stop, flags-done)

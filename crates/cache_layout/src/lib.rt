@@ -1,56 +1,29 @@
-// The layout of a state, its flags and their count.
+// The layout of a state, and its flags.
 ghost use mathlib.Core.Path.{_≡_};
-ghost use mathlib.Core.Bool.{cond, _&&_};
-ghost use Prim.Native.Nat.{_+_, _-_, _<_, _≤_};
+ghost use mathlib.Core.Bool.{_&&_};
+ghost use Prim.Native.Nat.{_-_, _<_, _≤_};
 ghost use lib.Dec.{eqb, leb};
 ghost use lib.ListN.{length};
 ghost use Rattle.relation.specs.Bits.{maskOf};
 ghost use Rattle.relation.specs.Lists.{allBelow};
 ghost use Rattle.model.specs.Limits.{mostHeld};
-ghost use Rattle.model.specs.Test.{countBelow};
-ghost use Rattle.cache_model.specs.State.{acceptedCount, storedIn};
-ghost use Rattle.cache_model.specs.Sound.{zeros, layout};
-ghost use Rattle.cache_layout.specs.Flags.{flagFits};
+ghost use Rattle.cache_model.specs.State.{stateSize, acceptedCount, storedIn};
+ghost use Rattle.cache_layout.specs.Flags.{zeros, flagFits, framed};
 
 // Which of the accepted writes are stored.
 pub fn stored_mask(state: &[u8]) -> u64
-    requires { ⌜ (length (now state) ≡ 1024) × (acceptedCount (now state) ≤ mostHeld) ⌝ }
+    requires { ⌜ (length (now state) ≡ stateSize) × (acceptedCount (now state) ≤ mostHeld) ⌝ }
     ensures { λ r. ⌜ r ≡ maskOf (storedIn (now (state .entry))) (acceptedCount (now (state .entry))) ⌝ }
 {
     let n = cache_contents::wide(state[1]);
     let mut mask: u64 = 0;
     let mut i: usize = 0;
     while i < n {
-        mask = cache_masks::with_bit_if(mask, i, state[110 + 12 * i] == 1);
+        let at = cache_contents::flag_place(i);
+        mask = relation::with_if(mask, i, state[at] == 1);
         i += 1;
     }
     mask
-}
-
-// A count, one more where a flag is 1.
-fn count_flag(k: usize, flag: u8) -> usize
-    requires { ⌜ k < mostHeld ⌝ }
-    ensures { λ r. ⌜ r ≡ cond (eqb flag 1) (k + 1) k ⌝ }
-{
-    if flag == 1 {
-        return k + 1;
-    }
-    k
-}
-
-// How many of the accepted writes are stored.
-pub fn count_stored(state: &[u8]) -> usize
-    requires { ⌜ (length (now state) ≡ 1024) × (acceptedCount (now state) ≤ mostHeld) ⌝ }
-    ensures { λ r. ⌜ r ≡ countBelow (storedIn (now (state .entry))) (acceptedCount (now (state .entry))) ⌝ }
-{
-    let n = cache_contents::wide(state[1]);
-    let mut k: usize = 0;
-    let mut i: usize = 0;
-    while i < n {
-        k = count_flag(k, state[110 + 12 * i]);
-        i += 1;
-    }
-    k
 }
 
 // Whether the bytes from `from` up to `end` are zero.
@@ -80,13 +53,13 @@ fn flag_fits(flag: u8, last: u8) -> bool
 
 // The same of all accepted writes.
 fn flags_fit(state: &[u8]) -> bool
-    requires { ⌜ (length (now state) ≡ 1024) × (acceptedCount (now state) ≤ mostHeld) ⌝ }
+    requires { ⌜ (length (now state) ≡ stateSize) × (acceptedCount (now state) ≤ mostHeld) ⌝ }
     ensures { λ r. ⌜ r ≡ allBelow (flagFits (now (state .entry))) (acceptedCount (now (state .entry))) ⌝ }
 {
     let n = cache_contents::wide(state[1]);
     let mut i: usize = 0;
     while i < n {
-        let at = 110 + 12 * i;
+        let at = cache_contents::flag_place(i);
         if !flag_fits(state[at], state[at + 1]) {
             return false;
         }
@@ -95,24 +68,34 @@ fn flags_fit(state: &[u8]) -> bool
     true
 }
 
-// Whether a state has the layout, within the limits.
-pub fn has_layout(state: &[u8]) -> bool
-    requires { ⌜ length (now state) ≡ 1024 ⌝ }
-    ensures { λ r. ⌜ r ≡ layout (now (state .entry)) ⌝ }
+// Whether a state has the layout, within the limits; that its stored count equals its flags is not asked here.
+pub fn is_framed(state: &[u8]) -> bool
+    requires { ⌜ length (now state) ≡ stateSize ⌝ }
+    ensures { λ r. ⌜ r ≡ framed (now (state .entry)) ⌝ }
 {
-    if (model::MOST_RULES as u8) < state[0] {
+    let rules = cache_contents::wide(state[0]);
+    if model::MOST_RULES < rules {
         return false;
     }
-    if (model::MOST_HELD as u8) < state[1] {
+    let writes = cache_contents::wide(state[1]);
+    if model::MOST_HELD < writes {
         return false;
     }
     if state[3] != 0 {
         return false;
     }
-    if !are_zero(state, 4 + 3 * cache_contents::wide(state[0]), 100) {
+    if !are_zero(
+        state,
+        cache_contents::rule_place(rules),
+        cache_model::WRITES_START,
+    ) {
         return false;
     }
-    if !are_zero(state, 100 + 12 * cache_contents::wide(state[1]), 1024) {
+    if !are_zero(
+        state,
+        cache_contents::write_place(writes),
+        cache_model::STATE_SIZE,
+    ) {
         return false;
     }
     flags_fit(state)

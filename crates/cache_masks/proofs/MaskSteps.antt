@@ -1,131 +1,143 @@
--- A state's rules and writes, and masks of its writes: one law for each return and each turn of a loop.
-use mathlib.Core.Path.{_≡_, refl, _∙_}
-use mathlib.Core.Bool.{Bool, true, false, cond}
+-- Masks of a column: one law for each return and each turn of a loop.
+use mathlib.Core.Path.{_≡_, refl, sym, ap, _∙_}
+use mathlib.Core.Bool.{cond}
 use mathlib.Core.List.{List}
-use Prim.Native.Nat.{ℕ, _+_, _≤_}
+use Prim.Native.Nat.{ℕ, zero, suc, _+_, _-_, _≤_, _<_}
 use native.Mathlib.Numerals.{add-one}
 use native.Mathlib.Omega.{arith}
 use lib.Dec.{eqb, ltb}
+use lib.ListN.{length, getD, set}
 use borrow.Author.Needs.{needs}
+use borrow.Author.Tests.{eq-eqb, ne-eqb}
 use Rattle.relation.specs.Bits.{withBit, maskOf}
-use Rattle.model.specs.declared.Rule.{Rule}
-use Rattle.model.specs.declared.Write.{Write}
-use Rattle.model.specs.Rules.{labelOf, stands, dependsOn}
-use Rattle.cache_model.specs.State.{acceptedCount, writeIn}
+use Rattle.relation.specs.Tables.{Filled}
+use Rattle.relation.proofs.TableLaws.{filled-none, filled-more, filled-all}
+use Rattle.model.specs.Limits.{mostHeld}
+use Rattle.model.specs.Rules.{stands}
 use Rattle.cache_masks.specs.declared.Epochs.{Epochs}
-use Rattle.cache_masks.specs.Masks.{namedMask, addressMask, epochMask, Compared, dependentMask, needsOf, neededMask}
+use Rattle.cache_masks.specs.Masks.{sameMask, sameAt, epochMask, Compared, standingBy, standingBack}
 
--- ---- masks of writes: with_bit_if, named, at_address, compare_epochs, dependents, needed
+-- ---- same
 
-module _ (mask i : ℕ) (b : Bool) where
-  pub bit-set : (r : ℕ) → b ≡ true → r ≡ withBit mask i → r ≡ cond b (withBit mask i) mask
-  bit-set r t e = rw t e
+module _ (column : List ℕ) (x : ℕ) where
+  pub same-begun : 0 ≡ sameMask column x 0
+  unfolding sameMask maskOf
+  same-begun = refl
 
-  pub bit-kept : b ≡ false → mask ≡ cond b (withBit mask i) mask
-  bit-kept f = rw f
+  pub same-suc : (j : ℕ) → sameMask column x (suc j) ≡ cond (eqb (getD column j 0) x) (withBit (sameMask column x j) j) (sameMask column x j)
+  unfolding sameMask maskOf
+  same-suc j = refl
 
-pub mask-begun : (p : ℕ → Bool) → 0 ≡ maskOf p 0
-unfolding maskOf
-mask-begun p = refl
+  pub same-more : (j mask next : ℕ) → mask ≡ sameMask column x j → next ≡ cond (eqb (getD column j 0) x) (withBit mask j) mask
+      → next ≡ sameMask column x (j + 1)
+  same-more j mask next p f = f ∙ rw (add-one j, p) (sym (same-suc j))
 
--- what holds of a count holds at the end of a loop up to it
-pub at-end : (f : ℕ → ℕ) (x j n : ℕ) → j ≤ n → n ≤ j → x ≡ f j → x ≡ f n
-at-end f x j n a b e =
-    let q : j ≡ n = omega arith in
-    rw q at e
+  pub same-done : (j n mask : ℕ) → j ≤ n → n ≤ j → mask ≡ sameMask column x j → mask ≡ sameMask column x n
+  same-done j n mask a b e =
+      let q : j ≡ n = omega arith in
+      rw q at e
 
-module _ (s : List ℕ) where
-  pub named-begun : (name : ℕ) → 0 ≡ namedMask s name 0
-  unfolding namedMask maskOf
-  named-begun name = refl
+pub ruleset same-steps = (needs, same-begun, same-more, same-done)
 
-  pub named-done : (name x j n : ℕ) → n ≡ acceptedCount s → j ≤ n → n ≤ j → x ≡ namedMask s name j → x ≡ namedMask s name (acceptedCount s)
-  named-done name x j n c a b e = at-end (namedMask s name) x j (acceptedCount s) (omega arith) (omega arith) e
+-- ---- last_same, fill_same
 
-  pub address-begun : (address : ℕ) → 0 ≡ addressMask s address 0
-  unfolding addressMask maskOf
-  address-begun address = refl
+module _ (column : List ℕ) (x n j : ℕ) (some : 0 < j) (known : sameMask column x n ≡ sameMask column x j) where
+  pub last-found : (table : List ℕ) → Filled (sameAt column) n table → j ≤ n → getD column (j - 1) 0 ≡ x → getD table (j - 1) 0 ≡ sameMask column x n
+  unfolding sameAt
+  last-found table filled l e =
+      let z : suc (j - 1) ≡ j = omega arith in
+      filled .at (j - 1) (omega arith) ∙ rw (e, z, known)
 
-  pub address-done : (address x j i : ℕ) → j ≤ i → i ≤ j → x ≡ addressMask s address j → x ≡ addressMask s address i
-  address-done address = at-end (addressMask s address)
+  pub last-other : (getD column (j - 1) 0 ≡ x → ⊥) → sameMask column x n ≡ sameMask column x (j - 1)
+  last-other d =
+      let z : j ≡ suc (j - 1) = omega arith in
+      known ∙ ap (sameMask column x) z ∙ same-suc column x (j - 1) ∙ rw (ne-eqb (getD column (j - 1) 0) x d)
 
-  pub epoch-begun : (p t : ℕ) → 0 ≡ epochMask s p t 0
+pub last-none : (column : List ℕ) (x n j : ℕ) → j ≤ 0 → sameMask column x n ≡ sameMask column x j → 0 ≡ sameMask column x n
+last-none column x n j l e =
+    let z : j ≡ 0 = omega arith in
+    rw (e, z) (same-begun column x)
+
+pub same-next : (column table : List ℕ) (i n s r : ℕ) → i < n → n ≤ mostHeld → length table ≡ mostHeld → Filled (sameAt column) i table
+    → s ≡ sameMask column (getD column i 0) i → r ≡ withBit s i → Filled (sameAt column) (i + 1) (set table i r)
+unfolding sameAt
+same-next column table i n s r h few all filled e q =
+    filled-more (sameAt column) i table r filled (omega arith)
+    (q ∙ rw (e, same-suc column (getD column i 0) i, eq-eqb (getD column i 0) (getD column i 0) refl))
+
+pub ruleset last-steps = (needs, last-found, last-other, last-none, same-next, filled-none, filled-all)
+
+-- ---- compare_epochs
+
+module _ (epochs : List ℕ) (t : ℕ) where
+  pub epoch-begun : (p : ℕ) → 0 ≡ epochMask epochs p t 0
   unfolding epochMask maskOf
-  epoch-begun p t = refl
+  epoch-begun p = refl
 
-  pub epoch-done : (p t x j n : ℕ) → n ≡ acceptedCount s → j ≤ n → n ≤ j → x ≡ epochMask s p t j → x ≡ epochMask s p t (acceptedCount s)
-  epoch-done p t x j n c a b e = at-end (epochMask s p t) x j (acceptedCount s) (omega arith) (omega arith) e
+  epoch-done : (p j n mask : ℕ) → j ≤ n → n ≤ j → mask ≡ epochMask epochs p t j → mask ≡ epochMask epochs p t n
+  epoch-done p j n mask a b e =
+      let q : j ≡ n = omega arith in
+      rw q at e
 
-  module _ (rules : List Rule) (w : Write) where
-    pub dependent-begun : 0 ≡ dependentMask rules s w 0
-    unfolding dependentMask maskOf
-    dependent-begun = refl
-
-    pub dependent-done : (x j n : ℕ) → n ≡ acceptedCount s → j ≤ n → n ≤ j → x ≡ dependentMask rules s w j → x ≡ dependentMask rules s w (acceptedCount s)
-    dependent-done x j n c a b e = at-end (dependentMask rules s w) x j (acceptedCount s) (omega arith) (omega arith) e
-
-    pub needed-begun : 0 ≡ neededMask rules s w 0
-    unfolding neededMask maskOf
-    needed-begun = refl
-
-    pub needed-done : (x j n : ℕ) → n ≡ acceptedCount s → j ≤ n → n ≤ j → x ≡ neededMask rules s w j → x ≡ neededMask rules s w (acceptedCount s)
-    needed-done x j n c a b e = at-end (neededMask rules s w) x j (acceptedCount s) (omega arith) (omega arith) e
-
--- one write more
-module _ (s : List ℕ) (j mask next : ℕ) (v : Write) (e : v ≡ writeIn s j) where
-  pub named-more : (name : ℕ) → mask ≡ namedMask s name j → next ≡ cond (eqb (v .name) name) (withBit mask j) mask → next ≡ namedMask s name (j + 1)
-  unfolding namedMask maskOf
-  named-more name p f = f ∙ rw (add-one j, p, e)
-
-  pub address-more : (address : ℕ) → mask ≡ addressMask s address j → next ≡ cond (eqb (v .address) address) (withBit mask j) mask
-      → next ≡ addressMask s address (j + 1)
-  unfolding addressMask maskOf
-  address-more address p f = f ∙ rw (add-one j, p, e)
-
-  module _ (t : ℕ) where
-    pub equal-more : mask ≡ epochMask s 0 t j → next ≡ cond (eqb t (v .epoch)) (withBit mask j) mask → next ≡ epochMask s 0 t (j + 1)
+  module _ (j mask next : ℕ) where
+    pub equal-more : mask ≡ epochMask epochs 0 t j → next ≡ cond (eqb t (getD epochs j 0)) (withBit mask j) mask → next ≡ epochMask epochs 0 t (j + 1)
     unfolding epochMask maskOf stands
-    equal-more p f = f ∙ rw (add-one j, p, e)
+    equal-more p f = f ∙ rw (add-one j, p)
 
-    pub less-more : mask ≡ epochMask s 1 t j → next ≡ cond (ltb (v .epoch) t) (withBit mask j) mask → next ≡ epochMask s 1 t (j + 1)
+    pub less-more : mask ≡ epochMask epochs 1 t j → next ≡ cond (ltb (getD epochs j 0) t) (withBit mask j) mask → next ≡ epochMask epochs 1 t (j + 1)
     unfolding epochMask maskOf stands
-    less-more p f = f ∙ rw (add-one j, p, e)
+    less-more p f = f ∙ rw (add-one j, p)
 
-    pub greater-more : mask ≡ epochMask s 2 t j → next ≡ cond (ltb t (v .epoch)) (withBit mask j) mask → next ≡ epochMask s 2 t (j + 1)
+    pub greater-more : mask ≡ epochMask epochs 2 t j → next ≡ cond (ltb t (getD epochs j 0)) (withBit mask j) mask → next ≡ epochMask epochs 2 t (j + 1)
     unfolding epochMask maskOf stands
-    greater-more p f = f ∙ rw (add-one j, p, e)
+    greater-more p f = f ∙ rw (add-one j, p)
 
-  module _ (rules : List Rule) (w : Write) (b : Bool) where
-    pub dependent-more : mask ≡ dependentMask rules s w j → next ≡ cond b (withBit mask j) mask → b ≡ dependsOn rules (labelOf v) (labelOf w)
-        → next ≡ dependentMask rules s w (j + 1)
-    unfolding dependentMask maskOf
-    dependent-more p f q = f ∙ rw (add-one j, p, q, e)
+  pub epochs-compared : (j n x y z : ℕ) → j ≤ n → n ≤ j → x ≡ epochMask epochs 0 t j → y ≡ epochMask epochs 1 t j → z ≡ epochMask epochs 2 t j
+      → Compared epochs t n (record { equal = x; less = y; greater = z })
+  unfolding Compared
+  epochs-compared j n x y z a b p q r = (epoch-done 0 j n x a b p, epoch-done 1 j n y a b q, epoch-done 2 j n z a b r)
 
-    pub needed-more : mask ≡ neededMask rules s w j → next ≡ cond b (withBit mask j) mask → b ≡ needsOf rules w v → next ≡ neededMask rules s w (j + 1)
-    unfolding neededMask maskOf
-    needed-more p f q = f ∙ rw (add-one j, p, q, e)
+pub ruleset comparing = (needs, epoch-begun, equal-more, less-more, greater-more, epochs-compared)
 
--- ---- needs_write
+-- ---- standing, standing_back
 
-module _ (rules : List Rule) (w v : Write) (b : Bool) (e : b ≡ dependsOn rules (labelOf w) (labelOf v)) where
-  pub need-depends : b ≡ true → true ≡ needsOf rules w v
-  unfolding needsOf
-  need-depends h = rw (← e, h)
+module _ (e : Epochs) (p : ℕ) where
+  pub standing-equal : p ≡ 0 → e .equal ≡ standingBy e p
+  unfolding standingBy
+  standing-equal h = rw h
 
-  pub need-address : b ≡ false → eqb (v .address) (w .address) ≡ needsOf rules w v
-  unfolding needsOf
-  need-address h = rw (← e, h)
+  pub standing-less : p ≡ 1 → e .less ≡ standingBy e p
+  unfolding standingBy
+  standing-less h = rw h
 
-pub ruleset masks = (needs, bit-set, bit-kept, named-begun, named-more, named-done, address-begun, address-more, address-done, equal-more, less-more, greater-more, dependent-begun, dependent-more, dependent-done, needed-begun, needed-more, needed-done, need-depends, need-address)
+  pub standing-greater : p ≡ 2 → e .greater ≡ standingBy e p
+  unfolding standingBy
+  standing-greater h = rw h
 
--- ---- compare_epochs, next_epochs
+  pub back-equal : p ≡ 0 → e .equal ≡ standingBack e p
+  unfolding standingBack
+  back-equal h = rw h
 
-pub epochs-compared : (s : List ℕ) (t j n x y z : ℕ) → n ≡ acceptedCount s → j ≤ n → n ≤ j → x ≡ epochMask s 0 t j → y ≡ epochMask s 1 t j → z ≡ epochMask s 2 t j
-    → Compared s t (record { equal = x; less = y; greater = z })
-unfolding Compared
-epochs-compared s t j n x y z c a b p q r = (epoch-done s 0 t x j n c a b p, epoch-done s 1 t y j n c a b q, epoch-done s 2 t z j n c a b r)
+  pub back-greater : p ≡ 1 → e .greater ≡ standingBack e p
+  unfolding standingBack
+  back-greater h = rw h
 
-pub epochs-kept : (s : List ℕ) (t u : ℕ) (e : Epochs) → t ≡ u → Compared s t e → Compared s u e
-epochs-kept s t u e q h = rw q at h
+  pub back-less : p ≡ 2 → e .less ≡ standingBack e p
+  unfolding standingBack
+  back-less h = rw h
 
-pub ruleset comparing = (needs, epoch-begun, epochs-compared, epochs-kept)
+pub standing-other : (e : Epochs) (p : ℕ) → (p ≡ 0 → ⊥) → (p ≡ 1 → ⊥) → (p ≡ 2 → ⊥) → 0 ≡ standingBy e p
+unfolding standingBy
+standing-other e zero a b c = absurd (a refl)
+standing-other e (suc zero) a b c = absurd (b refl)
+standing-other e (suc (suc zero)) a b c = absurd (c refl)
+standing-other e (suc (suc (suc p))) a b c = refl
+
+pub back-other : (e : Epochs) (p : ℕ) → (p ≡ 0 → ⊥) → (p ≡ 1 → ⊥) → (p ≡ 2 → ⊥) → 0 ≡ standingBack e p
+unfolding standingBack
+back-other e zero a b c = absurd (a refl)
+back-other e (suc zero) a b c = absurd (b refl)
+back-other e (suc (suc zero)) a b c = absurd (c refl)
+back-other e (suc (suc (suc p))) a b c = refl
+
+pub ruleset standings = (needs, standing-equal, standing-less, standing-greater, standing-other, back-equal, back-greater, back-less, back-other)

@@ -1,3 +1,4 @@
+pub mod Entries
 pub mod State
 pub mod Sound
 pub mod Calls

@@ -1,1 +1,3 @@
+pub mod TableSteps
+pub mod NeedLaws
 pub mod NeedSteps

@@ -1,115 +1,181 @@
-// What a state's accepted writes need, as a table of masks, and what a write handed in adds to it.
-use cache_masks::Epochs;
+// What writes need, as a table of masks, and what a write behind them needs and what depends on it. Writes are
+// given by their columns.
 use model::Rule;
 use model::Write;
 use rule_match::Rules;
 ghost use mathlib.Core.Path.{_≡_};
-ghost use mathlib.Core.List.{[], _∷_, _++_};
-ghost use Prim.Native.Nat.{_+_, _<_, _≤_};
+ghost use mathlib.Core.Bool.{cond};
+ghost use mathlib.Core.List.{[]};
+ghost use Prim.Native.Nat.{_<_, _≤_};
+ghost use lib.Bits.{bitAnd, bitOr};
 ghost use lib.ListN.{length, take};
-ghost use Rattle.relation.specs.Bits.{maskOf};
-ghost use Rattle.relation.specs.Lists.{tabulate};
+ghost use Rattle.relation.specs.Tables.{Filled};
 ghost use Rattle.relation.specs.Finite.{rowsOf};
 ghost use Rattle.model.specs.Limits.{mostRules, mostHeld};
-ghost use Rattle.rule_match.specs.Held.{rulesOf};
 ghost use Rattle.model.specs.Needs.{needs};
-ghost use Rattle.cache_model.specs.State.{acceptedCount, writeIn, writesIn};
-ghost use Rattle.cache_masks.specs.Masks.{secondMask, standingBy, withRule, pairedBy, Compared};
+ghost use Rattle.rule_match.specs.Held.{rulesOf};
+ghost use Rattle.cache_masks.specs.Columns.{columned};
+ghost use Rattle.cache_masks.specs.Masks.{sameMask};
+ghost use Rattle.cache_masks.specs.Ranks.{bounds};
+ghost use Rattle.cache_needs.specs.Needed.{neededMask, dependentMask};
+ghost use Rattle.cache_needs.specs.Tables.{behindOf, earlierAt, Added, SmallOf, Ready, Adds};
 
-// Of the writes whose epochs were compared with one, those that stand to it as a predicate says.
-fn standing(epochs: Epochs, p: u8) -> u64
-    ensures { λ r. ⌜ r ≡ standingBy epochs p ⌝ }
+// A byte as an index.
+fn wide(x: u8) -> usize
+    ensures { λ r. ⌜ (r ≡ x) × (r < 256) ⌝ }
 {
-    if p == 0 {
-        return epochs.equal;
-    }
-    if p == 1 {
-        return epochs.less;
-    }
-    if p == 2 {
-        return epochs.greater;
-    }
-    0
+    x as usize
 }
 
-// mask, and those of second that a rule pairs with a write of this name and epoch.
-fn with_rule(mask: u64, rule: Rule, second: u64, name: u8, epochs: Epochs) -> u64
-    ensures { λ r. ⌜ r ≡ withRule mask rule second name epochs ⌝ }
+// What a write to an address needs of the earlier ones, by the place, from 1, of the last of them: this one and
+// what it needs itself; 0 is for none.
+fn behind(rows: &[u64], place: usize) -> u64
+    requires { ⌜ (length (now rows) ≡ mostHeld) × (place ≤ mostHeld) ⌝ }
+    ensures { λ r. ⌜ r ≡ behindOf (now (rows .entry)) place ⌝ }
 {
-    if name != rule.first {
-        return mask;
+    if place == 0 {
+        return 0;
     }
-    mask | (second & standing(epochs, rule.predicate))
+    relation::with_bit(rows[place - 1], place - 1)
 }
 
-// The writes that rules pair with a write of this name and epoch. seconds has for each rule the
-// writes with its second name.
-fn dependencies(rules: Rules, seconds: &[u64], name: u8, epochs: Epochs) -> u64
-    requires { ⌜ (rules .count ≤ mostRules) × (length (now seconds) ≡ mostRules) ⌝ }
-    ensures { λ r. ⌜ r ≡ pairedBy rules (now (seconds .entry)) name epochs (rules .count) ⌝ }
+// For each write the earlier ones to its address.
+fn fill_earlier(rows: &mut [u64], addresses: &[u8], n: usize)
+    requires { ⌜ (length (now rows) ≡ mostHeld) × ((length (now addresses) ≡ mostHeld) × (n ≤ mostHeld)) ⌝ }
+    ensures { λ _. ⌜ (length (now (rows .exit)) ≡ mostHeld) × Filled (earlierAt (now (addresses .entry))) n (now (rows .exit)) ⌝ }
 {
-    let mut mask: u64 = 0;
+    let mut last = [0u8; model::DISK_BLOCKS];
+    let mut i: usize = 0;
+    while i < n {
+        let a = wide(addresses[i]);
+        rows[i] = behind(rows, wide(last[a]));
+        last[a] = (i + 1) as u8;
+        i += 1;
+    }
+}
+
+// Each row of firsts gets those of seconds to whose epochs its own, by its rank, stands as a predicate says.
+fn add_to(rows: &mut [u64], firsts: u64, seconds: u64, p: u8, ranks: &[u8], belows: &[u64])
+    requires { ⌜ (length (now rows) ≡ mostHeld) × ((length (now ranks) ≡ mostHeld) × ((length (now belows) ≡ bounds) × SmallOf firsts (now ranks))) ⌝ }
+    ensures { λ _. ⌜ (length (now (rows .exit)) ≡ mostHeld) × Added (now (rows .entry)) firsts seconds p (now (ranks .entry)) (now (belows .entry)) 0 (now (rows .exit)) ⌝ }
+{
+    let mut left = firsts;
+    while left != 0 {
+        let i = relation::lowest(left);
+        rows[i] = rows[i] | (seconds & cache_masks::standing_in(belows, wide(ranks[i]), p));
+        left = relation::without(left, 1 << i);
+    }
+}
+
+// The rows get what a rule makes their writes depend on. alike has for each write those up to it with its name.
+fn add_rule(
+    rows: &mut [u64],
+    rule: Rule,
+    names: &[u8],
+    n: usize,
+    alike: &[u64],
+    ranks: &[u8],
+    belows: &[u64],
+)
+    requires { ⌜ (length (now rows) ≡ mostHeld) × ((n ≤ mostHeld) × Ready (now names) n (now alike) (now ranks) (now belows)) ⌝ }
+    ensures { λ _. ⌜ (length (now (rows .exit)) ≡ mostHeld) × Added (now (rows .entry)) (sameMask (now (names .entry)) (rule .first) n) (sameMask (now (names .entry)) (rule .second) n) (rule .predicate) (now (ranks .entry)) (now (belows .entry)) 0 (now (rows .exit)) ⌝ }
+{
+    let firsts = cache_masks::last_same(alike, names, rule.first, n);
+    let seconds = cache_masks::last_same(alike, names, rule.second, n);
+    add_to(rows, firsts, seconds, rule.predicate, ranks, belows);
+}
+
+// The same of all rules.
+fn add_rules(
+    rows: &mut [u64],
+    rules: Rules,
+    names: &[u8],
+    n: usize,
+    alike: &[u64],
+    ranks: &[u8],
+    belows: &[u64],
+)
+    requires { ⌜ (length (now rows) ≡ mostHeld) × ((rules .count ≤ mostRules) × ((n ≤ mostHeld) × Ready (now names) n (now alike) (now ranks) (now belows))) ⌝ }
+    ensures { λ _. ⌜ (length (now (rows .exit)) ≡ mostHeld) × Adds (rulesOf rules) (now (names .entry)) n (now (ranks .entry)) (now (belows .entry)) (now (rows .entry)) (now (rows .exit)) ⌝ }
+{
     let mut k: usize = 0;
     while k < rules.count {
-        mask = with_rule(mask, rules.items[k], seconds[k], name, epochs);
+        add_rule(rows, rules.items[k], names, n, alike, ranks, belows);
+        k += 1;
+    }
+}
+
+// The needs of the first n writes: the earlier ones to the same address, and rule by rule, by its two names, what
+// a write depends on.
+pub fn fill_needs(
+    rows: &mut [u64],
+    rules: Rules,
+    addresses: &[u8],
+    names: &[u8],
+    epochs: &[u32],
+    n: usize,
+)
+    requires { ⌜ ((length (now rows) ≡ mostHeld) × ((length (now addresses) ≡ mostHeld) × ((length (now names) ≡ mostHeld) × (length (now epochs) ≡ mostHeld)))) × ((rules .count ≤ mostRules) × (n ≤ mostHeld)) ⌝ }
+    ensures { λ _. ⌜ (length (now (rows .exit)) ≡ mostHeld) × (take n (now (rows .exit)) ≡ rowsOf (needs (rulesOf rules) (columned (now (addresses .entry)) (now (names .entry)) (now (epochs .entry)) n)) n) ⌝ }
+{
+    fill_earlier(rows, addresses, n);
+    let mut alike = [0u64; model::MOST_HELD];
+    cache_masks::fill_same(&mut alike, names, n);
+    let mut ranks = [0u8; model::MOST_HELD];
+    cache_masks::fill_ranks(&mut ranks, epochs, n);
+    let mut belows = [0u64; cache_masks::BOUNDS];
+    cache_masks::fill_belows(&mut belows, &ranks, n);
+    add_rules(rows, rules, names, n, &alike, &ranks, &belows);
+}
+
+// mask, and, if asked for, those of standing that have a name.
+fn with_named(mask: u64, on: bool, names: &[u8], name: u8, n: usize, standing: u64) -> u64
+    requires { ⌜ (length (now names) ≡ mostHeld) × (n ≤ mostHeld) ⌝ }
+    ensures { λ r. ⌜ r ≡ cond on (bitOr mask (bitAnd (sameMask (now (names .entry)) name n) standing)) mask ⌝ }
+{
+    if !on {
+        return mask;
+    }
+    mask | (cache_masks::same(names, name, n) & standing)
+}
+
+// Which of the first n writes w, behind them, needs.
+pub fn needed(
+    rules: Rules,
+    addresses: &[u8],
+    names: &[u8],
+    epochs: &[u32],
+    n: usize,
+    w: Write,
+) -> u64
+    requires { ⌜ ((length (now addresses) ≡ mostHeld) × ((length (now names) ≡ mostHeld) × (length (now epochs) ≡ mostHeld))) × ((rules .count ≤ mostRules) × (n < mostHeld)) ⌝ }
+    ensures { λ r. ⌜ r ≡ neededMask (rulesOf rules) (columned (now (addresses .entry)) (now (names .entry)) (now (epochs .entry)) n) w n ⌝ }
+{
+    let compared = cache_masks::compare_epochs(epochs, w.epoch, n);
+    let mut mask = cache_masks::same(addresses, w.address, n);
+    let mut k: usize = 0;
+    while k < rules.count {
+        let rule = rules.items[k];
+        let standing = cache_masks::standing(compared, rule.predicate);
+        mask = with_named(mask, w.name == rule.first, names, rule.second, n, standing);
         k += 1;
     }
     mask
 }
 
-// For each rule the accepted writes with its second name.
-fn fill_seconds(seconds: &mut [u64], state: &[u8], rules: Rules)
-    requires { ⌜ (length (now seconds) ≡ mostRules) × ((length (now state) ≡ 1024) × ((rules .count ≤ mostRules) × (acceptedCount (now state) ≤ mostHeld))) ⌝ }
-    ensures { λ _. ⌜ (length (now (seconds .exit)) ≡ mostRules) × (take (rules .count) (now (seconds .exit)) ≡ tabulate (secondMask (rulesOf rules) (now (state .entry))) (rules .count)) ⌝ }
+// Which of the first n writes depend on w.
+pub fn dependents(rules: Rules, names: &[u8], epochs: &[u32], n: usize, w: Write) -> u64
+    requires { ⌜ ((length (now names) ≡ mostHeld) × (length (now epochs) ≡ mostHeld)) × ((rules .count ≤ mostRules) × (n ≤ mostHeld)) ⌝ }
+    ensures { λ r. ⌜ r ≡ dependentMask (rulesOf rules) (columned [] (now (names .entry)) (now (epochs .entry)) n) w n ⌝ }
 {
+    let compared = cache_masks::compare_epochs(epochs, w.epoch, n);
+    let mut mask: u64 = 0;
     let mut k: usize = 0;
     while k < rules.count {
-        seconds[k] = cache_masks::named(state, rules.items[k].second);
+        let rule = rules.items[k];
+        let standing = cache_masks::standing_back(compared, rule.predicate);
+        mask = with_named(mask, w.name == rule.second, names, rule.first, n, standing);
         k += 1;
     }
-}
-
-// What write i, which is u, needs.
-fn row(state: &[u8], rules: Rules, seconds: &[u64], i: usize, u: Write, epochs: Epochs) -> u64
-    requires { ⌜ (length (now state) ≡ 1024) × ((rules .count ≤ mostRules) × ((acceptedCount (now state) ≤ mostHeld) × ((i < acceptedCount (now state)) × ((u ≡ writeIn (now state) i) × (Compared (now state) (u .epoch) epochs × ((length (now seconds) ≡ mostRules) × (take (rules .count) (now seconds) ≡ tabulate (secondMask (rulesOf rules) (now state)) (rules .count)))))))) ⌝ }
-    ensures { λ r. ⌜ r ≡ maskOf (needs (rulesOf rules) (writesIn (now (state .entry))) i) (acceptedCount (now (state .entry))) ⌝ }
-{
-    dependencies(rules, seconds, u.name, epochs) | cache_masks::at_address(state, u.address, i)
-}
-
-// The needs of the accepted writes. Epochs are compared anew only where the epoch changes.
-pub fn fill_needs(rows: &mut [u64], state: &[u8], rules: Rules)
-    requires { ⌜ (length (now rows) ≡ 64) × ((length (now state) ≡ 1024) × ((rules .count ≤ mostRules) × (acceptedCount (now state) ≤ mostHeld))) ⌝ }
-    ensures { λ _. ⌜ take (acceptedCount (now (state .entry))) (now (rows .exit)) ≡ rowsOf (needs (rulesOf rules) (writesIn (now (state .entry)))) (acceptedCount (now (state .entry))) ⌝ }
-{
-    let n = cache_contents::wide(state[1]);
-    let mut seconds = [0u64; model::MOST_RULES];
-    fill_seconds(&mut seconds, state, rules);
-    let mut t: u32 = 0;
-    let mut epochs = cache_masks::compare_epochs(state, t);
-    let mut i: usize = 0;
-    while i < n {
-        let u = cache_contents::write_in(state, i);
-        epochs = cache_masks::next_epochs(epochs, state, t, u.epoch);
-        t = u.epoch;
-        rows[i] = row(state, rules, &seconds, i, u, epochs);
-        i += 1;
-    }
-}
-
-// The needs of the accepted writes and w behind them, from those of the accepted writes.
-pub fn fill_with(wider: &mut [u64], rows: &[u64; 64], state: &[u8], rules: Rules, w: Write)
-    requires { ⌜ (length (now wider) ≡ 64) × ((length (now state) ≡ 1024) × ((rules .count ≤ mostRules) × ((acceptedCount (now state) < mostHeld) × (take (acceptedCount (now state)) (now rows) ≡ rowsOf (needs (rulesOf rules) (writesIn (now state))) (acceptedCount (now state)))))) ⌝ }
-    ensures { λ _. ⌜ take (acceptedCount (now (state .entry)) + 1) (now (wider .exit)) ≡ rowsOf (needs (rulesOf rules) (writesIn (now (state .entry)) ++ (w ∷ []))) (acceptedCount (now (state .entry)) + 1) ⌝ }
-{
-    let n = cache_contents::wide(state[1]);
-    let column = cache_masks::dependents(state, rules, w);
-    let mut i: usize = 0;
-    while i < n {
-        wider[i] = cache_masks::with_bit_if(rows[i], n, relation::has_bit(column, i));
-        i += 1;
-    }
-    let last = cache_masks::needed(state, rules, w);
-    let itself = rule_match::depends(rules, w.name, w.epoch, w.name, w.epoch);
-    wider[n] = cache_masks::with_bit_if(last, n, itself);
+    mask
 }

@@ -1,7 +1,7 @@
 -- The steps of opening: one law for each return and each turn of a loop, whose premises are what is known at that place.
 use mathlib.Core.Path.{_≡_, refl, sym, ap, _∙_}
 use mathlib.Core.Bool.{Bool, true, false, cond}
-use mathlib.Core.List.{List, [], _∷_, _++_, append-assoc, append-nil}
+use mathlib.Core.List.{List, [], _∷_, _++_}
 use Prim.Native.Nat.{ℕ, suc, _+_, _*_, _≤_, _<_}
 use native.Mathlib.Numerals.{add-one}
 use native.Mathlib.Omega.{arith}
@@ -18,7 +18,7 @@ use Rattle.file_format.specs.declared.Extent.{Extent}
 use Rattle.file_format.specs.declared.Scan.{Scan}
 use Rattle.file_format.specs.declared.Scan.the-variants.{Accepted, Refused}
 use Rattle.file_format.specs.Bytes.{ruleBytes}
-use Rattle.file_format.specs.File.{isRule}
+use Rattle.file_format.specs.File.{isRule, ruleLength}
 use Rattle.file_format.specs.Scan.{rulesAt, scanOf}
 use Rattle.file_format.specs.Held.{Fields, ScansTo}
 use Rattle.file_reader.proofs.CallerLaws.{refused-read, refused-most, accepted-rules, accepted-fields, accepted-read, accepted-at, accepted-placed}
@@ -26,7 +26,9 @@ use Rattle.rule_match.specs.declared.Rules.{Rules}
 use Rattle.rule_match.specs.Held.{rulesOf}
 use Rattle.rule_match.proofs.MatchSteps.{length-mapped}
 use Rattle.rule_match.specs.Held.{itemAt}
-use Rattle.cache_model.specs.State.{rulesBytes, opened}
+use Rattle.cache_model.specs.State.{stateSize, ruleBase, bytesEach, rulesBytes, opened}
+use Rattle.cache_statelaws.proofs.EachLaws.{each-append}
+use Rattle.cache_statelaws.proofs.LayoutLaws.{rule-size, length-rules}
 use Rattle.cache_model.specs.Calls.{left, openWith, openOf}
 use Rattle.cache_steps.specs.Given.{callLeavesState, codedKept, openedBy}
 use Rattle.cache_stores.proofs.StoreSteps.{inside}
@@ -37,16 +39,16 @@ use Rattle.cache_stores.proofs.AppendSteps.{sets-append}
 pub clear-begun : (l : List ℕ) → take 0 l ≡ replicate 0 0
 clear-begun l = refl
 
-pub clear-more : (l : List ℕ) (i : ℕ) → length l ≡ 1024 → i < 1024 → take i l ≡ replicate i 0 → take (i + 1) (set l i 0) ≡ replicate (i + 1) 0
+pub clear-more : (l : List ℕ) (i : ℕ) → length l ≡ stateSize → i < stateSize → take i l ≡ replicate i 0 → take (i + 1) (set l i 0) ≡ replicate (i + 1) 0
 clear-more l i h b e =
     let one : i + 1 ≡ suc i = omega arith in
     let last : take (i + 1) (set l i 0) ≡ take i l ++ (0 ∷ []) = rw one (take-suc-set l i 0 (omega arith)) in
     last ∙ ap (λ (x : List ℕ). x ++ (0 ∷ [])) e ∙ replicate-append-replicate {A = ℕ} i 1 0
 
-pub clear-done : (l : List ℕ) (i : ℕ) → length l ≡ 1024 → i ≤ 1024 → 1024 ≤ i → take i l ≡ replicate i 0 → l ≡ replicate 1024 0
+pub clear-done : (l : List ℕ) (i : ℕ) → length l ≡ stateSize → i ≤ stateSize → stateSize ≤ i → take i l ≡ replicate i 0 → l ≡ replicate stateSize 0
 clear-done l i h a b e =
-    let q : i ≡ 1024 = omega arith in
-    sym (take-all 1024 l (omega arith)) ∙ (rw q at e)
+    let q : i ≡ stateSize = omega arith in
+    sym (take-all stateSize l (omega arith)) ∙ (rw q at e)
 
 pub ruleset clearing = (needs, clear-begun, clear-more, clear-done)
 
@@ -61,30 +63,21 @@ rule-put l at r =
 
 -- a state with a count and the rules so far
 abbrev pub written : ℕ → List Rule → List ℕ
-written n rules = sets (replicate 1024 0) 0 (n ∷ 0 ∷ 0 ∷ 0 ∷ rulesBytes rules)
+written n rules = sets (replicate stateSize 0) 0 (n ∷ 0 ∷ 0 ∷ 0 ∷ rulesBytes rules)
 
-bytes-append : (rs : List Rule) (r : Rule) → rulesBytes (rs ++ (r ∷ [])) ≡ rulesBytes rs ++ ruleBytes r
-unfolding rulesBytes
-bytes-append [] r = append-nil (ruleBytes r)
-bytes-append (q ∷ rs) r = rw (bytes-append rs r) (sym (append-assoc (ruleBytes q) (rulesBytes rs) (ruleBytes r)))
-
-bytes-length : (rs : List Rule) → length (rulesBytes rs) ≡ 3 * length rs
-unfolding rulesBytes ruleBytes
-bytes-length [] = refl
-bytes-length (q ∷ rs) = let h = bytes-length rs in omega arith
-
-pub rules-begun : (s : List ℕ) (rules : Rules) → s ≡ replicate 1024 0 → set s 0 (rules .count) ≡ written (rules .count) (take 0 (rules .items))
-unfolding rulesBytes
+pub rules-begun : (s : List ℕ) (rules : Rules) → s ≡ replicate stateSize 0 → set s 0 (rules .count) ≡ written (rules .count) (take 0 (rules .items))
+unfolding bytesEach
 rules-begun s rules e = rw e
 
-pub rules-more : (rules : Rules) (s s′ : List ℕ) (i : ℕ) → length (rules .items) ≡ mostRules → rules .count ≤ mostRules → i < rules .count
-    → s ≡ written (rules .count) (take i (rules .items)) → s′ ≡ sets s (4 + 3 * i) (ruleBytes (itemAt rules i)) → s′ ≡ written (rules .count) (take (i + 1) (rules .items))
-rules-more rules s s′ i size few h e q =
+pub rules-more : (rules : Rules) (s s′ : List ℕ) (i at : ℕ) → s′ ≡ sets s at (ruleBytes (itemAt rules i)) → at ≡ ruleBase i
+    → s ≡ written (rules .count) (take i (rules .items)) → length (rules .items) ≡ mostRules → rules .count ≤ mostRules → i < rules .count
+    → s′ ≡ written (rules .count) (take (i + 1) (rules .items))
+rules-more rules s s′ i at q p e size few h =
     let inside : i < length (rules .items) = omega arith in
-    let n : length (rulesBytes (take i (rules .items))) ≡ 3 * i = bytes-length (take i (rules .items)) ∙ ap (λ (k : ℕ). 3 * k) (length-take-le i (rules .items) (omega arith)) in
-    let place : 0 + suc (suc (suc (suc (length (rulesBytes (take i (rules .items))))))) ≡ 4 + 3 * i = omega arith in
-    q ∙ rw (add-one i, take-suc (rules .items) i (record { first = 0; predicate = 0; second = 0 }) inside, bytes-append (take i (rules .items)) (itemAt rules i), e, ← place)
-    (sym (sets-append (replicate 1024 0) 0 (rules .count ∷ 0 ∷ 0 ∷ 0 ∷ rulesBytes (take i (rules .items))) (ruleBytes (itemAt rules i))))
+    let n : length (rulesBytes (take i (rules .items))) ≡ ruleLength * i = length-rules (take i (rules .items)) ∙ ap (λ (k : ℕ). ruleLength * k) (length-take-le i (rules .items) (omega arith)) in
+    let place : 0 + suc (suc (suc (suc (length (rulesBytes (take i (rules .items))))))) ≡ at = omega arith in
+    q ∙ rw (add-one i, take-suc (rules .items) i (record { first = 0; predicate = 0; second = 0 }) inside, each-append ruleBytes ruleLength rule-size (take i (rules .items)) (itemAt rules i), e, ← place)
+    (sym (sets-append (replicate stateSize 0) 0 (rules .count ∷ 0 ∷ 0 ∷ 0 ∷ rulesBytes (take i (rules .items))) (ruleBytes (itemAt rules i))))
 
 pub rules-done : (rules : Rules) (s : List ℕ) (i : ℕ) → length (rules .items) ≡ mostRules → rules .count ≤ mostRules → i ≤ rules .count → rules .count ≤ i
     → s ≡ written (rules .count) (take i (rules .items)) → s ≡ opened (rulesOf rules)
@@ -93,8 +86,8 @@ rules-done rules s i size few a b e =
     let q : i ≡ rules .count = omega arith in
     (rw q at e) ∙ rw (length-take-le (rules .count) (rules .items) (omega arith))
 
-pub cleared-size : (s : List ℕ) → s ≡ replicate 1024 0 → length s ≡ 1024
-cleared-size s e = ap length e ∙ length-replicate {A = ℕ} 1024 0
+pub cleared-size : (s : List ℕ) → s ≡ replicate stateSize 0 → length s ≡ stateSize
+cleared-size s e = ap length e ∙ length-replicate {A = ℕ} stateSize 0
 
 pub ruleset putting = (needs, length-mapped, inside, rule-put, rules-begun, rules-more, rules-done, cleared-size)
 
@@ -114,11 +107,11 @@ pub ruleset beginning = (needs, open-cyclic, open-started)
 -- ---- pelzhondy_open
 
 module _ (file s : List ℕ) where
-  pub open-short : (r : ℕ) → (length s ≡ 1024 → ⊥) → r ≡ refusal 14 0 → callLeavesState r s ≡ codedKept (openOf file s [])
+  pub open-short : (r : ℕ) → (length s ≡ stateSize → ⊥) → r ≡ refusal 14 0 → callLeavesState r s ≡ codedKept (openOf file s [])
   unfolding openOf codedKept coded
   open-short r h q = rw (ne-eqb _ _ h, q)
 
-  module _ (x : Scan) (ts : List Extent) (g : ScansTo (scanOf file) x ts) (hs : length s ≡ 1024) where
+  module _ (x : Scan) (ts : List Extent) (g : ScansTo (scanOf file) x ts) (hs : length s ≡ stateSize) where
     pub open-refused : (why : Refusal) (r : ℕ) → x ≡ Refused why → r ≡ refusal (why .number) (why .place) → callLeavesState r s ≡ codedKept (openOf file s [])
     unfolding openOf openWith codedKept coded
     open-refused why r e q = rw (eq-eqb _ _ hs, refused-read file x ts g why e, q)

@@ -8,24 +8,25 @@ ghost use lib.Seq.{sets};
 ghost use Rattle.model.specs.Limits.{mostRules};
 ghost use Rattle.file_format.specs.Bytes.{ruleBytes};
 ghost use Rattle.rule_match.specs.Held.{rulesOf};
-ghost use Rattle.cache_model.specs.State.{opened};
+ghost use Rattle.file_format.specs.File.{ruleLength};
+ghost use Rattle.cache_model.specs.State.{stateSize, opened};
 ghost use Rattle.cache_steps.specs.Given.{callLeavesState, openedBy};
 
 // All bytes are zero.
 fn clear(state: &mut [u8])
-    requires { ⌜ length (now state) ≡ 1024 ⌝ }
-    ensures { λ _. ⌜ now (state .exit) ≡ replicate 1024 0 ⌝ }
+    requires { ⌜ length (now state) ≡ stateSize ⌝ }
+    ensures { λ _. ⌜ now (state .exit) ≡ replicate stateSize 0 ⌝ }
 {
     let mut i: usize = 0;
-    while i < 1024 {
+    while i < cache_model::STATE_SIZE {
         state[i] = 0;
         i += 1;
     }
 }
 
-// A rule's three bytes.
+// A rule's bytes.
 fn put_rule(state: &mut [u8], at: usize, rule: Rule)
-    requires { ⌜ at + 3 ≤ length (now state) ⌝ }
+    requires { ⌜ at + ruleLength ≤ length (now state) ⌝ }
     ensures { λ _. ⌜ now (state .exit) ≡ sets (now (state .entry)) at (ruleBytes rule) ⌝ }
 {
     state[at] = rule.first;
@@ -35,20 +36,20 @@ fn put_rule(state: &mut [u8], at: usize, rule: Rule)
 
 // The count of the rules, and the rules.
 fn put_rules(state: &mut [u8], rules: Rules)
-    requires { ⌜ (rules .count ≤ mostRules) × (now state ≡ replicate 1024 0) ⌝ }
+    requires { ⌜ (rules .count ≤ mostRules) × (now state ≡ replicate stateSize 0) ⌝ }
     ensures { λ _. ⌜ now (state .exit) ≡ opened (rulesOf rules) ⌝ }
 {
     state[0] = rules.count as u8;
     let mut i: usize = 0;
     while i < rules.count {
-        put_rule(state, 4 + 3 * i, rules.items[i]);
+        put_rule(state, cache_contents::rule_place(i), rules.items[i]);
         i += 1;
     }
 }
 
 // A state with these rules and no writes, unless they are cyclic.
 pub fn open_with(state: &mut [u8], rules: Rules) -> u64
-    requires { ⌜ (length (now state) ≡ 1024) × (rules .count ≤ mostRules) ⌝ }
+    requires { ⌜ (length (now state) ≡ stateSize) × (rules .count ≤ mostRules) ⌝ }
     ensures { λ r. ⌜ callLeavesState r (now (state .exit)) ≡ openedBy (rulesOf rules) (now (state .entry)) ⌝ }
 {
     if rule_cycles::is_cyclic(rules) {

@@ -1,153 +1,140 @@
--- A step changes one flag and the stored count of a state, so it keeps the rules, the writes and the state's soundness.
-use mathlib.Core.Path.{_≡_, refl, sym, ap, subst, _∙_}
+-- A sound state is the bytes of what it holds, so what is known of those bytes is known of it: after a step it is the bytes with one entry flagged,
+-- after a hand-in with one appended, and it stays sound.
+use mathlib.Core.Path.{_≡_, refl, sym, ap, subst, fun-ext, _∙_}
 use mathlib.Core.Logic.{_≢_}
 use mathlib.Core.Bool.{true, false, _||_, or-true, or-false}
-use mathlib.Core.List.{List}
-use Prim.Native.Nat.{ℕ, zero, suc, _+_, _*_, _≤_, _<_}
-use native.Mathlib.Decide.{ℕ-discrete}
+use mathlib.Core.List.{List, [], _∷_, _++_}
+use Prim.Native.Nat.{ℕ, zero, suc, _+_, _*_, _<_}
+use native.Mathlib.Decide.{ℕ-discrete, decLt}
 use native.Mathlib.Omega.{arith}
 use lib.Dec.{eqb}
-use lib.ListN.{length, set, length-set}
-use lib.Seq.{length-sets, getD-set-same, getD-set-other}
+use lib.ListN.{length}
+use lib.Seq.{length-sets}
 use borrow.Author.Tests.{eq-eqb, ne-eqb}
-use Rattle.relation.proofs.ListLaws.{tabulate-ext}
-use Rattle.model.specs.Limits.{mostRules, mostHeld}
+use Rattle.model.specs.Limits.{mostHeld, words}
 use Rattle.model.specs.declared.Write.{Write}
-use Rattle.file_format.specs.Bytes.{byte, bytes4, blockLength, diskLength}
-use Rattle.file_format.specs.File.{ruleOf, writeOf}
-use Rattle.model.specs.Needs.{Needs, Earliest, met, ready}
-use Rattle.cache_model.specs.State.{stateSize, ruleCount, acceptedCount, storedCount, ruleBase, writeBase, ruleIn, writeIn, flagIn, rulesIn, writesIn, storedIn, marked, storedOn}
+use Rattle.model.specs.declared.Rule.{Rule}
+use Rattle.model.specs.Needs.{Needs, NeedsRing, Earliest, Late, ready}
+use Rattle.model.proofs.ReadyLaws.{ready-earliest}
+use Rattle.file_format.specs.Bytes.{bytes4, blockLength, diskLength}
+use Rattle.file_format.specs.Encode.{WriteFits}
+use Rattle.cache_model.specs.Entries.{Entry, accepted, flagAt, appended, flagging}
+use Rattle.cache_model.specs.State.{stateSize, acceptedCount, storedCount, rulesIn, writesIn, storedIn, entriesIn, stateOf, handed, marked, storedOn}
 use Rattle.cache_model.specs.Sound.{Sound, sound}
 use Rattle.cache_model.specs.Calls.{Left, storing, checked, stepped, stepOf, stepsOf}
-use Rattle.cache_contents.proofs.ContentSteps.{writes-length}
-use Rattle.cache_soundness.proofs.SoundLaws.{sound-true, true-sound}
-use Rattle.cache_soundlaws.proofs.GeneralLaws.{part-same, count-one-more}
-use Rattle.model.proofs.ReadyLaws.{ready-earliest}
+use Rattle.cache_statelaws.proofs.EntryLaws.{flag-appended, flag-new, flag-beyond, length-appended, accepted-appended, length-flagging, flag-here, flag-else, accepted-flagging, count-flagging}
+use Rattle.cache_statelaws.proofs.LayoutLaws.{Worded, writes-length, length-entriesIn, accepted-in, state-rules, state-writes, state-accepted, state-stored, state-flags, handed-state, marked-state}
+use Rattle.cache_statelaws.proofs.ClauseLaws.{count-in}
+use Rattle.cache_statelaws.proofs.SoundLaws.{sound-true, true-sound, sound-size as size-of, sound-clauses, sound-flags, sound-words, holdable-sound}
+use Rattle.cache_soundlaws.proofs.HoldableLaws.{holdable-marked, worded-flagging, holdable-appended, each-appended}
 
--- ---- states whose bytes agree where their rules and writes stand
+module _ (s : List ℕ) (f : Sound s) where
+  abbrev R : List Rule
+  R = rulesIn s
 
-module _ (t s : List ℕ) (size : length t ≡ length s) where
-  pub rules-same : ruleCount t ≡ ruleCount s → ruleCount s ≤ mostRules → ((k : ℕ) → 4 ≤ k → k < 100 → byte t k ≡ byte s k) → rulesIn t ≡ rulesIn s
-  unfolding rulesIn ruleIn
-  rules-same c few h =
-      rw c (tabulate-ext _ _ (ruleCount s) (λ i l. ap ruleOf (part-same 0 t s (ruleBase i) 3 size (λ k a b. h k (omega arith) (omega arith)))))
+  abbrev E : List Entry
+  E = entriesIn s
 
-  pub write-same : (i : ℕ) → ((k : ℕ) → writeBase i ≤ k → k < writeBase i + 10 → byte t k ≡ byte s k) → writeIn t i ≡ writeIn s i
-  unfolding writeIn
-  write-same i h = ap writeOf (part-same 0 t s (writeBase i) 10 size h)
+  flags-are : storedIn s ≡ flagAt E
+  flags-are = fun-ext (sound-flags s f)
 
--- ---- a write marked as stored
+  -- ---- a write marked as stored
 
-module _ (s : List ℕ) (i : ℕ) (size : length s ≡ 1024) (h : i < mostHeld) where
-  pub length-marked : length (marked s i) ≡ 1024
-  unfolding marked
-  length-marked = length-set (set s (writeBase i + 10) 1) 2 (storedCount s + 1) ∙ length-set s (writeBase i + 10) 1 ∙ size
+  module _ (i : ℕ) (a : i < acceptedCount s) (waits : storedIn s i ≡ false) where
+    here : i < length E
+    here = rw (length-entriesIn s) a
 
-  byte-marked : (k : ℕ) → k ≢ 2 → k ≢ writeBase i + 10 → byte (marked s i) k ≡ byte s k
-  unfolding marked
-  byte-marked k a b = getD-set-other (set s (writeBase i + 10) 1) 2 k (storedCount s + 1) 0 a ∙ getD-set-other s (writeBase i + 10) k 1 0 b
+    pub marked-is : marked s i ≡ stateOf R (flagging (suc i) E)
+    marked-is = ap (λ (l : List ℕ). marked l i) (f .layout) ∙ marked-state R E i (f .holds .rules-most) here (sym (sound-flags s f i) ∙ waits)
 
-  flag-marked : flagIn (marked s i) i ≡ 1
-  unfolding marked
-  flag-marked =
-      getD-set-other (set s (writeBase i + 10) 1) 2 (writeBase i + 10) (storedCount s + 1) 0 (omega arith) ∙ getD-set-same s (writeBase i + 10) 1 0 (omega arith)
+    pub rules-marked : rulesIn (marked s i) ≡ rulesIn s
+    rules-marked = ap rulesIn marked-is ∙ state-rules R (flagging (suc i) E) (f .holds .rules-most)
 
-  pub storedCount-marked : storedCount (marked s i) ≡ storedCount s + 1
-  unfolding marked
-  storedCount-marked = getD-set-same (set s (writeBase i + 10) 1) 2 (storedCount s + 1) 0 (rw (length-set s (writeBase i + 10) 1) (omega arith))
+    pub writes-marked : writesIn (marked s i) ≡ writesIn s
+    writes-marked =
+        ap writesIn marked-is ∙ state-writes R (flagging (suc i) E) (f .holds .rules-most) (worded-flagging E (suc i) (sound-words s f))
+        ∙ accepted-flagging E (suc i) ∙ accepted-in s
 
-  low-marked : (k : ℕ) → k ≢ 2 → k < 100 → byte (marked s i) k ≡ byte s k
-  low-marked k a l = byte-marked k a (omega arith)
+    pub acceptedCount-marked : acceptedCount (marked s i) ≡ acceptedCount s
+    acceptedCount-marked =
+        ap acceptedCount marked-is ∙ state-accepted R (flagging (suc i) E) (f .holds .rules-most) ∙ length-flagging E (suc i) ∙ length-entriesIn s
 
-  pub ruleCount-marked : ruleCount (marked s i) ≡ ruleCount s
-  ruleCount-marked = low-marked 0 (omega arith) (omega arith)
+    pub storedCount-marked : storedCount (marked s i) ≡ storedCount s + 1
+    storedCount-marked =
+        ap storedCount marked-is ∙ state-stored R (flagging (suc i) E) (f .holds .rules-most)
+        ∙ count-flagging E i here (sym (sound-flags s f i) ∙ waits)
+        ∙ ap (λ (n : ℕ). n + 1) (count-in s ∙ sym (sound-clauses s f .counted))
 
-  pub acceptedCount-marked : acceptedCount (marked s i) ≡ acceptedCount s
-  acceptedCount-marked = low-marked 1 (omega arith) (omega arith)
+    flag-marked : (j : ℕ) → storedIn (marked s i) j ≡ flagAt (flagging (suc i) E) j
+    flag-marked j = ap (λ (l : List ℕ). storedIn l j) marked-is ∙ state-flags R (flagging (suc i) E) (f .holds .rules-most) j
 
-  pub rules-marked : ruleCount s ≤ mostRules → rulesIn (marked s i) ≡ rulesIn s
-  rules-marked few =
-      rules-same (marked s i) s (length-marked ∙ sym size) ruleCount-marked few (λ k a b. low-marked k (omega arith) b)
+    pub stored-here : storedIn (marked s i) i ≡ true
+    stored-here = flag-marked i ∙ flag-here E i here
 
-  pub write-marked : (j : ℕ) → writeIn (marked s i) j ≡ writeIn s j
-  write-marked j =
-      write-same (marked s i) s (length-marked ∙ sym size) j
-      (λ k a b. byte-marked k (omega arith) (omega arith))
+    pub stored-else : (j : ℕ) → j ≢ i → storedIn (marked s i) j ≡ storedIn s j
+    stored-else j n = flag-marked j ∙ flag-else E i j n ∙ sym (sound-flags s f j)
 
-  pub writes-marked : writesIn (marked s i) ≡ writesIn s
-  unfolding writesIn
-  writes-marked = rw acceptedCount-marked (tabulate-ext (writeIn (marked s i)) (writeIn s) (acceptedCount s) (λ j l. write-marked j))
+    pub stored-marked : (j : ℕ) → storedIn (marked s i) j ≡ storedIn s j || eqb j i
+    stored-marked j = elim (ℕ-discrete j i) [
+      | yes z ↦ rw (eq-eqb j i z, or-true (storedIn s j)) (rw z stored-here)
+      | no n ↦ rw (ne-eqb j i n, or-false (storedIn s j)) (stored-else j n)
+    ]
 
-  pub stored-here : storedIn (marked s i) i ≡ true
-  unfolding storedIn
-  stored-here = eq-eqb (flagIn (marked s i) i) 1 flag-marked
+    -- the write that a step stores keeps its state sound
+    pub mark-keeps : ((j : ℕ) → Needs (rulesIn s) (writesIn s) i j → storedIn s j ≡ true) → Sound (marked s i)
+    mark-keeps m =
+        subst Sound (sym marked-is)
+        (holdable-sound R (flagging (suc i) E)
+        (holdable-marked R E i (f .holds) here (λ j n. sym (sound-flags s f j) ∙ m j (subst (λ (ws : List Write). Needs R ws i j) (accepted-in s) n)))
+        (worded-flagging E (suc i) (sound-words s f)))
 
-  flag-else : (j : ℕ) → j ≢ i → flagIn (marked s i) j ≡ flagIn s j
-  flag-else j n =
-      let d : j ≢ i = n in
-      byte-marked (writeBase j + 10) (omega arith) (omega arith)
+  -- ---- a write handed in
 
-  pub stored-else : (j : ℕ) → j ≢ i → storedIn (marked s i) j ≡ storedIn s j
-  unfolding storedIn
-  stored-else j n = ap (λ (f : ℕ). eqb f 1) (flag-else j n)
+  module _ (w : Write) (fits : WriteFits w) (room : acceptedCount s < mostHeld) where
+    space : length E < mostHeld
+    space = rw (length-entriesIn s) room
 
-  pub stored-stays : (j : ℕ) → storedIn s j ≡ true → storedIn (marked s i) j ≡ true
-  stored-stays j e = elim (ℕ-discrete j i) [ yes z ↦ rw z stored-here | no n ↦ stored-else j n ∙ e ]
+    pub handed-is : handed s w ≡ stateOf R (appended E w)
+    handed-is = ap (λ (l : List ℕ). handed l w) (f .layout) ∙ handed-state R E w (f .holds .rules-most) space
 
-  pub stored-marked : (j : ℕ) → storedIn (marked s i) j ≡ storedIn s j || eqb j i
-  stored-marked j = elim (ℕ-discrete j i) [
-    | yes z ↦ rw (eq-eqb j i z, or-true (storedIn s j)) (rw z stored-here)
-    | no n ↦ rw (ne-eqb j i n, or-false (storedIn s j)) (stored-else j n)
-  ]
+    words-handed : Worded (appended E w)
+    words-handed = each-appended (λ (v : Write). (v .epoch < words) × (v .block < words)) E w (sound-words s f) (fits .epoch, fits .block)
 
--- ---- a sound state
+    pub rules-handed : rulesIn (handed s w) ≡ rulesIn s
+    rules-handed = ap rulesIn handed-is ∙ state-rules R (appended E w) (f .holds .rules-most)
 
-pub sound-size : (s : List ℕ) → sound s ≡ true → length s ≡ 1024
-sound-size s e = sound-true s e .size
+    pub writes-handed : writesIn (handed s w) ≡ writesIn s ++ (w ∷ [])
+    writes-handed =
+        ap writesIn handed-is ∙ state-writes R (appended E w) (f .holds .rules-most) words-handed
+        ∙ accepted-appended E w ∙ ap (λ (l : List Write). l ++ (w ∷ [])) (accepted-in s)
 
--- the write that a step stores keeps its state sound
-pub mark-keeps : (s : List ℕ) (i : ℕ) → Sound s → i < acceptedCount s → storedIn s i ≡ false
-    → ((j : ℕ) → Needs (rulesIn s) (writesIn s) i j → storedIn s j ≡ true) → Sound (marked s i)
-mark-keeps s i f a w m =
-    let few = f .writes-most in
-    let h : i < mostHeld = omega arith in
-    let size : length s ≡ 1024 = f .size in
-    let er : rulesIn (marked s i) ≡ rulesIn s = rules-marked s i size h (f .rules-most) in
-    let ew : writesIn (marked s i) ≡ writesIn s = writes-marked s i size h in
-    let ec : ruleCount (marked s i) ≡ ruleCount s = ruleCount-marked s i size h in
-    let ea : acceptedCount (marked s i) ≡ acceptedCount s = acceptedCount-marked s i size h in
-    record {
-      size = length-marked s i size h;
-      rules-most = rw ec (f .rules-most);
-      writes-most = rw ea (f .writes-most);
-      third = low-marked s i size h 3 (omega arith) (omega arith) ∙ f .third;
-      rules-rest = λ k l b. low-marked s i size h k (omega arith) b ∙ f .rules-rest k (rw ec at l) b;
-      writes-rest = λ k l b.
-          let l′ : 100 + 12 * acceptedCount s ≤ k = rw ea at l in
-          byte-marked s i size h k (omega arith) (omega arith) ∙ f .writes-rest k l′ b;
-      flags = λ j l.
-          let g = f .flags j (rw ea at l) in (
-            elim (ℕ-discrete j i) [
-              | yes z ↦ (let e = flag-marked s i size h in rw (z, e) (omega arith))
-              | no n ↦ rw (flag-else s i size h j n) (g .0)
-            ],
-            byte-marked s i size h (writeBase j + 11) (omega arith) (omega arith) ∙ g .1,
-          );
-      known = rw er (f .known);
-      acyclic = λ c. f .acyclic (rw er at c);
-      counted =
-          storedCount-marked s i size h ∙ ap (λ (n : ℕ). n + 1) (f .counted)
-          ∙ sym (rw ea (count-one-more (storedIn s) (storedIn (marked s i)) i (acceptedCount s) a w (stored-here s i size h) (stored-else s i size h)));
-      closed = λ x y p n.
-          let n′ : Needs (rulesIn s) (writesIn s) x y = rw (er, ew) at n in
-          stored-stays s i size h y (elim (ℕ-discrete x i) [
-            | yes z ↦ m y (rw z at n′)
-            | no d ↦ f .closed x y (sym (stored-else s i size h x d) ∙ p) n′
-          ]);
-      ringless = λ r. f .ringless (rw (er, ew) at r);
-    }
+    flag-handed : (j : ℕ) → storedIn (handed s w) j ≡ flagAt (appended E w) j
+    flag-handed j = ap (λ (l : List ℕ). storedIn l j) handed-is ∙ state-flags R (appended E w) (f .holds .rules-most) j
+
+    pub stored-new : storedIn (handed s w) (acceptedCount s) ≡ false
+    stored-new = flag-handed (acceptedCount s) ∙ ap (flagAt (appended E w)) (sym (length-entriesIn s)) ∙ flag-new E w
+
+    pub stored-old : (i : ℕ) → i ≢ acceptedCount s → storedIn (handed s w) i ≡ storedIn s i
+    stored-old i n = flag-handed i ∙ elim (decLt i (length E)) [
+      | yes l ↦ flag-appended E w i l ∙ sym (sound-flags s f i)
+      | no g ↦
+          (let d : i ≢ acceptedCount s = n in
+          let m = length-entriesIn s in
+          let q = length-appended E w in
+          flag-beyond (appended E w) i (omega (arith, g)) ∙ sym (flag-beyond E i (omega (arith, g))) ∙ sym (sound-flags s f i))
+    ]
+
+    pub hand-keeps : (Late (rulesIn s) (writesIn s) (storedIn s) w → ⊥) → (NeedsRing (rulesIn s) (writesIn s ++ (w ∷ [])) → ⊥) → Sound (handed s w)
+    hand-keeps late ring =
+        subst Sound (sym handed-is)
+        (holdable-sound R (appended E w)
+        (holdable-appended R E w (f .holds) space (λ l. late (rw (accepted-in s, ← flags-are) at l)) (λ r. ring (rw (accepted-in s) at r)))
+        words-handed)
 
 -- ---- a step, and several
+
+pub sound-size : (s : List ℕ) → sound s ≡ true → length s ≡ stateSize
+sound-size s e = size-of s (sound-true s e)
 
 pub length-stored : (d : List ℕ) (w : Write) → length (storedOn d w) ≡ length d
 unfolding storedOn
@@ -165,7 +152,7 @@ sound-stepped s d e = go (ready (rulesIn s) (writesIn s) (storedIn s)) refl
     go zero q = e
     go (suc i) q =
         let w = ready-earliest (rulesIn s) (writesIn s) (storedIn s) i q in
-        true-sound (marked s i) (mark-keeps s i (sound-true s e) (earliest-accepted s i w) (w .waits) (w .met))
+        true-sound (marked s i) (mark-keeps s (sound-true s e) i (earliest-accepted s i w) (w .waits) (w .met))
 
 pub length-stepped : (s d : List ℕ) → length (stepped s d .disk) ≡ length d
 unfolding stepped storing

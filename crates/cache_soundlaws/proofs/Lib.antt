@@ -1,6 +1,5 @@
-pub mod GeneralLaws
+pub mod HoldableLaws
 pub mod KeepLaws
-pub mod HandLaws
 pub mod RefusalLaws
 pub mod OpenLaws
 pub mod SoundTheorems

@@ -16,7 +16,7 @@ use Rattle.cache_model.specs.State.{stateSize}
 use Rattle.cache_model.specs.Sound.{Sound, sound}
 use Rattle.cache_model.specs.Calls.{Left, left, openWith, openOf, handInOf, storing, checked, stepped, stepOf, drained, drainOf}
 use Rattle.cache_soundlaws.specs.Theorem.{TurnsDown, Unchanged, Refuses}
-use Rattle.cache_soundness.proofs.SoundLaws.{sound-true}
+use Rattle.cache_statelaws.proofs.SoundLaws.{sound-true}
 
 -- ---- what is lent stays
 

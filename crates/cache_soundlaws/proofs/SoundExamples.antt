@@ -19,8 +19,9 @@ use Rattle.file_format.specs.Bytes.{half, word, diskLength, writeBytes, ruleByt
 use Rattle.file_format.specs.Encode.{WriteFits}
 use Rattle.file_format.specs.File.{ruleOf, writeOf}
 use Rattle.model.specs.Needs.{needs, needsRing, met}
-use Rattle.cache_model.specs.State.{ruleIn, writeIn, rulesIn, writesIn, storedIn, rulesBytes, opened, entryBytes, handed, marked}
-use Rattle.cache_model.specs.Sound.{Sound, zeros, layout, sound}
+use Rattle.cache_model.specs.Entries.{flagAt, flagCount}
+use Rattle.cache_model.specs.State.{ruleIn, writeIn, rulesIn, writesIn, storedIn, entriesIn, bytesEach, entryBytes, front, back, stateOf, opened, handed, marked}
+use Rattle.cache_model.specs.Sound.{Sound, same, layout, ruled, needsHold, sound}
 use Rattle.cache_model.specs.Calls.{drainOf}
 use Rattle.cache_soundlaws.specs.Theorem.{SomeWaits, Step, Drain, HandIn}
 use Rattle.cache_soundlaws.proofs.SoundTheorems.{sound-decided, steps, drains, handsIn}
@@ -33,11 +34,11 @@ abbrev block : ℕ → Write
 block a = record { address = a; name = 1; epoch = a; block = a }
 
 unfoldable pub state : List ℕ
-unfolding opened rulesBytes ruleBytes handed entryBytes writeBytes marked
+unfolding opened bytesEach ruleBytes handed entryBytes writeBytes marked
 state = marked (handed (handed (opened rules) (block 1)) (block 2)) 1
 
 computed : sound state ≡ true
-unfolding state sound layout zeros known cyclic meets equalLeads has leads noRule hasRing loops closed round joined rowsOf related countBelow met needs needsRing rulesIn writesIn storedIn ruleIn writeIn ruleOf writeOf half word noWrite dependsOn matches stands bit withBit maskOf allBelow anyBelow any all tabulate
+unfolding state sound ruled needsHold layout same stateOf front back bytesEach entryBytes writeBytes ruleBytes entriesIn flagCount flagAt known cyclic meets equalLeads has leads noRule hasRing loops closed round joined rowsOf related countBelow met needs needsRing rulesIn writesIn storedIn ruleIn writeIn ruleOf writeOf half word noWrite dependsOn matches stands bit withBit maskOf allBelow anyBelow any all tabulate
 computed = refl
 
 pub sound-state : Sound state

@@ -16,19 +16,18 @@ use Rattle.model.specs.Answer.{answer, refused}
 use Rattle.model.proofs.CountLaws.{count-none}
 use Rattle.file_format.specs.Bytes.{diskLength}
 use Rattle.file_format.specs.Encode.{WriteFits}
-use Rattle.model.specs.Needs.{NeedsRing, Earliest, needsRing, ready, Late, late}
+use Rattle.model.specs.Needs.{NeedsRing, Earliest, Late, needsRing, ready, late}
 use Rattle.cache_model.specs.State.{stateSize, acceptedCount, storedCount, rulesIn, writesIn, writeIn, storedIn, handed, marked, storedOn}
 use Rattle.cache_model.specs.Sound.{Sound, sound}
 use Rattle.cache_model.specs.Calls.{Left, left, Held, holding, handInOf, storing, checked, stepped, stepOf, waiting, stepsOf, drained, drainOf}
 use Rattle.model.proofs.NeedsLaws.{late-true, true-late, needsRing-true, true-needsRing}
 use Rattle.cache_soundlaws.specs.Theorem.{SoundDecided, Keeps, SomeWaits, AllStored, waitingCount, OneStored, Steps, Drains, HandsIn}
-use Rattle.cache_contents.proofs.ContentSteps.{writes-length, write-at}
-use Rattle.cache_soundness.proofs.SoundLaws.{sound-true, true-sound, stored-most}
-use Rattle.cache_soundlaws.proofs.GeneralLaws.{count-split, count-some}
+use Rattle.cache_statelaws.proofs.LayoutLaws.{writes-length, write-at, accepted-in}
+use Rattle.cache_statelaws.proofs.SoundLaws.{sound-true, true-sound, sound-clauses, sound-size, stored-most}
+use Rattle.cache_statelaws.proofs.GeneralLaws.{count-split, count-some}
 use Rattle.model.proofs.ReadyLaws.{ready-earliest, none-ready}
-use Rattle.cache_soundlaws.proofs.HandLaws.{rules-handed, writes-handed, stored-new, stored-old, hand-keeps}
 use Rattle.cache_soundlaws.proofs.RefusalLaws.{checked-length}
-use Rattle.cache_soundlaws.proofs.KeepLaws.{rules-marked, writes-marked, acceptedCount-marked, storedCount-marked, stored-here, stored-else, mark-keeps, earliest-accepted, length-stepped, checked-sound, step-sound, steps-sound, sound-stepped}
+use Rattle.cache_soundlaws.proofs.KeepLaws.{rules-handed, writes-handed, stored-new, stored-old, hand-keeps, rules-marked, writes-marked, acceptedCount-marked, storedCount-marked, stored-here, stored-else, mark-keeps, earliest-accepted, length-stepped, checked-sound, step-sound, steps-sound, sound-stepped}
 
 pub sound-decided : SoundDecided
 sound-decided s = (sound-true s, true-sound s)
@@ -39,24 +38,22 @@ sound-decided s = (sound-true s, true-sound s)
 pub waiting-count : (s : List ℕ) → Sound s → waiting s ≡ waitingCount s
 waiting-count s f =
     let e = count-split (storedIn s) (acceptedCount s) in
-    let c = f .counted in
+    let c = sound-clauses s f .counted in
     omega arith
 
 module _ (s : List ℕ) (f : Sound s) where
   one-stored : (i : ℕ) → Earliest (rulesIn s) (writesIn s) (storedIn s) i → OneStored s i (marked s i)
   one-stored i w =
       let l = earliest-accepted s i w in
-      let m = f .writes-most in
-      let h : i < mostHeld = omega arith in
       record {
-        rules = rules-marked s i (f .size) h (f .rules-most);
-        writes = writes-marked s i (f .size) h;
-        stored = stored-here s i (f .size) h;
-        others = stored-else s i (f .size) h;
+        rules = rules-marked s f i l (w .waits);
+        writes = writes-marked s f i l (w .waits);
+        stored = stored-here s f i l (w .waits);
+        others = stored-else s f i l (w .waits);
       }
 
   all-stored : ready (rulesIn s) (writesIn s) (storedIn s) ≡ 0 → AllStored s
-  all-stored e i h = none-ready (rulesIn s) (writesIn s) (storedIn s) (f .ringless) e i (rw (writes-length s) h)
+  all-stored e i h = none-ready (rulesIn s) (writesIn s) (storedIn s) (λ r. f .holds .ringless (rw (accepted-in s) r)) e i (rw (writes-length s) h)
 
   module _ (d : List ℕ) (size : length d ≡ diskLength) where
     step-ready : (k : ℕ) → ready (rulesIn s) (writesIn s) (storedIn s) ≡ k → stepOf s d ≡ storing k s d
@@ -114,15 +111,13 @@ kept-once s d f size h =
     let o = w .2 in
     let q : stepped s d ≡ left (answer (suc i)) (marked s i) (storedOn d (writeIn s i)) = sym (step-sound s d (true-sound s f) size) ∙ w .3 in
     let l = earliest-accepted s i (w .1) in
-    let m = f .writes-most in
-    let b : i < mostHeld = omega arith in
     record {
-      sound = rw q (mark-keeps s i f l (w .1 .waits) (w .1 .met));
+      sound = rw q (mark-keeps s f i l (w .1 .waits) (w .1 .met));
       size = length-stepped s d ∙ size;
       rules = rw q (o .rules);
       writes = rw q (o .writes);
-      accepted = rw q (acceptedCount-marked s i (f .size) b);
-      stored = rw q (storedCount-marked s i (f .size) b);
+      accepted = rw q (acceptedCount-marked s f i l (w .1 .waits));
+      stored = rw q (storedCount-marked s f i l (w .1 .waits));
     }
 
 kept-all : (n : ℕ) (s d : List ℕ) → Sound s → length d ≡ diskLength → n ≤ waiting s → Kept s n (stepsOf n (holding s d))
@@ -181,7 +176,7 @@ drains s d f size =
 pub handsIn : HandsIn
 unfolding handInOf
 handsIn s d w f fits =
-    let size : length s ≡ stateSize = f .size in
+    let size : length s ≡ stateSize = sound-size s f in
     let e : eqb (length s) stateSize ≡ true = eq-eqb (length s) stateSize size in
     let c : sound s ≡ true = true-sound s f in
     let on-time : (Late (rulesIn s) (writesIn s) (storedIn s) w → ⊥) → late (rulesIn s) (writesIn s) (storedIn s) w ≡ false =
@@ -194,10 +189,10 @@ handsIn s d w f fits =
       ring = λ h l r. rw (e, c, lt-leb mostHeld (acceptedCount s) h, on-time l, true-needsRing (rulesIn s) (writesIn s ++ (w ∷ [])) r);
       taken = λ h l r. (
         record {
-          rules = rules-handed s w size h (f .rules-most);
-          writes = writes-handed s w size h fits;
-          waits = stored-new s w size h;
-          others = stored-old s w size h;
+          rules = rules-handed s f w fits h;
+          writes = writes-handed s f w fits h;
+          waits = stored-new s f w fits h;
+          others = stored-old s f w fits h;
         },
         rw (e, c, lt-leb mostHeld (acceptedCount s) h, on-time l, no-ring r),
       );
@@ -214,7 +209,7 @@ checked-keeps call s d f h = elim (ℕ-discrete (length d) diskLength) [
 hand-in-keeps : (s d : List ℕ) (w : Write) → Sound s → WriteFits w → Sound (handInOf w s d .state)
 unfolding handInOf
 hand-in-keeps s d w f fits =
-    rw (eq-eqb (length s) stateSize (f .size), true-sound s f)
+    rw (eq-eqb (length s) stateSize (sound-size s f), true-sound s f)
     (go (leb mostHeld (acceptedCount s)) (late (rulesIn s) (writesIn s) (storedIn s) w) (needsRing (rulesIn s) (writesIn s ++ (w ∷ []))) refl refl refl)
   where
     go : (a b c : Bool) → leb mostHeld (acceptedCount s) ≡ a → late (rulesIn s) (writesIn s) (storedIn s) w ≡ b → needsRing (rulesIn s) (writesIn s ++ (w ∷ [])) ≡ c
@@ -223,7 +218,7 @@ hand-in-keeps s d w f fits =
     go false true c x y z = f
     go false false true x y z = f
     go false false false x y z =
-        hand-keeps s w f fits (leb-false mostHeld (acceptedCount s) x)
+        hand-keeps s f w fits (leb-false mostHeld (acceptedCount s) x)
         (λ l. false≢true (sym y ∙ true-late (rulesIn s) (writesIn s) (storedIn s) w l))
         (λ r. false≢true (sym z ∙ true-needsRing (rulesIn s) (writesIn s ++ (w ∷ [])) r))
 

@@ -1,3 +1,3 @@
+pub mod FramedLaws
 pub mod PartSteps
 pub mod SoundSteps
-pub mod SoundLaws

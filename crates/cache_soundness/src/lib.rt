@@ -1,17 +1,19 @@
 // Sound states of the cache: known predicates, acyclic rules, counts, and what stored writes need.
 use rule_match::Rules;
 ghost use mathlib.Core.Path.{_≡_};
+ghost use mathlib.Core.Bool.{true, false};
 ghost use Prim.Native.Nat.{_<_, _≤_};
-ghost use lib.ListN.{length, take};
+ghost use lib.Dec.{eqb};
+ghost use lib.ListN.{length};
+ghost use Rattle.relation.specs.Bits.{maskOf};
 ghost use Rattle.relation.specs.Lists.{allBelow};
-ghost use Rattle.relation.specs.Finite.{rowsOf};
 ghost use Rattle.model.specs.Limits.{mostRules, mostHeld};
 ghost use Rattle.model.specs.Rules.{known};
+ghost use Rattle.model.specs.Test.{countBelow};
 ghost use Rattle.rule_match.specs.Held.{rulesOf};
-ghost use Rattle.model.specs.Needs.{needs};
-ghost use Rattle.cache_model.specs.State.{acceptedCount, writesIn};
-ghost use Rattle.cache_model.specs.Sound.{sound};
-ghost use Rattle.cache_soundness.specs.Parts.{TabledIf, covered, coveredAt, needsHold};
+ghost use Rattle.cache_model.specs.State.{stateSize, acceptedCount, storedCount, storedIn};
+ghost use Rattle.cache_model.specs.Sound.{ruled, needsHold};
+ghost use Rattle.cache_soundness.specs.Parts.{covered, coveredAt, Decoded, DecodedIf, Seen};
 
 // Whether every predicate is one of the three.
 fn is_known(rules: Rules) -> bool
@@ -40,8 +42,8 @@ fn row_covered(row: u64, mask: u64, i: usize) -> bool
 }
 
 // Whether the rows of all members of a mask are part of it.
-fn all_covered(rows: &[u64; 64], mask: u64, n: usize) -> bool
-    requires { ⌜ n ≤ mostHeld ⌝ }
+fn all_covered(rows: &[u64], mask: u64, n: usize) -> bool
+    requires { ⌜ (length (now rows) ≡ mostHeld) × (n ≤ mostHeld) ⌝ }
     ensures { λ r. ⌜ r ≡ allBelow (coveredAt (now (rows .entry)) mask) n ⌝ }
 {
     let mut i: usize = 0;
@@ -54,39 +56,77 @@ fn all_covered(rows: &[u64; 64], mask: u64, n: usize) -> bool
     true
 }
 
-// Whether stored writes need only stored ones, and there is no ring of needs. Leaves the needs in
-// rows.
-fn needs_hold(rows: &mut [u64; 64], state: &[u8], rules: Rules) -> bool
-    requires { ⌜ (length (now state) ≡ 1024) × ((rules .count ≤ mostRules) × (acceptedCount (now state) ≤ mostHeld)) ⌝ }
-    ensures { λ r. ⌜ (r ≡ needsHold (rulesOf rules) (now (state .entry))) × (take (acceptedCount (now (state .entry))) (now (rows .exit)) ≡ rowsOf (needs (rulesOf rules) (writesIn (now (state .entry)))) (acceptedCount (now (state .entry)))) ⌝ }
+// Whether the state's stored count equals its flags. stored has the stored writes.
+fn is_counted(state: &[u8], stored: u64) -> bool
+    requires { ⌜ (length (now state) ≡ stateSize) × (stored ≡ maskOf (storedIn (now state)) (acceptedCount (now state))) ⌝ }
+    ensures { λ r. ⌜ r ≡ eqb (storedCount (now (state .entry))) (countBelow (storedIn (now (state .entry))) (acceptedCount (now (state .entry)))) ⌝ }
 {
-    let n = cache_contents::wide(state[1]);
-    cache_needs::fill_needs(rows, state, rules);
-    if !all_covered(rows, cache_layout::stored_mask(state), n) {
-        return false;
-    }
-    let mut reached = *rows;
-    relation::close(&mut reached, n);
-    !relation::has_loop(&reached, n)
+    cache_contents::wide(state[2]) == u64::count_ones(stored) as usize
 }
 
-// Whether a state is sound. Leaves the needs of a sound state's writes in rows.
-pub fn is_sound(rows: &mut [u64; 64], state: &[u8]) -> bool
-    requires { ⌜ length (now state) ≡ 1024 ⌝ }
-    ensures { λ r. ⌜ (r ≡ sound (now (state .entry))) × TabledIf r (now (state .entry)) (now (rows .exit)) ⌝ }
+// What is decoded of a state: whether it can be; if so, its rules and its stored writes.
+pub struct Examined {
+    pub ruled: bool,
+    pub rules: Rules,
+    pub stored: u64,
+}
+
+// Nothing is decoded of a state that is not sound.
+fn unsound() -> Examined
+    ensures { λ r. ⌜ r .ruled ≡ false ⌝ }
 {
-    if !cache_layout::has_layout(state) {
-        return false;
+    Examined {
+        ruled: false,
+        rules: rule_match::none(),
+        stored: 0,
+    }
+}
+
+// Whether a state is sound is found in two calls, each of which leaves the stack before the other begins.
+// The first: its rules and its stored writes, where it has the layout and its rules are known and not cyclic.
+pub fn decode(state: &[u8]) -> Examined
+    requires { ⌜ length (now state) ≡ stateSize ⌝ }
+    ensures { λ r. ⌜ (r .ruled ≡ ruled (now (state .entry))) × DecodedIf (r .ruled) (now (state .entry)) r ⌝ }
+{
+    if !cache_layout::is_framed(state) {
+        return unsound();
+    }
+    let stored = cache_layout::stored_mask(state);
+    if !is_counted(state, stored) {
+        return unsound();
     }
     let rules = cache_contents::state_rules(state);
     if !is_known(rules) {
-        return false;
+        return unsound();
     }
     if rule_cycles::is_cyclic(rules) {
+        return unsound();
+    }
+    Examined {
+        ruled: true,
+        rules,
+        stored,
+    }
+}
+
+// The second: whether stored writes need only stored ones, and there is no ring of needs. Leaves the needs in
+// rows, and the writes in columns.
+pub fn needs_hold(
+    rows: &mut [u64],
+    addresses: &mut [u8],
+    names: &mut [u8],
+    epochs: &mut [u32],
+    state: &[u8],
+    seen: Examined,
+) -> bool
+    requires { ⌜ ((length (now rows) ≡ mostHeld) × ((length (now addresses) ≡ mostHeld) × ((length (now names) ≡ mostHeld) × (length (now epochs) ≡ mostHeld)))) × ((length (now state) ≡ stateSize) × Decoded (now state) seen) ⌝ }
+    ensures { λ r. ⌜ (r ≡ needsHold (now (state .entry))) × Seen (now (state .entry)) (now (rows .exit)) (now (addresses .exit)) (now (names .exit)) (now (epochs .exit)) seen ⌝ }
+{
+    let n = cache_contents::wide(state[1]);
+    cache_contents::fill_columns(addresses, names, epochs, state);
+    cache_needs::fill_needs(rows, seen.rules, addresses, names, epochs, n);
+    if !all_covered(rows, seen.stored, n) {
         return false;
     }
-    if cache_contents::wide(state[2]) != cache_layout::count_stored(state) {
-        return false;
-    }
-    needs_hold(rows, state, rules)
+    !relation::has_ring(rows, n)
 }

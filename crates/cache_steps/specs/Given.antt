@@ -1,7 +1,7 @@
 -- What the cache's routines give back: the answer in one number, the lent bytes afterwards, and the refusals of open, hand-in, step and drain as
 -- one number each.
 use Prim.Native.Nat.{ℕ}
-use mathlib.Core.Bool.{Bool, cond, not, _&&_}
+use mathlib.Core.Bool.{Bool, cond, not}
 use mathlib.Core.List.{List, [], _∷_, _++_}
 use lib.Dec.{eqb, leb}
 use lib.ListN.{length}
@@ -9,11 +9,10 @@ use Rattle.model.specs.Limits.{mostHeld}
 use Rattle.model.specs.declared.Rule.{Rule}
 use Rattle.model.specs.declared.Write.{Write}
 use Rattle.model.specs.Answer.{refusal, coded}
-use Rattle.model.specs.Rules.{labelOf, dependsOn}
 use Rattle.model.specs.Cyclic.{cyclic}
 use Rattle.file_format.specs.Bytes.{diskLength}
 use Rattle.model.specs.Needs.{needsRing, late}
-use Rattle.cache_model.specs.State.{acceptedCount, writeIn, rulesIn, writesIn, storedIn, opened}
+use Rattle.cache_model.specs.State.{stateSize, acceptedCount, rulesIn, writesIn, storedIn, opened}
 use Rattle.cache_model.specs.Sound.{sound}
 use Rattle.cache_model.specs.Calls.{Left}
 
@@ -49,11 +48,7 @@ unfoldable pub faultBy : Bool → Bool → Bool → ℕ
 faultBy long wide good = cond (not long) 14 (cond (not wide) 14 (cond (not good) 15 0))
 
 unfoldable pub callFault : List ℕ → List ℕ → ℕ
-callFault s d = faultBy (eqb (length s) 1024) (eqb (length d) diskLength) (sound s)
-
--- write i is stored and depends on w
-unfoldable pub lateAt : List Rule → List ℕ → Write → ℕ → Bool
-lateAt rules s w i = storedIn s i && dependsOn rules (labelOf (writeIn s i)) (labelOf w)
+callFault s d = faultBy (eqb (length s) stateSize) (eqb (length d) diskLength) (sound s)
 
 -- the number of the refusal that a hand-in meets; 0: none
 unfoldable pub handFaultBy : Bool → Bool → Bool → Bool → Bool → ℕ
@@ -61,5 +56,5 @@ handFaultBy long good full late ring = cond (not long) 14 (cond (not good) 15 (c
 
 unfoldable pub handFault : Write → List ℕ → ℕ
 handFault w s =
-    handFaultBy (eqb (length s) 1024) (sound s) (leb mostHeld (acceptedCount s)) (late (rulesIn s) (writesIn s) (storedIn s) w)
+    handFaultBy (eqb (length s) stateSize) (sound s) (leb mostHeld (acceptedCount s)) (late (rulesIn s) (writesIn s) (storedIn s) w)
     (needsRing (rulesIn s) (writesIn s ++ (w ∷ [])))

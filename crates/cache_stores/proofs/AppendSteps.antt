@@ -1,5 +1,6 @@
 -- The steps of a write's bytes behind those accepted, in the terms of the code.
 use mathlib.Core.Path.{_≡_, refl, ap, _∙_}
+use mathlib.Core.Bool.{false}
 use mathlib.Core.List.{List, [], _∷_, _++_}
 use Prim.Native.Nat.{ℕ, suc, _+_, _*_}
 use native.Mathlib.Omega.{arith}
@@ -9,7 +10,8 @@ use borrow.Author.Needs.{needs}
 use Rattle.model.specs.declared.Write.{Write}
 use Rattle.model.specs.Disk.{block}
 use Rattle.file_format.specs.Bytes.{bytes4, writeBytes}
-use Rattle.cache_model.specs.State.{acceptedCount, entryBytes, handed}
+use Rattle.cache_model.specs.Entries.{entry}
+use Rattle.cache_model.specs.State.{flagPlace, acceptedCount, writeBase, entryBytes, handed}
 use Rattle.cache_model.specs.Calls.{given}
 use Rattle.cache_stores.proofs.StoreSteps.{inside}
 
@@ -34,17 +36,17 @@ pub pair-put : (l : List ℕ) (at x y : ℕ) → set (set l at x) (at + 1) y ≡
 pair-put l at x y = let z : at + 1 ≡ suc at = omega arith in rw z
 
 pub entry-put : (l l₁ l₂ l₃ l₄ : List ℕ) (at : ℕ) (w : Write) → l₁ ≡ sets l at (w .address ∷ w .name ∷ []) → l₂ ≡ sets l₁ (at + 2) (bytes4 (w .epoch))
-    → l₃ ≡ sets l₂ (at + 6) (bytes4 (w .block)) → l₄ ≡ sets l₃ (at + 10) (0 ∷ 0 ∷ []) → l₄ ≡ sets l at (entryBytes w)
+    → l₃ ≡ sets l₂ (at + 6) (bytes4 (w .block)) → l₄ ≡ sets l₃ (at + flagPlace) (0 ∷ 0 ∷ []) → l₄ ≡ sets l at (entryBytes (entry w false))
 unfolding entryBytes writeBytes
 entry-put l l₁ l₂ l₃ l₄ at w a b c d =
     let two : at + 2 ≡ suc (suc at) = omega arith in
     let six : at + 6 ≡ suc (suc (suc (suc (suc (suc at))))) = omega arith in
-    let ten : at + 10 ≡ suc (suc (suc (suc (suc (suc (suc (suc (suc (suc at))))))))) = omega arith in
+    let ten : at + flagPlace ≡ suc (suc (suc (suc (suc (suc (suc (suc (suc (suc at))))))))) = omega arith in
     d ∙ rw (c, b, a, two, six, ten)
 
-pub appended : (s s′ : List ℕ) (w : Write) (n : ℕ) → n ≡ acceptedCount s → s′ ≡ sets s (100 + 12 * n) (entryBytes w)
+pub appended : (s s′ : List ℕ) (w : Write) (n at : ℕ) → n ≡ acceptedCount s → at ≡ writeBase n → s′ ≡ sets s at (entryBytes (entry w false))
     → set s′ 1 (acceptedCount s + 1) ≡ handed s w
 unfolding handed
-appended s s′ w n c e = rw (e, c)
+appended s s′ w n at c p e = rw (e, p, c)
 
 pub ruleset appending = (needs, inside, pair-put, entry-put, appended)

@@ -9,7 +9,7 @@ use borrow.Author.Needs.{needs}
 use Rattle.model.specs.declared.Write.{Write}
 use Rattle.model.specs.Limits.{diskBlocks}
 use Rattle.file_format.specs.Bytes.{bytes4, blockLength, diskLength}
-use Rattle.cache_model.specs.State.{storedCount, marked, storedOn}
+use Rattle.cache_model.specs.State.{flagPlace, storedCount, writeBase, marked, storedOn}
 
 -- ---- put_word, store_block, mark
 
@@ -32,10 +32,8 @@ block-stored d d′ w a e q = rw e at q
 pub block-fits : (d : List ℕ) (a : ℕ) → length d ≡ diskLength → a < diskBlocks → blockLength * a + blockLength ≤ length d
 block-fits d a h l = omega arith
 
-pub flag-marked : (s : List ℕ) (i : ℕ) → set (set s (110 + 12 * i) 1) 2 (storedCount s + 1) ≡ marked s i
+pub flag-marked : (s : List ℕ) (i at : ℕ) → at ≡ writeBase i + flagPlace → set (set s at 1) 2 (storedCount s + 1) ≡ marked s i
 unfolding marked
-flag-marked s i =
-    let z : 110 + 12 * i ≡ 100 + 12 * i + 10 = omega arith in
-    rw z
+flag-marked s i at e = rw e
 
 pub ruleset storing-steps = (needs, word-put, inside, block-stored, block-fits, flag-marked)

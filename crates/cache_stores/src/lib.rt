@@ -8,7 +8,9 @@ ghost use lib.ListN.{length};
 ghost use lib.Seq.{sets};
 ghost use Rattle.model.specs.Limits.{mostHeld};
 ghost use Rattle.file_format.specs.Bytes.{bytes4, diskLength};
-ghost use Rattle.cache_model.specs.State.{acceptedCount, storedCount, marked, storedOn, entryBytes, handed};
+ghost use mathlib.Core.Bool.{false};
+ghost use Rattle.cache_model.specs.Entries.{entry};
+ghost use Rattle.cache_model.specs.State.{stateSize, entryLength, acceptedCount, storedCount, marked, storedOn, entryBytes, handed};
 ghost use Rattle.cache_model.specs.Calls.{given};
 
 // A number in four bytes, big-endian.
@@ -33,11 +35,11 @@ pub fn store_block(disk: &mut [u8], w: Write)
 
 // Write i is stored.
 pub fn mark(state: &mut [u8], i: usize)
-    requires { ⌜ (length (now state) ≡ 1024) × ((i < mostHeld) × (storedCount (now state) ≤ mostHeld)) ⌝ }
+    requires { ⌜ (length (now state) ≡ stateSize) × ((i < mostHeld) × (storedCount (now state) ≤ mostHeld)) ⌝ }
     ensures { λ _. ⌜ now (state .exit) ≡ marked (now (state .entry)) i ⌝ }
 {
     let stored = state[2] + 1;
-    state[110 + 12 * i] = 1;
+    state[cache_contents::flag_place(i)] = 1;
     state[2] = stored;
 }
 
@@ -64,22 +66,22 @@ fn put_pair(bytes: &mut [u8], at: usize, x: u8, y: u8)
 
 // A waiting write's 12 bytes.
 fn put_entry(state: &mut [u8], at: usize, w: Write)
-    requires { ⌜ at + 12 ≤ length (now state) ⌝ }
-    ensures { λ _. ⌜ now (state .exit) ≡ sets (now (state .entry)) at (entryBytes w) ⌝ }
+    requires { ⌜ at + entryLength ≤ length (now state) ⌝ }
+    ensures { λ _. ⌜ now (state .exit) ≡ sets (now (state .entry)) at (entryBytes (entry w false)) ⌝ }
 {
     put_pair(state, at, w.address, w.name);
     put_word(state, at + 2, w.epoch);
     put_word(state, at + 6, w.block);
-    put_pair(state, at + 10, 0, 0);
+    put_pair(state, at + cache_model::FLAG_PLACE, 0, 0);
 }
 
 // w is appended, and waits. Answers its place from 1.
 pub fn append(state: &mut [u8], w: Write) -> u64
-    requires { ⌜ (length (now state) ≡ 1024) × (acceptedCount (now state) < mostHeld) ⌝ }
+    requires { ⌜ (length (now state) ≡ stateSize) × (acceptedCount (now state) < mostHeld) ⌝ }
     ensures { λ r. ⌜ (r ≡ acceptedCount (now (state .entry)) + 1) × (now (state .exit) ≡ handed (now (state .entry)) w) ⌝ }
 {
     let place = state[1] + 1;
-    let at = 100 + 12 * cache_contents::wide(state[1]);
+    let at = cache_contents::write_place(cache_contents::wide(state[1]));
     put_entry(state, at, w);
     state[1] = place;
     place as u64

@@ -49,9 +49,9 @@ use Rattle.model.specs.Needs.{needsRing, ready, late}
 use Rattle.cache_model.specs.State.{stateSize, acceptedCount, rulesIn, writesIn, storedIn}
 use Rattle.cache_model.specs.Sound.{sound}
 use Rattle.cache_model.specs.Calls.{Left, storing, checked, stepped, drained, openWith, openOf, handInOf, stepOf, drainOf}
-use Rattle.cache_soundness.proofs.SoundLaws.{sound-true}
+use Rattle.cache_statelaws.proofs.SoundLaws.{sound-true, sound-most}
 use Rattle.model.proofs.ReadyLaws.{ready-earliest}
-use Rattle.cache_contents.proofs.ContentSteps.{writes-length}
+use Rattle.cache_statelaws.proofs.LayoutLaws.{writes-length}
 use Rattle.exports.specs.Theorem.{bit63, ToldApart, NoneReachesBit63, JudgeTakenApart}
 
 -- ---- outcomes by cases
@@ -112,12 +112,12 @@ step-apart state disk = checked-apart stepped state disk (λ t. unfold stepped i
     go t (suc i) e =
         let a = ready-earliest (rulesIn state) (writesIn state) (storedIn state) i e .accepted in
         let l = writes-length state in
-        let m = sound-true state t .writes-most in
+        let m = sound-most state (sound-true state t) in
         unfold storing ToldApart in omega arith
 
 drain-apart : (state disk : List ℕ) → ToldApart (drainOf state disk .outcome)
 unfolding drainOf drained ToldApart
-drain-apart state disk = checked-apart drained state disk (λ t. let m = sound-true state t .writes-most in omega arith)
+drain-apart state disk = checked-apart drained state disk (λ t. let m = sound-most state (sound-true state t) in omega arith)
 
 -- ---- get
 
@@ -216,7 +216,7 @@ module _ (file : List ℕ) (k : ℕ) (c : Case) (e : caseIn file k ≡ answer c)
   valid-most = let m = few file k c e in let x = count-most (valid (c .rules) (c .test .main)) (schedules (c .test)) in omega (arith, m, x)
 
   bad-most : badCount (c .rules) (c .test) ≤ mostSchedules
-  unfolding badCount
+  unfolding badCount bad
   bad-most = let m = few file k c e in let y = count-most (bad (c .rules) (c .test)) (schedules (c .test)) in omega (arith, m, y)
 
   smallest-most : (o : Option ℕ) → smallestBad (c .rules) (c .test) ≡ o → (shownOf o ≤ mostSchedules) × (verdictCode (verdictBy o) < bit63)
@@ -225,7 +225,7 @@ module _ (file : List ℕ) (k : ℕ) (c : Case) (e : caseIn file k ≡ answer c)
   smallest-most (some s) q = let l = computed-smallest (c .rules) (c .test) s q .0 .0 in let m = few file k c e in (omega (arith, l, m), omega (arith, l, m))
 
   judge-below : judgeAnswer (answer c) < bit63
-  unfolding judgeAnswer judgementOf judgementCode
+  unfolding judgeAnswer judgementOf judgementCode validCount badCount smallestBad
   judge-below =
       let a = valid-most in
       let b = bad-most in
@@ -233,7 +233,7 @@ module _ (file : List ℕ) (k : ℕ) (c : Case) (e : caseIn file k ≡ answer c)
       omega (arith, a, b, s)
 
   taken-apart : partsOf (judgeAnswer (answer c)) ≡ judgementOf c
-  unfolding judgeAnswer judgementOf judgementCode partsOf
+  unfolding judgeAnswer judgementOf judgementCode partsOf validCount badCount smallestBad
   taken-apart = go (validCount (c .rules) (c .test)) (badCount (c .rules) (c .test)) (shownOf (smallestBad (c .rules) (c .test))) valid-most bad-most (smallest-most (smallestBad (c .rules) (c .test)) refl .0)
     where
       go : (a b s : ℕ) → a ≤ mostSchedules → b ≤ mostSchedules → s ≤ mostSchedules
@@ -248,7 +248,7 @@ module _ (file : List ℕ) (k : ℕ) (c : Case) (e : caseIn file k ≡ answer c)
           rw (x, y, z)
 
   verdict-below : verdictAnswer (answer c) < bit63
-  unfolding verdictAnswer verdictOf
+  unfolding verdictAnswer verdictOf smallestBad
   verdict-below = smallest-most (smallestBad (c .rules) (c .test)) refl .1
 
 pub judge-taken-apart : JudgeTakenApart
@@ -286,7 +286,7 @@ refused-most number place h i =
     rw (length-append (decimal number) _, length-append (decimal place) _) (omega arith)
 
 text-most : (file : List ℕ) → length (programText file) ≤ textLength
-unfolding programText validCount badCount
+unfolding programText validCount badCount bad
 text-most file = go (readOf file) refl
   where
     tests : (f : File) → readOf file ≡ answer f → (b : Bool)

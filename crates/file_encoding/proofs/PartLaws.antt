@@ -29,9 +29,13 @@ digits a b c d ha hb hc hd =
 
 -- ---- from the part to its bytes and back
 
-pub write-back : (w : Write) → WriteFits w → writeOf (writeBytes w) ≡ w
+-- (address and name are a byte each)
+pub words-back : (w : Write) → w .epoch < words → w .block < words → writeOf (writeBytes w) ≡ w
 unfolding writeOf writeBytes word half
-write-back w h = rw (number (w .epoch) (h .epoch), number (w .block) (h .block))
+words-back w e b = rw (number (w .epoch) e, number (w .block) b)
+
+pub write-back : (w : Write) → WriteFits w → writeOf (writeBytes w) ≡ w
+write-back w h = words-back w (h .epoch) (h .block)
 
 pub rule-back : (r : Rule) → ruleOf (ruleBytes r) ≡ r
 unfolding ruleOf ruleBytes

@@ -170,7 +170,7 @@ module _ (cs : List Rule) (m : ℕ) (h : m < 2 ^ length cs) where
         (λ j l k. absurd (omega arith))
 
     holds-all : reached ≡ false → all (testHolds (picked cs m)) tests ≡ true
-    unfolding testHolds
+    unfolding testHolds bad
     holds-all e = all-intro (testHolds (picked cs m)) tests (λ t n. allBelow-intro _ (schedules t) (λ s i. go t s n i (bad (picked cs m) t s) refl))
       where
         go : (t : Test) (s : ℕ) → List·Memᴰ t tests → s < schedules t → (b : Bool) → bad (picked cs m) t s ≡ b → not b ≡ true

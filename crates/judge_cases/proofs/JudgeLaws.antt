@@ -13,7 +13,7 @@ use borrow.Author.Needs.{needs}
 use borrow.Author.Tests.{not-true, not-false}
 use Rattle.relation.specs.Best.{Smallest, fewer, smallestBelow}
 use Rattle.relation.specs.Bits.{maskOf}
-use Rattle.relation.proofs.BestLaws.{best-same}
+use Rattle.relation.proofs.BestLaws.{best-same, smallest-is}
 use Rattle.relation.proofs.BitLaws.{mask-below}
 use Rattle.relation.proofs.ListLaws.{getD-tabulate}
 use Rattle.model.specs.declared.Rule.{Rule}
@@ -24,9 +24,8 @@ use Rattle.model.specs.Answer.{Outcome, answer, refused}
 use Rattle.model.specs.Rules.{dependsOn}
 use Rattle.model.specs.Cyclic.{cyclic}
 use Rattle.model.specs.Schedule.{valid}
-use Rattle.model.specs.Test.{Test, File, bad, Bad, smallestBad, shownOf, validCount, badCount}
+use Rattle.model.specs.Test.{File, badFor, smallestBadFor, shownOf}
 use Rattle.model.proofs.CountLaws.{count-ext, count-most}
-use Rattle.model.proofs.TestLaws.{computed-smallest}
 use Rattle.file_format.specs.declared.Extent.{Extent}
 use Rattle.file_format.specs.declared.Scan.{Scan}
 use Rattle.file_format.specs.declared.Scan.the-variants.{Accepted, Refused}
@@ -58,7 +57,7 @@ use Rattle.judge_cases.specs.declared.Judged.the-variants.{Counts}
 use Rattle.judge_cases.specs.declared.Judged.the-variants as Judged
 use Rattle.judge_cases.specs.declared.Decided.the-variants.{As}
 use Rattle.judge_cases.specs.declared.Decided.the-variants as Decided
-use Rattle.judge_cases.specs.Judge.{Case, caseOf, caseIn, caseAt, judgementOf, verdictOf, SmallRefusal, judgedFile, OpensTo, SelectsTo, judgedOf, decidedOf, FewNumbers, Few, FewDecided}
+use Rattle.judge_cases.specs.Judge.{Case, caseOf, caseIn, caseAt, judgementFor, verdictFor, judgementOf, verdictOf, SmallRefusal, judgedFile, OpensTo, SelectsTo, judgedOf, decidedOf, FewNumbers, Few, FewDecided}
 
 -- ---- the rows
 
@@ -69,72 +68,94 @@ narrow-rows rules column rows n e i h =
     rw (← getD-take n rows i 0 h, e, getD-tabulate (λ i. maskOf (λ j. dependsOn rules (labelled (getD column i 0)) (labelled (getD column j 0))) n) n i 0 h)
     (mask-below (λ j. dependsOn rules (labelled (getD column i 0)) (labelled (getD column j 0))) n)
 
--- ---- a loaded test
+-- ---- a loaded test, and rows that decide which of its schedules count
 
-module _ (rules : List Rule) (s : List ℕ) (e : Extent) (test : Loaded) (rows : List ℕ) (cs : List Check) (el : LoadsTest (testAt s e) test)
-    (er : take (test .main) rows ≡ rowsFrom rules (test .labels) (test .main) (test .main))
+-- by the rows a schedule counts, and its disk is inconsistent
+abbrev badLoaded : Loaded → List ℕ → List Check → ℕ → Bool
+badLoaded test rows cs = badRows rows (test .main) (test .base) (heldFrom (test .stores) 0 (test .main)) (take (test .checks) cs)
+
+module _ (counts : ℕ → Bool) (s : List ℕ) (e : Extent) (test : Loaded) (rows : List ℕ) (cs : List Check) (el : LoadsTest (testAt s e) test)
+    (same : (x : ℕ) → validRows rows (test .main) x ≡ counts x)
     (ec : LoadsChecks (testAt s e) cs) where
-  -- the rows decide which schedules are valid
-  same-valid : (x : ℕ) → validRows rows (test .main) x ≡ valid rules (testAt s e .main) x
-  same-valid x = valid-rows rules (testAt s e .main) (test .labels) rows (test .main) (el .main) (el .labels) er x
-
   all-checks : take (test .checks) cs ≡ testAt s e .checks
   unfolding LoadsChecks
   all-checks = rw (← el .checks) ec
 
-  abbrev badHere : ℕ → Bool
-  badHere = badRows rows (test .main) (test .base) (heldFrom (test .stores) 0 (test .main)) (take (test .checks) cs)
-
-  same-bad : (x : ℕ) → badHere x ≡ bad rules (testAt s e) x
-  unfolding badRows bad
-  same-bad x = rw (same-valid x, all-checks, stores-run (test .stores) (testAt s e .main) (test .main) x (test .base) (el .stores) (el .main), el .base)
+  same-bad : (x : ℕ) → badLoaded test rows cs x ≡ badFor counts (testAt s e) x
+  unfolding badRows
+  same-bad x = rw (same x, all-checks, stores-run (test .stores) (testAt s e .main) (test .main) x (test .base) (el .stores) (el .main), el .base)
 
   size : 2 ^ test .main ≡ 2 ^ length (testAt s e .main)
   size = ap (λ (n : ℕ). 2 ^ n) (sym (el .main))
 
   -- the smallest bad one by the rows is that of the test
-  same-smallest : smallestBelow badHere (2 ^ test .main) ≡ smallestBad rules (testAt s e)
-  unfolding smallestBad
-  same-smallest = best-same fewer badHere (bad rules (testAt s e)) (2 ^ test .main) (λ x h. same-bad x) ∙ ap (smallestBelow (bad rules (testAt s e))) size
+  same-smallest : smallestBelow (badLoaded test rows cs) (2 ^ test .main) ≡ smallestBadFor counts (testAt s e)
+  same-smallest = best-same fewer (badLoaded test rows cs) (badFor counts (testAt s e)) (2 ^ test .main) (λ x h. same-bad x) ∙ ap (smallestBelow (badFor counts (testAt s e))) size
 
-  pub judges-all : (j : Judgement) → j ≡ tallied (validRows rows (test .main)) badHere (2 ^ test .main) → j ≡ judgementOf (caseAt rules s e)
-  unfolding tallied judgementOf validCount badCount
-  judges-all j t =
-      t
-      ∙ rw (count-ext (validRows rows (test .main)) (valid rules (testAt s e .main)) (2 ^ test .main) (λ x h. same-valid x), count-ext badHere (bad rules (testAt s e)) (2 ^ test .main) (λ x h. same-bad x), same-smallest, size)
+  pub judged-by : tallied (validRows rows (test .main)) (badLoaded test rows cs) (2 ^ test .main) ≡ judgementFor counts (testAt s e)
+  unfolding tallied
+  judged-by =
+      rw (count-ext (validRows rows (test .main)) counts (2 ^ test .main) (λ x h. same x), count-ext (badLoaded test rows cs) (badFor counts (testAt s e)) (2 ^ test .main) (λ x h. same-bad x), same-smallest, size)
 
-  pub decides-all : (v : Verdict) → v ≡ verdictBelow badHere (2 ^ test .main) → v ≡ verdictOf (caseAt rules s e)
-  unfolding verdictBelow verdictOf
-  decides-all v t = t ∙ ap verdictBy same-smallest
+  pub decided-by : verdictBelow (badLoaded test rows cs) (2 ^ test .main) ≡ verdictFor counts (testAt s e)
+  unfolding verdictBelow
+  decided-by = ap verdictBy same-smallest
 
 -- ---- no number is larger than the count of schedules
 
-module _ (rules : List Rule) (s : List ℕ) (e : Extent) (i : Inside s e) where
+module _ (counts : ℕ → Bool) (s : List ℕ) (e : Extent) (i : Inside s e) where
   schedules-most : 2 ^ length (testAt s e .main) ≤ mostSchedules
   unfolding testAt
   schedules-most = rw (fields-length writeField s (mainPlace s e) (e .main)) (pow-mono {i = e .main} {j = mostMain} (i .main-most))
 
   -- nor is the smallest bad one's
-  smallest-most : (o : Option ℕ) → smallestBad rules (testAt s e) ≡ o → (shownOf o ≤ mostSchedules) × FewDecided (As (verdictBy o))
-  unfolding shownOf FewDecided verdictBy Smallest Bad
+  smallest-most : (o : Option ℕ) → smallestBadFor counts (testAt s e) ≡ o → (shownOf o ≤ mostSchedules) × FewDecided (As (verdictBy o))
+  unfolding shownOf FewDecided verdictBy Smallest
   smallest-most none q = (omega arith, tt)
-  smallest-most (some x) q = let l = computed-smallest rules (testAt s e) x q .0 .0 in let m = schedules-most in (omega (arith, l, m), omega (arith, l, m))
-
-  pub judges-few : (j : Judgement) → j ≡ judgementOf (caseAt rules s e) → FewNumbers j
-  unfolding FewNumbers judgementOf validCount badCount
-  judges-few j p =
+  smallest-most (some x) q =
+      let l = smallest-is (badFor counts (testAt s e)) (2 ^ length (testAt s e .main)) x q .0 .0 in
       let m = schedules-most in
-      let a = count-most (valid rules (testAt s e .main)) (2 ^ length (testAt s e .main)) in
-      let b = count-most (bad rules (testAt s e)) (2 ^ length (testAt s e .main)) in
-      rw p (omega (arith, a, m), omega (arith, b, m), smallest-most (smallestBad rules (testAt s e)) refl .0)
+      (omega (arith, l, m), omega (arith, l, m))
+
+  pub judgement-few : FewNumbers (judgementFor counts (testAt s e))
+  unfolding FewNumbers
+  judgement-few =
+      let m = schedules-most in
+      let a = count-most counts (2 ^ length (testAt s e .main)) in
+      let b = count-most (badFor counts (testAt s e)) (2 ^ length (testAt s e .main)) in
+      (omega (arith, a, m), omega (arith, b, m), smallest-most (smallestBadFor counts (testAt s e)) refl .0)
+
+  pub verdict-few : FewDecided (As (verdictFor counts (testAt s e)))
+  verdict-few = smallest-most (smallestBadFor counts (testAt s e)) refl .1
+
+-- ---- the same for the rows of rules, which decide which schedules are valid
+
+module _ (rules : List Rule) (s : List ℕ) (e : Extent) (test : Loaded) (rows : List ℕ) (cs : List Check) (el : LoadsTest (testAt s e) test)
+    (er : take (test .main) rows ≡ rowsFrom rules (test .labels) (test .main) (test .main))
+    (ec : LoadsChecks (testAt s e) cs) where
+  same-valid : (x : ℕ) → validRows rows (test .main) x ≡ valid rules (testAt s e .main) x
+  same-valid x = valid-rows rules (testAt s e .main) (test .labels) rows (test .main) (el .main) (el .labels) er x
+
+  pub judges-all : (j : Judgement) → j ≡ tallied (validRows rows (test .main)) (badLoaded test rows cs) (2 ^ test .main) → j ≡ judgementOf (caseAt rules s e)
+  unfolding judgementOf
+  judges-all j t = t ∙ judged-by (valid rules (testAt s e .main)) s e test rows cs el same-valid ec
+
+  pub decides-all : (v : Verdict) → v ≡ verdictBelow (badLoaded test rows cs) (2 ^ test .main) → v ≡ verdictOf (caseAt rules s e)
+  unfolding verdictOf
+  decides-all v t = t ∙ decided-by (valid rules (testAt s e .main)) s e test rows cs el same-valid ec
+
+module _ (rules : List Rule) (s : List ℕ) (e : Extent) (i : Inside s e) where
+  pub judges-few : (j : Judgement) → j ≡ judgementOf (caseAt rules s e) → FewNumbers j
+  unfolding judgementOf
+  judges-few j p = rw p (judgement-few (valid rules (testAt s e .main)) s e i)
 
   pub decides-few : (v : Verdict) → v ≡ verdictOf (caseAt rules s e) → FewDecided (As v)
   unfolding verdictOf
-  decides-few v p = rw p (smallest-most (smallestBad rules (testAt s e)) refl .1)
+  decides-few v p = rw p (verdict-few (valid rules (testAt s e .main)) s e i)
 
 pub loaded-few : (rules : List Rule) (s : List ℕ) (e : Extent) (test : Loaded) (rows : List ℕ) (cs : List Check) (j : Judgement) → Inside s e → LoadsTest (testAt s e) test
     → take (test .main) rows ≡ rowsFrom rules (test .labels) (test .main) (test .main) → LoadsChecks (testAt s e) cs
-    → j ≡ tallied (validRows rows (test .main)) (badRows rows (test .main) (test .base) (heldFrom (test .stores) 0 (test .main)) (take (test .checks) cs)) (2 ^ test .main) → FewNumbers j
+    → j ≡ tallied (validRows rows (test .main)) (badLoaded test rows cs) (2 ^ test .main) → FewNumbers j
 loaded-few rules s e test rows cs j i el er ec t = judges-few rules s e i j (judges-all rules s e test rows cs el er ec j t)
 
 pub ruleset loops = (needs, narrow-rows, judges-all, decides-all, loaded-few)

@@ -11,17 +11,18 @@ use lib.ListN.{length}
 use borrow.Author.Tests.{leb-false, le-leb, lt-leb}
 use Rattle.model.specs.Answer.{Outcome, answer, refused}
 use Rattle.model.specs.Cyclic.{Cyclic, cyclic}
-use Rattle.model.specs.Schedule.{valid}
+use Rattle.model.specs.Schedule.{Valid, valid}
 use Rattle.model.specs.declared.Rule.{Rule}
-use Rattle.model.specs.Test.{Test, File, TestHolds, bad, SmallestBad, smallestBad, shownOf, validCount, badCount}
-use Rattle.model.specs.Theorem.{SmallestFailing}
-use Rattle.model.proofs.Theorems.{valid-schedule, bad-schedule, holding-test, smallest-schedule}
+use Rattle.model.specs.Test.{Test, File, HoldsFor, SmallestBadFor, smallestBadFor, badCountFor, TestHolds, bad, badCount, shownOf}
+use Rattle.model.specs.Theorem.{Agrees, SmallestFailingFor}
+use Rattle.model.proofs.TestLaws.{valid-agrees}
+use Rattle.model.proofs.Theorems.{holding-test-for, smallest-schedule-for, bad-schedule, holding-test}
 use Rattle.rule_cyclelaws.proofs.CyclicLaws.{cyclic-exactly}
 use Rattle.file_format.specs.File.{readOf}
 use Rattle.file_reader.proofs.CallerLaws.{refused-limits, holding-limits}
 use Rattle.judge_search.specs.declared.Verdict.the-variants.{Holds, Fails}
 use Rattle.judge_search.specs.Verdict.{verdictBy}
-use Rattle.judge_cases.specs.Judge.{Case, caseOf, caseIn, judgementOf, verdictOf}
+use Rattle.judge_cases.specs.Judge.{Case, caseOf, caseIn, judgementFor, verdictFor, judgementOf, verdictOf}
 use Rattle.judge_cases.specs.Theorem.{NoSuchTest, caseOfTest, CaseFor, NumbersSay, VerdictSays, JudgedAsMeant}
 
 -- ---- what the judge is given
@@ -87,9 +88,55 @@ passed-on : (s : List ℕ) (k number place : ℕ) → readOf s ≡ refused numbe
 unfolding caseIn caseOf
 passed-on s k number place e = let l = refused-limits s number place e in (rw e, l .0, l .1)
 
--- ---- what is said of it
+-- ---- what is said of it, for any meaning of which schedules count
 
--- by the smallest bad schedule, if there is one
+-- the verdict by the smallest bad schedule, if there is one
+holds-by : (o : Option ℕ) → verdictBy o ≡ Holds ↔ o ≡ none
+unfolding verdictBy
+holds-by none = (λ e. refl, λ e. refl)
+holds-by (some s) = (λ e. let z : _≡_ {A = ℕ} 0 1 = cc in absurd (omega arith), λ e. let z : _≡_ {A = ℕ} 0 1 = cc in absurd (omega arith))
+
+fails-by : (o : Option ℕ) (s : ℕ) → verdictBy o ≡ Fails s ↔ o ≡ some s
+unfolding verdictBy
+fails-by none s = (λ e. let z : _≡_ {A = ℕ} 0 1 = cc in absurd (omega arith), λ e. let z : _≡_ {A = ℕ} 0 1 = cc in absurd (omega arith))
+fails-by (some k) s = (λ e. let z : k ≡ s = cc in rw z, λ e. let z : k ≡ s = cc in rw z)
+
+module _ (Counts : ℕ → Type 0) (counts : ℕ → Bool) (t : Test) (agrees : Agrees Counts counts t) where
+  abbrev small : SmallestFailingFor Counts counts t
+  small = smallest-schedule-for Counts counts t agrees
+
+  shown-smallest : (o : Option ℕ) → smallestBadFor counts t ≡ o → (HoldsFor Counts t → ⊥) → SmallestBadFor Counts t (shownOf o)
+  unfolding shownOf
+  shown-smallest none e f = absurd (f (small .holds .1 e))
+  shown-smallest (some s) e f = small .computed s .1 e
+
+  shown-none : (o : Option ℕ) → smallestBadFor counts t ≡ o → HoldsFor Counts t → shownOf o ≡ 0
+  unfolding shownOf
+  shown-none none e h = refl
+  shown-none (some s) e h = let z : none ≡ some s = sym (small .holds .0 h) ∙ e in let y : _≡_ {A = ℕ} 0 1 = cc in absurd (omega arith)
+
+  pub judgement-shown : (badCountFor counts t ≡ 0 → ⊥) → SmallestBadFor Counts t (judgementFor counts t .shown)
+  judgement-shown n = shown-smallest (smallestBadFor counts t) refl (λ h. n (holding-test-for Counts counts t agrees .1 .0 h))
+
+  pub judgement-none : badCountFor counts t ≡ 0 → judgementFor counts t .shown ≡ 0
+  judgement-none z = shown-none (smallestBadFor counts t) refl (holding-test-for Counts counts t agrees .1 .1 z)
+
+  pub verdict-holds : verdictFor counts t ≡ Holds ↔ HoldsFor Counts t
+  verdict-holds =
+      let o = smallestBadFor counts t in
+      (λ e. small .holds .1 (holds-by o .0 e), λ h. holds-by o .1 (small .holds .0 h))
+
+  pub verdict-fails : (s : ℕ) → verdictFor counts t ≡ Fails s ↔ SmallestBadFor Counts t s
+  verdict-fails s =
+      let o = smallestBadFor counts t in
+      (λ e. small .computed s .1 (fails-by o s .0 e), λ b. fails-by o s .1 (small .computed s .0 b))
+
+pub shown-same : (counts : ℕ → Bool) (t : Test) (s : ℕ) → verdictFor counts t ≡ Fails s → judgementFor counts t .shown ≡ s
+unfolding shownOf
+shown-same counts t s e = rw (fails-by (smallestBadFor counts t) s .0 e)
+
+-- ---- and of a case, where the valid schedules count
+
 module _ (c : Case) where
   abbrev rules : List Rule
   rules = c .rules
@@ -97,53 +144,28 @@ module _ (c : Case) where
   abbrev t : Test
   t = c .test
 
-  abbrev small : SmallestFailing rules t
-  small = smallest-schedule rules t
-
-  shown-smallest : (o : Option ℕ) → smallestBad rules t ≡ o → (TestHolds rules t → ⊥) → SmallestBad rules t (shownOf o)
-  unfolding shownOf
-  shown-smallest none e f = absurd (f (small .holds .1 e))
-  shown-smallest (some s) e f = small .computed s .1 e
-
-  shown-none : (o : Option ℕ) → smallestBad rules t ≡ o → TestHolds rules t → shownOf o ≡ 0
-  unfolding shownOf
-  shown-none none e h = refl
-  shown-none (some s) e h = let z : none ≡ some s = sym (small .holds .0 h) ∙ e in let y : _≡_ {A = ℕ} 0 1 = cc in absurd (omega arith)
-
   numbers-say : NumbersSay c (judgementOf c)
-  unfolding judgementOf validCount badCount
+  unfolding judgementOf badCount bad
   numbers-say =
       let h = holding-test rules t .1 in
       record {
-        valid = (valid rules (t .main), λ s l. valid-schedule rules (t .main) s, refl);
+        valid = (valid rules (t .main), valid-agrees rules t, refl);
         bad = (bad rules t, λ s l. bad-schedule rules t s l, refl);
-        shown = λ n. shown-smallest (smallestBad rules t) refl (λ z. n (h .0 z));
-        none = λ z. shown-none (smallestBad rules t) refl (h .1 z);
+        shown = judgement-shown (Valid rules (t .main)) (valid rules (t .main)) t (valid-agrees rules t);
+        none = judgement-none (Valid rules (t .main)) (valid rules (t .main)) t (valid-agrees rules t);
         holds = (h .1, h .0);
       }
 
-  holds-by : (o : Option ℕ) → verdictBy o ≡ Holds ↔ o ≡ none
-  unfolding verdictBy
-  holds-by none = (λ e. refl, λ e. refl)
-  holds-by (some s) = (λ e. let z : _≡_ {A = ℕ} 0 1 = cc in absurd (omega arith), λ e. let z : _≡_ {A = ℕ} 0 1 = cc in absurd (omega arith))
-
-  fails-by : (o : Option ℕ) (s : ℕ) → verdictBy o ≡ Fails s ↔ o ≡ some s
-  unfolding verdictBy
-  fails-by none s = (λ e. let z : _≡_ {A = ℕ} 0 1 = cc in absurd (omega arith), λ e. let z : _≡_ {A = ℕ} 0 1 = cc in absurd (omega arith))
-  fails-by (some k) s = (λ e. let z : k ≡ s = cc in rw z, λ e. let z : k ≡ s = cc in rw z)
-
   verdict-says : VerdictSays c (verdictOf c)
-  unfolding verdictOf
-  verdict-says =
-      let o = smallestBad rules t in
-      record {
-        holds = (λ e. small .holds .1 (holds-by o .0 e), λ h. holds-by o .1 (small .holds .0 h));
-        fails = λ s. (λ e. small .computed s .1 (fails-by o s .0 e), λ b. fails-by o s .1 (small .computed s .0 b));
-      }
+  unfolding verdictOf TestHolds
+  verdict-says = record {
+    holds = verdict-holds (Valid rules (t .main)) (valid rules (t .main)) t (valid-agrees rules t);
+    fails = verdict-fails (Valid rules (t .main)) (valid rules (t .main)) t (valid-agrees rules t);
+  }
 
-  shown-same : (s : ℕ) → verdictOf c ≡ Fails s → judgementOf c .shown ≡ s
-  unfolding verdictOf judgementOf shownOf
-  shown-same s e = rw (fails-by (smallestBad rules t) s .0 e)
+  same-shown : (s : ℕ) → verdictOf c ≡ Fails s → judgementOf c .shown ≡ s
+  unfolding verdictOf judgementOf
+  same-shown = shown-same (valid rules (t .main)) t
 
 pub judged-as-meant : JudgedAsMeant
-judged-as-meant = record { refused-file = passed-on; read-file = case-read; judge = numbers-say; verdict = verdict-says; same = shown-same }
+judged-as-meant = record { refused-file = passed-on; read-file = case-read; judge = numbers-say; verdict = verdict-says; same = same-shown }

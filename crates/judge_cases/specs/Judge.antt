@@ -1,7 +1,7 @@
 -- Judging one test of a file.
 use Prim.Native.Nat.{ℕ, _-_, _≤_}
 use mathlib.Core.Path.{_≡_}
-use mathlib.Core.Bool.{cond, _&&_}
+use mathlib.Core.Bool.{Bool, cond, _&&_}
 use mathlib.Core.List.{List}
 use lib.Dec.{leb}
 use lib.ListN.{length}
@@ -10,7 +10,8 @@ use Rattle.model.specs.declared.Refusal.{Refusal}
 use Rattle.model.specs.Limits.{mostRules, mostSchedules}
 use Rattle.model.specs.Answer.{Outcome, answer, refused}
 use Rattle.model.specs.Cyclic.{cyclic}
-use Rattle.model.specs.Test.{Test, File, smallestBad, shownOf, validCount, badCount}
+use Rattle.model.specs.Schedule.{valid}
+use Rattle.model.specs.Test.{Test, File, smallestBadFor, shownOf, countFor, badCountFor}
 use Rattle.file_format.specs.declared.Extent.{Extent}
 use Rattle.file_format.specs.File.{readOf}
 use Rattle.file_format.specs.Scan.{testAt}
@@ -52,14 +53,20 @@ caseOf (answer f) k =
 unfoldable pub caseIn : List ℕ → ℕ → Outcome Case
 caseIn s k = caseOf (readOf s) k
 
--- the judge's numbers: the counts of valid and of bad schedules, and the smallest bad one, or 0 where there is none
-unfoldable pub judgementOf : Case → Judgement
-judgementOf c =
-    record { valid = validCount (c .rules) (c .test); bad = badCount (c .rules) (c .test); shown = shownOf (smallestBad (c .rules) (c .test)) }
+-- the judge's numbers of a test, by any choice of which schedules count: how many do, how many of these are bad, and the smallest bad one, or 0 where there is none
+abbrev pub judgementFor : (ℕ → Bool) → Test → Judgement
+judgementFor counts t = record { valid = countFor counts t; bad = badCountFor counts t; shown = shownOf (smallestBadFor counts t) }
 
 -- the verdict alone: holds, or fails with the smallest bad schedule
+abbrev pub verdictFor : (ℕ → Bool) → Test → Verdict
+verdictFor counts t = verdictBy (smallestBadFor counts t)
+
+-- of a case: the valid schedules count
+unfoldable pub judgementOf : Case → Judgement
+judgementOf c = judgementFor (valid (c .rules) (c .test .main)) (c .test)
+
 unfoldable pub verdictOf : Case → Verdict
-verdictOf c = verdictBy (smallestBad (c .rules) (c .test))
+verdictOf c = verdictFor (valid (c .rules) (c .test .main)) (c .test)
 
 -- ---- what the routines give
 

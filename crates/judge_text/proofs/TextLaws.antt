@@ -33,7 +33,7 @@ use Rattle.file_writing.proofs.WroteLaws.{wrote-then, wrote-none}
 
 pub case-line : (rules : List Rule) (s : List ℕ) (e : Extent) (j : Judgement) (k at : ℕ) (l l₁ : List ℕ) (r : ℕ) → j ≡ judgementOf (caseAt rules s e)
     → Wrote l at (testLine k (j .valid) (j .bad)) l₁ r → Wrote l at (testLine k (validCount rules (testAt s e)) (badCount rules (testAt s e))) l₁ r
-unfolding judgementOf
+unfolding judgementOf validCount badCount
 case-line rules s e j k at l l₁ r h w = rw h at w
 
 pub few-valid : (j : Judgement) → FewNumbers j → Digits countDigits (j .valid)

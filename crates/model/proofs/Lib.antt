@@ -2,6 +2,7 @@ pub mod RuleLaws
 pub mod ScheduleLaws
 pub mod NeedsLaws
 pub mod ReadyLaws
+pub mod BehindLaws
 pub mod CheckLaws
 pub mod CountLaws
 pub mod TestLaws

@@ -4,7 +4,7 @@ use mathlib.Core.Logic.{_≢_}
 use mathlib.Core.Bool.{Bool, true, false, cond, not, _&&_, false≢true}
 use mathlib.Core.List.{List}
 use Prim.Native.Nat.{ℕ, zero, suc, _+_, _≤_, _<_}
-use native.Mathlib.Decide.{ℕ-discrete}
+use native.Mathlib.Decide.{ℕ-discrete, decLt}
 use native.Mathlib.Omega.{arith}
 use lib.ListN.{length}
 use borrow.Author.Tests.{not-true, not-false}
@@ -86,6 +86,23 @@ module _ (rules : List Rule) (ws : List Write) (stored : ℕ → Bool) where
         met = met-true i (and-right (not (stored i)) _ (w .2));
         first = λ k h s f. false≢true (sym (w .3 k (omega arith) h) ∙ and-intro (not (stored k)) _ (rw s) (true-met k (omega arith) f));
       }
+
+  -- and the earliest is found
+  pub earliest-ready : (i : ℕ) → Earliest rules ws stored i → ready rules ws stored ≡ suc i
+  unfolding ready
+  earliest-ready i w = go (readyFrom rules ws stored 0 (length ws)) refl
+    where
+      now : can i ≡ true
+      now = and-intro (not (stored i)) _ (rw (w .waits)) (true-met i (w .accepted) (w .met))
+
+      go : (k : ℕ) → readyFrom rules ws stored 0 (length ws) ≡ k → k ≡ suc i
+      go zero e = let h = w .accepted in absurd (false≢true (sym (ready-none (length ws) 0 e i (omega arith) (omega arith)) ∙ now))
+      go (suc k) e =
+          let v = ready-earliest k e in
+          elim (decLt k i) [
+            | yes l ↦ absurd (w .first k l (v .waits) (v .met))
+            | no g ↦ elim (decLt i k) [ yes l ↦ absurd (v .first i l (w .waits) (w .met)) | no h ↦ omega (arith, g, h) ]
+          ]
 
   -- without a ring of needs, none is ready only if all are stored
   pub none-ready : (NeedsRing rules ws → ⊥) → ready rules ws stored ≡ 0 → (i : ℕ) → i < length ws → stored i ≡ true

@@ -42,42 +42,78 @@ schedules t = 2 ^ length (t .main)
 abbrev pub diskAfter : Test → ℕ → List ℕ
 diskAfter t s = run (t .main) s (initialDisk t)
 
--- *a test holds*: every valid schedule leaves a consistent disk
-unfoldable pub TestHolds : List Rule → Test → Type 0
-TestHolds rules t = (s : ℕ) → s < schedules t → Valid rules (t .main) s → Consistent (t .checks) (diskAfter t s)
+-- how many numbers below n pass a test
+unfoldable pub countBelow : (ℕ → Bool) → ℕ → ℕ
+countBelow p zero = 0
+countBelow p (suc n) = cond (p n) 1 0 + countBelow p n
 
--- a schedule is bad: valid, and its disk is inconsistent
-unfoldable pub Bad : List Rule → Test → ℕ → Type 0
-Bad rules t s = (s < schedules t) × Valid rules (t .main) s × (Consistent (t .checks) (diskAfter t s) → ⊥)
+-- ---- for any meaning `Counts` of which schedules count
 
--- *the smallest failing schedule* (02, [4]): bad, and every other bad one has more flagged writes, or as many and a larger number
-abbrev pub SmallestBad : List Rule → Test → ℕ → Type 0
-SmallestBad rules t s = Smallest (Bad rules t) s
+-- every schedule that counts leaves a consistent disk
+abbrev pub HoldsFor : (ℕ → Type 0) → Test → Type 0
+HoldsFor Counts t = (s : ℕ) → s < schedules t → Counts s → Consistent (t .checks) (diskAfter t s)
 
--- ---- the same, computed
+-- a schedule is bad: it counts, and its disk is inconsistent
+abbrev pub BadFor : (ℕ → Type 0) → Test → ℕ → Type 0
+BadFor Counts t s = (s < schedules t) × Counts s × (Consistent (t .checks) (diskAfter t s) → ⊥)
 
-unfoldable pub bad : List Rule → Test → ℕ → Bool
-bad rules t s = valid rules (t .main) s && not (consistent (t .checks) (diskAfter t s))
+-- the smallest one: bad, and every other bad one has more flagged writes, or as many and a larger number
+abbrev pub SmallestBadFor : (ℕ → Type 0) → Test → ℕ → Type 0
+SmallestBadFor Counts t s = Smallest (BadFor Counts t) s
 
-unfoldable pub testHolds : List Rule → Test → Bool
-testHolds rules t = allBelow (λ s. not (bad rules t s)) (schedules t)
+-- ---- the same, computed, for any choice `counts` of which schedules count
 
-unfoldable pub smallestBad : List Rule → Test → Option ℕ
-smallestBad rules t = smallestBelow (bad rules t) (schedules t)
+-- a schedule counts, and its disk is inconsistent
+abbrev pub badFor : (ℕ → Bool) → Test → ℕ → Bool
+badFor counts t s = counts s && not (consistent (t .checks) (diskAfter t s))
+
+-- no schedule is bad
+abbrev pub holdsFor : (ℕ → Bool) → Test → Bool
+holdsFor counts t = allBelow (λ s. not (badFor counts t s)) (schedules t)
+
+-- the smallest bad schedule, if there is one
+abbrev pub smallestBadFor : (ℕ → Bool) → Test → Option ℕ
+smallestBadFor counts t = smallestBelow (badFor counts t) (schedules t)
 
 -- the number that the judge shows: that of the smallest bad schedule, or 0 where there is none
 unfoldable pub shownOf : Option ℕ → ℕ
 shownOf none = 0
 shownOf (some s) = s
 
--- how many numbers below n pass a test
-unfoldable pub countBelow : (ℕ → Bool) → ℕ → ℕ
-countBelow p zero = 0
-countBelow p (suc n) = cond (p n) 1 0 + countBelow p n
+-- how many schedules count, and how many of these are bad
+abbrev pub countFor : (ℕ → Bool) → Test → ℕ
+countFor counts t = countBelow counts (schedules t)
+
+abbrev pub badCountFor : (ℕ → Bool) → Test → ℕ
+badCountFor counts t = countBelow (badFor counts t) (schedules t)
+
+-- ---- where the valid schedules count
+
+-- *a test holds*: every valid schedule leaves a consistent disk
+unfoldable pub TestHolds : List Rule → Test → Type 0
+TestHolds rules t = HoldsFor (Valid rules (t .main)) t
+
+-- a schedule is bad: valid, and its disk is inconsistent
+unfoldable pub Bad : List Rule → Test → ℕ → Type 0
+Bad rules t s = BadFor (Valid rules (t .main)) t s
+
+-- *the smallest failing schedule* (02, [4]): the smallest of the bad ones
+abbrev pub SmallestBad : List Rule → Test → ℕ → Type 0
+SmallestBad rules t s = SmallestBadFor (Valid rules (t .main)) t s
+
+-- the same, computed
+unfoldable pub bad : List Rule → Test → ℕ → Bool
+bad rules t s = badFor (valid rules (t .main)) t s
+
+unfoldable pub testHolds : List Rule → Test → Bool
+testHolds rules t = holdsFor (valid rules (t .main)) t
+
+unfoldable pub smallestBad : List Rule → Test → Option ℕ
+smallestBad rules t = smallestBadFor (valid rules (t .main)) t
 
 -- the judge's counts: of valid schedules, and of valid and inconsistent ones
 unfoldable pub validCount : List Rule → Test → ℕ
-validCount rules t = countBelow (valid rules (t .main)) (schedules t)
+validCount rules t = countFor (valid rules (t .main)) t
 
 unfoldable pub badCount : List Rule → Test → ℕ
-badCount rules t = countBelow (bad rules t) (schedules t)
+badCount rules t = badCountFor (valid rules (t .main)) t

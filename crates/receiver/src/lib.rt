@@ -12,13 +12,12 @@ ghost use Rattle.cache_steps.specs.Given.{callLeaves, codedLeft, callLeavesStat
 pub extern "C" fn pelzhondy_step(state: &mut [u8], disk: &mut [u8]) -> u64
     ensures { λ r. ⌜ callLeaves r (now (state .exit)) (now (disk .exit)) ≡ codedLeft (stepOf (now (state .entry)) (now (disk .entry))) ⌝ }
 {
-    let mut rows = [0u64; 64];
-    let number = cache_steps::fault(&mut rows, state, disk);
-    if number != 0 {
-        return model::refuse(number, 0);
+    let mut rows = [0u64; model::MOST_HELD];
+    let looked = cache_steps::look(&mut rows, state, disk);
+    if looked.number != 0 {
+        return model::refuse(looked.number, 0);
     }
-    let mask = cache_layout::stored_mask(state);
-    cache_steps::step_sound(state, disk, &rows, mask)
+    cache_steps::step_sound(state, disk, &rows, looked.stored)
 }
 
 // As many steps as there are waiting writes, and how many.
@@ -26,13 +25,12 @@ pub extern "C" fn pelzhondy_step(state: &mut [u8], disk: &mut [u8]) -> u64
 pub extern "C" fn pelzhondy_drain(state: &mut [u8], disk: &mut [u8]) -> u64
     ensures { λ r. ⌜ callLeaves r (now (state .exit)) (now (disk .exit)) ≡ codedLeft (drainOf (now (state .entry)) (now (disk .entry))) ⌝ }
 {
-    let mut rows = [0u64; 64];
-    let number = cache_steps::fault(&mut rows, state, disk);
-    if number != 0 {
-        return model::refuse(number, 0);
+    let mut rows = [0u64; model::MOST_HELD];
+    let looked = cache_steps::look(&mut rows, state, disk);
+    if looked.number != 0 {
+        return model::refuse(looked.number, 0);
     }
-    let mask = cache_layout::stored_mask(state);
-    cache_steps::drain_sound(state, disk, &rows, mask)
+    cache_steps::drain_sound(state, disk, &rows, looked.stored)
 }
 
 // Takes a write in, and answers its place from 1.
@@ -60,7 +58,7 @@ pub extern "C" fn pelzhondy_hand_in(
 pub extern "C" fn pelzhondy_open(state: &mut [u8], file: &[u8]) -> u64
     ensures { λ r. ⌜ callLeavesState r (now (state .exit)) ≡ codedKept (openOf (now (file .entry)) (now (state .entry)) []) ⌝ }
 {
-    if state.len() != 1024 {
+    if state.len() != cache_model::STATE_SIZE {
         return model::refuse(14, 0);
     }
     let read = file_reader::read(file);

@@ -1,12 +1,13 @@
 -- Warshall's closure of a table relates exactly what is reached in one or more steps, by induction on the numbers that a walk may pass;
 -- and where there is no ring, a set has a number that is related to none of it, by induction on the bound of the set.
-use mathlib.Core.Path.{_≡_, refl, sym, subst, _∙_}
+use mathlib.Core.Path.{_≡_, refl, sym, ap, subst, _∙_}
 use mathlib.Core.Logic.{_⊎_, inl, inr, ⊎-elim}
 use mathlib.Core.Bool.{Bool, true, false, cond, true≢false, and-true, or-false, _&&_, _||_}
 use mathlib.Core.List.{List, map}
 use Prim.Native.Nat.{ℕ, zero, suc, _≤_, _<_}
 use native.Mathlib.Omega.{arith}
-use lib.ListN.{getD, List·getD-map}
+use lib.ListN.{getD, take, List·getD-map}
+use lib.Seq.{getD-take}
 use lib.Bits.{bitOr}
 use borrow.Author.Tests.{lt-ltb}
 use Rattle.relation.specs.Bits.{bit, maskOf}
@@ -116,6 +117,16 @@ related-rows R n i j hi hj = rw (getD-tabulate (λ x. maskOf (R x) n) n i 0 hi, 
 abbrev pub Agree : ℕ → (ℕ → ℕ → Bool) → (ℕ → ℕ → Bool) → Type 0
 Agree n R S = (i j : ℕ) → i < n → j < n → R i j ≡ S i j
 
+-- a table whose first rows are those of a relation
+module _ (R : ℕ → ℕ → Bool) (n : ℕ) (rows : List ℕ) (e : take n rows ≡ rowsOf R n) where
+  pub table-row : (i : ℕ) → i < n → getD rows i 0 ≡ maskOf (R i) n
+  unfolding rowsOf
+  table-row i h = sym (getD-take n rows i 0 h) ∙ ap (λ (l : List ℕ). getD l i 0) e ∙ getD-tabulate (λ x. maskOf (R x) n) n i 0 h
+
+  pub table-related : Agree n (related rows) R
+  unfolding related
+  table-related i j hi hj = rw (table-row i hi, bit-mask (R i) n j, lt-ltb j n hj)
+
 agree-sym : (R S : ℕ → ℕ → Bool) (n : ℕ) → Agree n R S → Agree n S R
 agree-sym R S n same i j hi hj = sym (same i j hi hj)
 
@@ -159,6 +170,10 @@ module _ (R S : ℕ → ℕ → Bool) (n : ℕ) (same : Agree n R S) where
   pub hasRing-ext : hasRing R n ≡ hasRing S n
   hasRing-ext = unfold hasRing in loops-closed (rowsOf R n) S n table-agrees
 
+-- a table whose first rows are those of a relation has a ring where that has one
+pub table-ring : (R : ℕ → ℕ → Bool) (n : ℕ) (rows : List ℕ) → take n rows ≡ rowsOf R n → hasRing (related rows) n ≡ hasRing R n
+table-ring R n rows e = hasRing-ext (related rows) R n (table-related R n rows e)
+
 -- ---- rings
 
 pub hasRing-ring : (R : ℕ → ℕ → Bool) (n : ℕ) → hasRing R n ≡ true → Ring (Below n R)
@@ -167,7 +182,7 @@ hasRing-ring R n h =
     let w = anyBelow-true (λ i. reaches R n i i) n (unfold reaches in h) in
     (w .0, reaches-plus R n (w .0) (w .0) (w .1) (w .1) (w .2))
 
-plus-start : (R : ℕ → ℕ → Bool) (n : ℕ) {i j : ℕ} → Plus (Below n R) i j → i < n
+pub plus-start : (R : ℕ → ℕ → Bool) (n : ℕ) {i j : ℕ} → Plus (Below n R) i j → i < n
 plus-start R n (one r) = r .0
 plus-start R n (more r w) = r .0
 

@@ -11,3 +11,6 @@ pub mod SetLaws
 pub mod TableLaws
 pub mod BestLaws
 pub mod MemberLaws
+pub mod PeelLaws
+pub mod ReachLaws
+pub mod AddedLaws

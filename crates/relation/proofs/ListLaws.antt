@@ -21,6 +21,10 @@ pub untrue : (b : Bool) → (b ≡ true → ⊥) → b ≡ false
 untrue true n = absurd (n refl)
 untrue false n = refl
 
+pub true-unless : (b : Bool) → (b ≡ false → ⊥) → b ≡ true
+true-unless true n = refl
+true-unless false n = absurd (n refl)
+
 pub not-so : (b : Bool) → (b ≡ true → ⊥) → not b ≡ true
 not-so true n = absurd (n refl)
 not-so false n = refl

@@ -1,6 +1,6 @@
 -- Masks as sets: part of, union, intersection. A number is known by its bits.
 use mathlib.Core.Path.{_≡_, sym, ap, _∙_}
-use mathlib.Core.Bool.{Bool, true, false, cond, not, _&&_, _||_, false≢true}
+use mathlib.Core.Bool.{Bool, true, false, cond, not, _&&_, _||_, false≢true, and-comm}
 use mathlib.Core.Path.{refl}
 use Prim.Native.Nat.{ℕ, zero, suc, _+_, _≤_, _<_}
 use native.Mathlib.Nat.{lt-of-le-of-lt, lt-of-lt-of-le}
@@ -9,7 +9,7 @@ use native.Mathlib.Omega.{arith}
 use lib.Bits.{bitAnd, bitOr, and-le-l, or-lt}
 use lib.Pow.{pow-mono}
 use lib.Dec.{eqb, ltb}
-use borrow.Author.Tests.{eqb-true, eq-eqb, lt-ltb}
+use borrow.Author.Tests.{eqb-true, eq-eqb, lt-ltb, ltb-true}
 use Rattle.relation.specs.Bits.{bit, withBit, maskOf}
 use Rattle.relation.specs.Lists.{allBelow}
 use Rattle.relation.proofs.BitLaws.{bit-and, bit-or, bit-with, with-below, bit-mask, mask-below, bits-equal}
@@ -41,6 +41,15 @@ mask-part p n s = bool-equal _ _ there back
         ∙ bool-equal _ _ (λ q. and-left (bit (maskOf p n) j) (bit s j) q)
         (λ q. and-intro (bit (maskOf p n) j) (bit s j) q (implies (p j) (bit s j) (allBelow-true _ n a j h) (and-right (ltb j n) (p j) (sym (bit-mask p n j) ∙ q))))))
 
+-- the members of a mask
+pub mask-member : (p : ℕ → Bool) (n i : ℕ) → bit (maskOf p n) i ≡ true → (i < n) × (p i ≡ true)
+mask-member p n i e =
+    let m = sym (bit-mask p n i) ∙ e in
+    (ltb-true i n (and-left (ltb i n) (p i) m), and-right (ltb i n) (p i) m)
+
+pub member-mask : (p : ℕ → Bool) (n i : ℕ) → i < n → p i ≡ true → bit (maskOf p n) i ≡ true
+member-mask p n i h e = bit-mask p n i ∙ and-intro (ltb i n) (p i) (lt-ltb i n h) e
+
 pub mask-false : (p : ℕ → Bool) (n : ℕ) → ((j : ℕ) → p j ≡ false) → maskOf p n ≡ 0
 unfolding maskOf
 mask-false p zero h = refl
@@ -59,6 +68,12 @@ module _ (p q : ℕ → Bool) (n : ℕ) where
   mask-and =
       bits-equal n _ _ (lt-of-le-of-lt (and-le-l (maskOf p n) (maskOf q n)) (mask-below p n)) (mask-below (λ j. p j && q j) n)
       (λ j h. bit-and (maskOf p n) (maskOf q n) j ∙ rw (bit-mask p n j, bit-mask q n j, bit-mask (λ j. p j && q j) n j, lt-ltb j n h))
+
+-- the members of a mask that are in a set
+pub mask-cut : (p : ℕ → Bool) (n s : ℕ) → bitAnd (maskOf p n) s ≡ maskOf (λ j. bit s j && p j) n
+mask-cut p n s =
+    bits-equal n _ _ (lt-of-le-of-lt (and-le-l (maskOf p n) s) (mask-below p n)) (mask-below (λ j. bit s j && p j) n)
+    (λ j h. rw (bit-and (maskOf p n) s j, bit-mask p n j, bit-mask (λ j. bit s j && p j) n j, lt-ltb j n h) (and-comm (p j) (bit s j)))
 
 -- a mask of numbers below k, as one of numbers below n
 pub mask-short : (p : ℕ → Bool) (k n : ℕ) → k ≤ n → maskOf p k ≡ maskOf (λ j. ltb j k && p j) n

@@ -1,20 +1,20 @@
 -- Masks as sets: a mask without the members of another, bit by bit and as a smaller number, and the highest member, by the leading zeros.
 use mathlib.Core.Path.{_≡_, refl, sym, ap, _∙_}
 use mathlib.Core.Bool.{Bool, true, false, cond, not, _&&_, _||_, false≢true}
-use Prim.Native.Nat.{ℕ, suc, _+_, _-_, _%_, _^_, _≤_, _<_}
+use Prim.Native.Nat.{ℕ, zero, suc, _+_, _-_, _/_, _%_, _^_, _≤_, _<_}
 use native.Mathlib.Nat.{pow-suc, mod-lt, mod-le}
 use native.Mathlib.Omega.{arith}
 use lib.Bits.{bitAnd, bitOr, or-disjoint, and-le-l}
-use lib.Count.{leadingZeros, leading-le, leading-top}
+use lib.Count.{leadingZeros, leading-le, leading-top, trailingZeros, trailing-le, under}
 use lib.Dec.{ltb}
 use lib.Pow.{pow-mono, pow-pos}
 use borrow.Author.Needs.{needs}
 use borrow.Author.Tests.{lt-ltb, ltb-true, ltb-false, not-true}
-use Rattle.relation.specs.Bits.{bit, withBit, without, Highest}
-use Rattle.relation.proofs.BitLaws.{bit-and, bit-or, bit-mask, mask-below, bits-equal, bit-zero, bit-mod, set-bit}
-use Rattle.relation.proofs.ListLaws.{and-left, and-right}
+use Rattle.relation.specs.Bits.{bit, withBit, without, Highest, Lowest}
+use Rattle.relation.proofs.BitLaws.{bit-suc, bit-and, bit-or, bit-mask, mask-below, bits-equal, bit-zero, bit-mod, set-bit}
+use Rattle.relation.proofs.ListLaws.{clash, untrue, and-left, and-right, and-intro}
 use Rattle.relation.proofs.UnionLaws.{bits-same, bit-past, bit-top, others-bits}
-use Rattle.relation.proofs.WithoutLaws.{bit-most}
+use Rattle.relation.proofs.WithoutLaws.{bit-most, odd-bit, even-bit}
 
 -- ---- setting a bit if asked for
 
@@ -95,6 +95,18 @@ without-falls a b h l ea eb =
     let falls = without-less m b h fits (bit-mod a 64 h l ∙ ea) eb in
     omega (arith, less, same, falls)
 
+-- ---- sets that do not meet
+
+pub apart-bit : (a b j : ℕ) → bitAnd a b ≡ 0 → bit a j ≡ true → bit b j ≡ false
+apart-bit a b j z e = untrue (bit b j) (λ f. clash (bit (bitAnd a b) j) (bit-and a b j ∙ and-intro (bit a j) (bit b j) e f) (rw z (bit-zero j)))
+
+pub bits-apart : (a b : ℕ) → ((j : ℕ) → bit a j ≡ true → bit b j ≡ false) → bitAnd a b ≡ 0
+bits-apart a b f = bits-same (bitAnd a b) 0 (λ j. bit-and a b j ∙ go j (bit a j) refl ∙ sym (bit-zero j))
+  where
+    go : (j : ℕ) (t : Bool) → bit a j ≡ t → t && bit b j ≡ false
+    go j true e = f j e
+    go j false e = refl
+
 -- ---- the highest member
 
 pub leading-fits : (m : ℕ) → leadingZeros 64 m < 2 ^ 64
@@ -119,4 +131,34 @@ highest-is m p h =
 pub highest-below : (m : ℕ) → 63 - leadingZeros 64 m < 64
 highest-below m = omega arith
 
-pub ruleset setting = (needs, set-bit, if-on, if-off, without-is, leading-fits, leading-most, highest-is, highest-below)
+-- ---- the lowest member
+
+-- by halving: an odd number has 0, and an even one what its half has, one further up
+lowest-in : (k m : ℕ) → 0 < m → m < 2 ^ k → Lowest m (trailingZeros k m) × (trailingZeros k m < k)
+unfolding trailingZeros Lowest
+lowest-in zero m p h = absurd (omega arith)
+lowest-in (suc k) m p h = go (m % 2) refl (λ x y. lowest-in k (m / 2) x y)
+  where
+    go : (r : ℕ) → m % 2 ≡ r → (0 < m / 2 → m / 2 < 2 ^ k → Lowest (m / 2) (trailingZeros k (m / 2)) × (trailingZeros k (m / 2) < k))
+        → Lowest m (under r (trailingZeros k (m / 2))) × (under r (trailingZeros k (m / 2)) < suc k)
+    go zero e half =
+        let s = pow-suc 2 k in
+        let z = half (omega arith) (omega arith) in
+        let t = trailingZeros k (m / 2) in
+        ((bit-suc m t ∙ z .0 .0, λ j l. below j t l (z .0 .1)), omega (arith, z .1))
+      where
+        below : (j t : ℕ) → j < suc t → ((i : ℕ) → i < t → bit (m / 2) i ≡ false) → bit m j ≡ false
+        below zero t l f = even-bit m e
+        below (suc j) t l f = bit-suc m j ∙ f j (omega arith)
+    go (suc r) e half = ((odd-bit m (omega arith), λ j l. absurd (omega arith)), omega arith)
+
+pub trailing-fits : (m : ℕ) → trailingZeros 64 m < 2 ^ 64
+trailing-fits m = omega (arith, trailing-le 64 m)
+
+pub lowest-is : (m : ℕ) → 0 < m → m < 2 ^ 64 → Lowest m (trailingZeros 64 m)
+lowest-is m p h = lowest-in 64 m p h .0
+
+pub lowest-below : (m : ℕ) → 0 < m → m < 2 ^ 64 → trailingZeros 64 m < 64
+lowest-below m p h = lowest-in 64 m p h .1
+
+pub ruleset setting = (needs, set-bit, if-on, if-off, without-is, leading-fits, leading-most, highest-is, highest-below, trailing-fits, lowest-is, lowest-below)

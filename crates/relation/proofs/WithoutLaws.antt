@@ -1,18 +1,27 @@
 -- A number without one of its bits has one 1 less, and its halves are the number's without that bit. By halving.
 use mathlib.Core.Path.{_≡_, sym, ap, _∙_}
-use mathlib.Core.Bool.{true}
+use mathlib.Core.Bool.{true, false}
 use Prim.Native.Nat.{ℕ, zero, suc, _+_, _-_, _/_, _%_, _^_, _≤_}
 use native.Mathlib.Nat.{div-one, mod-lt, pow-suc}
 use native.Mathlib.Omega.{arith}
 use lib.Count.{ones, ones-step, ones-cat}
 use lib.Pow.{pow-pos, split}
-use borrow.Author.Tests.{eqb-true}
+use borrow.Author.Tests.{eqb-true, eq-eqb}
 use Rattle.relation.specs.Bits.{bit}
 use Rattle.relation.proofs.BitLaws.{bit-suc}
 
 pub lowest-odd : (m : ℕ) → bit m 0 ≡ true → m % 2 ≡ 1
 unfolding bit
 lowest-odd m e = eqb-true (m % 2) 1 (rw (div-one m) at e)
+
+-- and the lowest bit of odd and of even numbers
+pub odd-bit : (m : ℕ) → m % 2 ≡ 1 → bit m 0 ≡ true
+unfolding bit
+odd-bit m e = rw (div-one m) (eq-eqb (m % 2) 1 e)
+
+pub even-bit : (m : ℕ) → m % 2 ≡ 0 → bit m 0 ≡ false
+unfolding bit
+even-bit m e = rw (div-one m, e)
 
 -- a bit of a number is no more than the number
 pub bit-most : (m i : ℕ) → bit m i ≡ true → 2 ^ i ≤ m

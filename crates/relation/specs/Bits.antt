@@ -24,3 +24,7 @@ without a b = maskOf (λ j. bit a j && not (bit b j)) 64
 -- h is the highest member of m
 unfoldable pub Highest : ℕ → ℕ → Type 0
 Highest m h = (bit m h ≡ true) × ((j : ℕ) → h < j → bit m j ≡ false)
+
+-- h is the lowest member of m
+unfoldable pub Lowest : ℕ → ℕ → Type 0
+Lowest m h = (bit m h ≡ true) × ((j : ℕ) → j < h → bit m j ≡ false)

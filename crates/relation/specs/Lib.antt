@@ -6,3 +6,5 @@ pub mod Union
 pub mod Tables
 pub mod Best
 pub mod Rank
+pub mod Peel
+pub mod Reach

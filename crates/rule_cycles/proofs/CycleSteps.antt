@@ -1,97 +1,162 @@
 -- The code's steps: one law for each return and each turn of a loop, whose premises are what is known at that place.
 use mathlib.Core.Path.{_≡_, refl, sym, ap, _∙_}
-use mathlib.Core.Bool.{Bool, true, false, cond, not, and-true, and-false, _&&_}
+use mathlib.Core.Bool.{Bool, true, false, cond, not, _&&_}
 use mathlib.Core.List.{List}
-use Prim.Native.Nat.{ℕ, _+_, _≤_, _<_}
+use Prim.Native.Nat.{ℕ, _+_, _%_, _^_, _≤_, _<_}
 use native.Mathlib.Numerals.{add-one}
 use native.Mathlib.Omega.{arith}
+use lib.Bits.{bitAnd}
 use lib.Dec.{eqb}
 use lib.ListN.{length, getD, take, set}
-use lib.Seq.{getD-take, take-suc-set}
+use lib.Pow.{pow-mono}
+use lib.Seq.{take-suc-set, getD-set-same, getD-set-other}
 use borrow.Author.Needs.{needs}
-use borrow.Author.Tests.{eq-eqb, ne-eqb, not-true, not-false}
+use borrow.Author.Tests.{eq-eqb, eqb-true, eqb-false, ne-eqb, lt-ltb, not-true, not-false}
 use Rattle.relation.specs.Bits.{bit, withBit, maskOf}
+use Rattle.relation.specs.Tables.{Blank}
 use Rattle.relation.specs.Lists.{anyBelow, tabulate}
-use Rattle.relation.specs.Finite.{related, rowsOf, closed, loops, hasRing, reaches}
-use Rattle.relation.proofs.ListLaws.{anyBelow-intro, anyBelow-ext}
-use Rattle.relation.proofs.FiniteLaws.{Agree, related-rows, related-closed, loops-closed}
+use Rattle.relation.specs.Finite.{related, rowsOf, closed, hasRing, reaches}
+use Rattle.relation.proofs.BitLaws.{bit-zero, with-below, bit-mask, mask-below, mask-ext}
+use Rattle.relation.proofs.FiniteLaws.{Agree, table-related, table-ring, related-closed, reaches-plus, hasRing-ext, hasRing-ring, ring-hasRing}
+use Rattle.relation.proofs.ListLaws.{clash, untrue, and-left, and-right, and-intro, anyBelow-true, anyBelow-intro, anyBelow-ext}
+use Rattle.relation.proofs.MaskLaws.{member-mask, mask-cut, mask-false, mask-begun, mask-more, mask-all}
+use Rattle.relation.proofs.TableLaws.{blank-made}
+use Rattle.relation.proofs.TransitiveLaws.{plus-trans, plus-first, plus-map}
+use Rattle.relation.proofs.UnionLaws.{bit-ones}
 use Rattle.model.specs.Limits.{mostRules}
 use Rattle.model.specs.declared.Rule.{Rule}
 use Rattle.model.specs.Cyclic.{ruleAt, leads, has, equalLeads, meets, cyclic}
 use Rattle.rule_match.specs.declared.Rules.{Rules}
 use Rattle.rule_match.specs.Held.{itemAt, rulesOf}
-use Rattle.rule_cycles.specs.Links.{links, linked, meetsBy, meetsFrom}
+use Rattle.rule_cycles.specs.Links.{starts, linked, inBucket, Buckets, near, everything, Suspects, meetsBy, meetsFrom}
 use Rattle.rule_match.proofs.MatchSteps.{length-mapped, held-at, held-length}
 
--- ---- leads_to
+-- ---- having, starting: a mask made rule by rule
 
-module _ (a b : Rule) where
-  pub links-apart : (equal : Bool) → (a .second ≡ b .first → ⊥) → false ≡ links equal a b
-  unfolding links
-  links-apart true f = rw (ne-eqb (a .second) (b .first) f, and-false (eqb (a .predicate) 0 && eqb (b .predicate) 0))
-  links-apart false f = sym (ne-eqb (a .second) (b .first) f)
+pub having-more : (rules : Rules) (p i mask next : ℕ) → i < rules .count → mask ≡ maskOf (has (rulesOf rules) p) i
+    → next ≡ cond (eqb (itemAt rules i .predicate) p) (withBit mask i) mask → next ≡ maskOf (has (rulesOf rules) p) (i + 1)
+unfolding has
+having-more rules p i mask next h e f = mask-more (has (rulesOf rules) p) i mask next (eqb (itemAt rules i .predicate) p) e (rw (held-at rules i h)) f
 
-  pub links-any : (equal : Bool) → a .second ≡ b .first → not equal ≡ true → true ≡ links equal a b
-  unfolding links
-  links-any equal e f = rw (not-true equal f) (sym (eq-eqb (a .second) (b .first) e))
-
-  pub links-other : (equal : Bool) → not equal ≡ false → (a .predicate ≡ 0 → ⊥) → false ≡ links equal a b
-  unfolding links
-  links-other equal t f = rw (not-false equal t, ne-eqb (a .predicate) 0 f)
-
-  pub links-equal : (equal : Bool) → a .second ≡ b .first → not equal ≡ false → a .predicate ≡ 0 → eqb (b .predicate) 0 ≡ links equal a b
-  unfolding links
-  links-equal equal e t p = rw (not-false equal t, eq-eqb (a .predicate) 0 p, eq-eqb (a .second) (b .first) e) (sym (and-true (eqb (b .predicate) 0)))
-
--- ---- with_link
-
-module _ (mask j : ℕ) (a b : Rule) (equal : Bool) where
-  pub link-yes : (t : Bool) (r : ℕ) → t ≡ links equal a b → t ≡ true → r ≡ withBit mask j → r ≡ cond (links equal a b) (withBit mask j) mask
-  link-yes t r e h q = rw (← e, h) q
-
-  pub link-no : (t : Bool) → t ≡ links equal a b → t ≡ false → mask ≡ cond (links equal a b) (withBit mask j) mask
-  link-no t e h = rw (← e, h)
+pub starting-more : (rules : Rules) (name j mask next : ℕ) → j < rules .count → mask ≡ maskOf (starts (rulesOf rules) name) j
+    → next ≡ cond (eqb name (itemAt rules j .first)) (withBit mask j) mask → next ≡ maskOf (starts (rulesOf rules) name) (j + 1)
+unfolding starts
+starting-more rules name j mask next h e f = mask-more (starts (rulesOf rules) name) j mask next (eqb name (itemAt rules j .first)) e (rw (held-at rules j h)) f
 
 -- ---- row
 
-pub row-begun : (p : ℕ → Bool) → 0 ≡ maskOf p 0
-unfolding maskOf
-row-begun p = refl
+module _ (rules : Rules) (among i : ℕ) (b : Bool) (e : b ≡ bit among i) where
+  pub row-out : not b ≡ true → 0 ≡ maskOf (linked among (rulesOf rules) i) (rules .count)
+  unfolding linked
+  row-out f = sym (mask-false (linked among (rulesOf rules) i) (rules .count) (λ j. rw (← e, not-true b f)))
 
-pub row-more : (equal : Bool) (rules : Rules) (i j mask next : ℕ) → i < rules .count → j < rules .count
-    → mask ≡ maskOf (linked equal (rulesOf rules) i) j → next ≡ cond (links equal (itemAt rules i) (itemAt rules j)) (withBit mask j) mask
-    → next ≡ maskOf (linked equal (rulesOf rules) i) (j + 1)
-unfolding maskOf
-row-more equal rules i j mask next hi hj e f = rw (add-one j, held-at rules i hi, held-at rules j hj, ← e) f
+  pub row-in : (r : ℕ) → not b ≡ false → i < rules .count → r ≡ maskOf (starts (rulesOf rules) (itemAt rules i .second)) (rules .count)
+      → bitAnd r among ≡ maskOf (linked among (rulesOf rules) i) (rules .count)
+  unfolding linked starts leads
+  row-in r f h q =
+      let n = rules .count in
+      let p = starts (rulesOf rules) (itemAt rules i .second) in
+      rw q (mask-cut p n among ∙ mask-ext _ _ n (λ j k. rw (← e, not-false b f, held-at rules i h)))
 
-pub row-done : (p : ℕ → Bool) (mask j n : ℕ) → j ≤ n → n ≤ j → mask ≡ maskOf p j → mask ≡ maskOf p n
-row-done p mask j n a b e =
-    let q : j ≡ n = omega arith in
-    rw q at e
-
--- ---- fill
+-- ---- fill, fill_near: tables of a relation
 
 -- the first i rows
-abbrev pub filled : Bool → Rules → ℕ → List ℕ
-filled equal rules i = tabulate (λ k. maskOf (linked equal (rulesOf rules) k) (rules .count)) i
+pub filled : (ℕ → ℕ → Bool) → ℕ → ℕ → List ℕ
+filled R n i = tabulate (λ k. maskOf (R k) n) i
 
-pub fill-begun : (equal : Bool) (rules : Rules) (rows : List ℕ) → take 0 rows ≡ filled equal rules 0
-unfolding tabulate
-fill-begun equal rules rows = refl
+module _ (R : ℕ → ℕ → Bool) (n : ℕ) (rows : List ℕ) where
+  pub fill-begun : take 0 rows ≡ filled R n 0
+  unfolding filled tabulate
+  fill-begun = refl
 
-pub fill-more : (equal : Bool) (rules : Rules) (rows : List ℕ) (i mask : ℕ) → length rows ≡ 64 → rules .count ≤ mostRules → i < rules .count
-    → take i rows ≡ filled equal rules i → mask ≡ maskOf (linked equal (rulesOf rules) i) (rules .count) → take (i + 1) (set rows i mask) ≡ filled equal rules (i + 1)
-unfolding tabulate
-fill-more equal rules rows i mask h few l e f =
-    let inside : i < length rows = omega arith in
-    rw (add-one i, take-suc-set rows i mask inside, e, f)
+  pub fill-more : (i mask : ℕ) → length rows ≡ 64 → n ≤ mostRules → i < n → take i rows ≡ filled R n i → mask ≡ maskOf (R i) n
+      → take (i + 1) (set rows i mask) ≡ filled R n (i + 1)
+  unfolding filled tabulate
+  fill-more i mask h few l e f =
+      let inside : i < length rows = omega arith in
+      rw (add-one i, take-suc-set rows i mask inside, e, f)
 
-pub fill-done : (equal : Bool) (rules : Rules) (rows : List ℕ) (i : ℕ) → i ≤ rules .count → rules .count ≤ i → take i rows ≡ filled equal rules i
-    → take (rules .count) rows ≡ rowsOf (linked equal (rulesOf rules)) (rules .count)
-unfolding rowsOf
-fill-done equal rules rows i a b e =
-    let q : i ≡ rules .count = omega arith in
-    rw q at e
+  pub fill-done : (i : ℕ) → i ≤ n → n ≤ i → take i rows ≡ filled R n i → take n rows ≡ rowsOf R n
+  unfolding filled rowsOf
+  fill-done i a b e =
+      let q : i ≡ n = omega arith in
+      rw q at e
+
+-- ---- fill_buckets
+
+pub buckets-none : (rules : List Rule) (table : List ℕ) → Blank 64 table → Buckets rules 0 table
+buckets-none rules table h = record { at = λ b l. h .at b l ∙ mask-begun (inBucket rules b) }
+
+pub buckets-more : (rules : Rules) (table : List ℕ) (j b next : ℕ) → length table ≡ 64 → j < rules .count → Buckets (rulesOf rules) j table
+    → b ≡ itemAt rules j .first % 64 → b < 64 → next ≡ withBit (getD table b 0) j → Buckets (rulesOf rules) (j + 1) (set table b next)
+unfolding inBucket
+buckets-more rules table j b next size h t e l q = record { at = λ c k. go c k (eqb c b) refl }
+  where
+    go : (c : ℕ) → c < 64 → (u : Bool) → eqb c b ≡ u → getD (set table b next) c 0 ≡ maskOf (inBucket (rulesOf rules) c) (j + 1)
+    go c k u z =
+        mask-more (inBucket (rulesOf rules) c) j (getD table c 0) (getD (set table b next) c 0) u (t .at c k)
+        (sym z ∙ rw (held-at rules j h, ← e)) (each u z)
+      where
+        each : (u : Bool) → eqb c b ≡ u → getD (set table b next) c 0 ≡ cond u (withBit (getD table c 0) j) (getD table c 0)
+        each true z = rw (eqb-true c b z) (getD-set-same table b next 0 (omega arith) ∙ q)
+        each false z = getD-set-other table b c next 0 (eqb-false c b z)
+
+-- a bucket, read and written, fits its word
+pub bucket-small : (rules : List Rule) (table : List ℕ) (k b : ℕ) → Buckets rules k table → k ≤ mostRules → b < 64 → getD table b 0 < 2 ^ 64
+bucket-small rules table k b t few l =
+    let m = mask-below (inBucket rules b) k in
+    let p = pow-mono {i = k} {j = 64} (omega arith) in
+    rw (t .at b l) (omega (arith, m, p))
+
+pub bucket-small-yet : (rules : List Rule) (table : List ℕ) (k b n : ℕ) → k ≤ n → n ≤ mostRules → Buckets rules k table → b < 64 → getD table b 0 < 2 ^ 64
+bucket-small-yet rules table k b n h few t l = bucket-small rules table k b t (omega arith) l
+
+pub bucket-fits : (rules : List Rule) (table : List ℕ) (j b next n : ℕ) → Buckets rules j table → j < n → n ≤ mostRules → b < 64 → next ≡ withBit (getD table b 0) j
+    → next < 4294967296
+bucket-fits rules table j b next n t h few l q =
+    let m = mask-below (inBucket rules b) j in
+    let p = pow-mono {i = j} {j = 32} (omega arith) in
+    rw (q, t .at b l) (with-below (maskOf (inBucket rules b) j) j 32 (omega (arith, m, p)) (omega arith))
+
+pub buckets-all : (rules : List Rule) (table : List ℕ) (k n : ℕ) → Buckets rules k table → k ≤ n → n ≤ k → Buckets rules n table
+buckets-all rules table k n t a b = let q : k ≡ n = omega arith in rw (← q) t
+
+-- ---- fill_near
+
+pub near-row : (rules : Rules) (buckets : List ℕ) (among i b : ℕ) → i < rules .count → Buckets (rulesOf rules) (rules .count) buckets
+    → b ≡ itemAt rules i .second % 64 → b < 64 → bitAnd (getD buckets b 0) among ≡ maskOf (near among (rulesOf rules) i) (rules .count)
+unfolding near
+near-row rules buckets among i b h t e l =
+    let n = rules .count in
+    let p = inBucket (rulesOf rules) b in
+    rw (t .at b l) (mask-cut p n among ∙ mask-ext _ _ n (λ j k. rw (held-at rules i h, ← e)))
+
+-- ---- may_ring
+
+pub may-ring : (R : ℕ → ℕ → Bool) (n : ℕ) (rows : List ℕ) (b : Bool) → take n rows ≡ rowsOf R n → b ≡ hasRing (related rows) n → b ≡ hasRing R n
+may-ring R n rows b e f = f ∙ table-ring R n rows e
+
+pub may-none : (rules : List Rule) (among n : ℕ) → among ≡ 0 → false ≡ hasRing (near among rules) n
+unfolding near
+may-none rules among n z =
+    sym (untrue (hasRing (near among rules) n) (λ t.
+    let s = plus-first (hasRing-ring (near among rules) n t .1) in
+    clash (bit among (s .0)) (and-left (bit among (s .0)) _ (s .1 .2)) (ap (λ (x : ℕ). bit x (s .0)) z ∙ bit-zero (s .0))))
+
+-- a relation that goes with leading, into the set, has no ring where rules do not seem to lead round
+straight : (rules : List Rule) (among n : ℕ) (b : Bool) (R : ℕ → ℕ → Bool) → b ≡ hasRing (near among rules) n → not b ≡ true
+    → ((i j : ℕ) → i < n → j < n → R i j ≡ true → (bit among j ≡ true) × (leads rules i j ≡ true)) → hasRing R n ≡ false
+unfolding near leads inBucket
+straight rules among n b R e f g =
+    untrue (hasRing R n) (λ t.
+    let r = hasRing-ring R n t in
+    clash (hasRing (near among rules) n) (ring-hasRing (near among rules) n (r .0, plus-map (λ x. x) (λ i j s. (s .0, s .1, seems i j (g i j (s .0) (s .1) (s .2)))) (r .1))) (sym e ∙ not-true b f))
+  where
+    seems : (i j : ℕ) → (bit among j ≡ true) × (eqb (ruleAt rules i .second) (ruleAt rules j .first) ≡ true)
+        → bit among j && eqb (ruleAt rules i .second % 64) (ruleAt rules j .first % 64) ≡ true
+    seems i j s =
+        and-intro (bit among j) _ (s .0)
+        (eq-eqb (ruleAt rules i .second % 64) (ruleAt rules j .first % 64) (ap (λ (x : ℕ). x % 64) (eqb-true (ruleAt rules i .second) (ruleAt rules j .first) (s .1))))
 
 -- ---- meets_at
 
@@ -170,35 +235,125 @@ module _ (rules : Rules) (rows : List ℕ) where
         let q : i ≡ rules .count = omega arith in
         sym (meet-count ∙ (rw q at none))
 
--- ---- equal_ring, mixed_ring
+-- ---- equal_ring
 
--- a table whose first rows are filled agrees with the relation
-filled-agrees : (rules : Rules) (equal : Bool) (rows : List ℕ) → take (rules .count) rows ≡ rowsOf (linked equal (rulesOf rules)) (rules .count)
-    → Agree (rules .count) (related rows) (linked equal (rulesOf rules))
-unfolding related
-filled-agrees rules equal rows e i j hi hj =
-    ap (λ (row : ℕ). bit row j) (sym (getD-take (rules .count) rows i 0 hi) ∙ ap (λ (l : List ℕ). getD l i 0) e)
-    ∙ related-rows (linked equal (rulesOf rules)) (rules .count) i j hi hj
-
-module _ (rules : Rules) (rows reached : List ℕ) (b : Bool) where
-  pub equal-ring : take (rules .count) rows ≡ rowsOf (linked true (rulesOf rules)) (rules .count) → reached ≡ closed (rules .count) rows
-      → b ≡ loops reached (rules .count) → b ≡ hasRing (equalLeads (rulesOf rules)) (rules .count)
-  unfolding links equalLeads has leads
-  equal-ring e q f = f ∙ rw q (loops-closed rows (linked true (rulesOf rules)) (rules .count) (filled-agrees rules true rows e))
-
-  -- the search asks a table about rules that are held only
-  pub mixed-ring : length (rules .items) ≡ mostRules → rules .count ≤ mostRules → take (rules .count) rows ≡ rowsOf (linked false (rulesOf rules)) (rules .count)
-      → reached ≡ closed (rules .count) rows → b ≡ meets (rulesOf rules) reached
-      → b ≡ meets (rulesOf rules) (closed (rules .count) (rowsOf (leads (rulesOf rules)) (rules .count)))
-  unfolding meets reaches leads links
-  mixed-ring all few e q f =
+module _ (rules : Rules) (among : ℕ) (c : among ≡ maskOf (has (rulesOf rules) 0) (rules .count)) where
+  equal-agrees : Agree (rules .count) (linked among (rulesOf rules)) (equalLeads (rulesOf rules))
+  unfolding linked equalLeads
+  equal-agrees i j hi hj =
+      let p = has (rulesOf rules) 0 in
       let n = rules .count in
-      let same = related-closed rows (leads (rulesOf rules)) n (filled-agrees rules false rows e) in
-      f ∙ rw (q, held-length rules all few)
-      (anyBelow-ext _ _ n (λ i hi. ap (λ (b : Bool). has (rulesOf rules) 1 i && b)
-      (anyBelow-ext _ _ n (λ j hj. rw (same i j hi hj, same j i hj hi)))))
+      rw (c, bit-mask p n i, bit-mask p n j, lt-ltb i n hi, lt-ltb j n hj)
 
--- ---- is_cyclic
+  pub equal-ring : (rows : List ℕ) (b : Bool) → take (rules .count) rows ≡ rowsOf (linked among (rulesOf rules)) (rules .count)
+      → b ≡ hasRing (related rows) (rules .count) → b ≡ hasRing (equalLeads (rulesOf rules)) (rules .count)
+  equal-ring rows b e f =
+      let n = rules .count in
+      f ∙ table-ring (linked among (rulesOf rules)) n rows e ∙ hasRing-ext (linked among (rulesOf rules)) (equalLeads (rulesOf rules)) n equal-agrees
+
+-- ---- mixed_ring
+
+-- what two rules that meet are, and that they reach each other
+module _ (rules : List Rule) (rows : List ℕ) where
+  meets-by : meets rules rows ≡ true
+      → (i : ℕ) × (i < length rules) × (has rules 1 i ≡ true) × (j : ℕ) × (j < length rules) × (has rules 2 j ≡ true) × (related rows i j ≡ true) × (related rows j i ≡ true)
+  unfolding meets
+  meets-by t =
+      let (i, hi, e) = anyBelow-true _ (length rules) t in
+      let (j, hj, f) = anyBelow-true _ (length rules) (and-right (has rules 1 i) _ e) in
+      let g = and-left (has rules 2 j && related rows i j) (related rows j i) f in
+      (i, hi, and-left (has rules 1 i) _ e, j, hj, and-left (has rules 2 j) (related rows i j) g, and-right (has rules 2 j) (related rows i j) g, and-right (has rules 2 j && related rows i j) (related rows j i) f)
+
+module _ (rules : Rules) (all : length (rules .items) ≡ mostRules) (few : rules .count ≤ mostRules) where
+  abbrev ends : List ℕ
+  ends = closed (rules .count) (rowsOf (leads (rulesOf rules)) (rules .count))
+
+  none-having : (p mask i : ℕ) → mask ≡ maskOf (has (rulesOf rules) p) (rules .count) → mask ≡ 0 → i < length (rulesOf rules) → has (rulesOf rules) p i ≡ true → ⊥
+  none-having p mask i c z h e =
+      let l : i < rules .count = rw (held-length rules all few) at h in
+      clash (bit mask i) (rw c (member-mask (has (rulesOf rules) p) (rules .count) i l e)) (rw z (bit-zero i))
+
+  no-greater : (mask : ℕ) → mask ≡ maskOf (has (rulesOf rules) 1) (rules .count) → mask ≡ 0 → meets (rulesOf rules) ends ≡ true → ⊥
+  no-greater mask c z t = let m = meets-by (rulesOf rules) ends t in none-having 1 mask (m .0) c z (m .1) (m .2)
+
+  no-less : (mask : ℕ) → mask ≡ maskOf (has (rulesOf rules) 2) (rules .count) → mask ≡ 0 → meets (rulesOf rules) ends ≡ true → ⊥
+  no-less mask c z t = let m = meets-by (rulesOf rules) ends t in none-having 2 mask (m .3) c z (m .4) (m .5)
+
+  -- rules that meet are on a ring
+  meets-ring : meets (rulesOf rules) ends ≡ true → hasRing (leads (rulesOf rules)) (rules .count) ≡ true
+  unfolding reaches
+  meets-ring t =
+      let n = rules .count in
+      let R = leads (rulesOf rules) in
+      let m = meets-by (rulesOf rules) ends t in
+      let hi : m .0 < n = rw (held-length rules all few) at (m .1) in
+      let hj : m .3 < n = rw (held-length rules all few) at (m .4) in
+      ring-hasRing R n (m .0, plus-trans (reaches-plus R n (m .0) (m .3) hi hj (m .6)) (reaches-plus R n (m .3) (m .0) hj hi (m .7)))
+
+  all-agrees : (rows : List ℕ) → take (rules .count) rows ≡ rowsOf (linked everything (rulesOf rules)) (rules .count)
+      → Agree (rules .count) (related rows) (leads (rulesOf rules))
+  unfolding linked
+  all-agrees rows e i j hi hj =
+      table-related (linked everything (rulesOf rules)) (rules .count) rows e i j hi hj
+      ∙ rw (bit-ones 64 i (omega arith), bit-ones 64 j (omega arith))
+
+  module _ (rows : List ℕ) (b : Bool) (e : take (rules .count) rows ≡ rowsOf (linked everything (rulesOf rules)) (rules .count)) where
+    pub mixed-none : b ≡ hasRing (related rows) (rules .count) → not b ≡ true
+        → false ≡ meets (rulesOf rules) (closed (rules .count) (rowsOf (leads (rulesOf rules)) (rules .count)))
+    mixed-none f g =
+        let n = rules .count in
+        let R = leads (rulesOf rules) in
+        sym (untrue (meets (rulesOf rules) ends) (λ t. clash (hasRing R n) (meets-ring t) (sym (hasRing-ext (related rows) R n (all-agrees rows e)) ∙ sym f ∙ not-true b g)))
+
+    -- the search asks a table about rules that are held only
+    pub mixed-ring : (reached : List ℕ) → reached ≡ closed (rules .count) rows → b ≡ meets (rulesOf rules) reached
+        → b ≡ meets (rulesOf rules) (closed (rules .count) (rowsOf (leads (rulesOf rules)) (rules .count)))
+    unfolding meets reaches
+    mixed-ring reached q f =
+        let n = rules .count in
+        let same = related-closed rows (leads (rulesOf rules)) n (all-agrees rows e) in
+        f ∙ rw (q, held-length rules all few)
+        (anyBelow-ext _ _ n (λ i hi. ap (λ (b : Bool). has (rulesOf rules) 1 i && b)
+        (anyBelow-ext _ _ n (λ j hj. rw (same i j hi hj, same j i hj hi)))))
+
+  -- ---- suspects
+
+  pub suspects-all : Suspects (rulesOf rules) (rules .count) everything
+  suspects-all = record { equal = λ i h e. bit-ones 64 i (omega arith); mixed = λ t. refl }
+
+  module _ (equals mask : ℕ) (c : equals ≡ maskOf (has (rulesOf rules) 0) (rules .count)) (z : mask ≡ 0) where
+    pub suspects-no-greater : mask ≡ maskOf (has (rulesOf rules) 1) (rules .count) → Suspects (rulesOf rules) (rules .count) equals
+    suspects-no-greater d = record {
+      equal = λ i h e. rw c (member-mask (has (rulesOf rules) 0) (rules .count) i h e);
+      mixed = λ t. absurd (no-greater mask d z t);
+    }
+
+    pub suspects-no-less : mask ≡ maskOf (has (rulesOf rules) 2) (rules .count) → Suspects (rulesOf rules) (rules .count) equals
+    suspects-no-less d = record {
+      equal = λ i h e. rw c (member-mask (has (rulesOf rules) 0) (rules .count) i h e);
+      mixed = λ t. absurd (no-less mask d z t);
+    }
+
+  -- ---- is_cyclic
+
+  module _ (among : ℕ) (s : Suspects (rulesOf rules) (rules .count) among) (b : Bool) where
+    cyclic-by : hasRing (equalLeads (rulesOf rules)) (rules .count) ≡ false → meets (rulesOf rules) ends ≡ false → false ≡ cyclic (rulesOf rules)
+    unfolding cyclic
+    cyclic-by e f = rw (held-length rules all few, e, f)
+
+    pub cyclic-straight : b ≡ hasRing (near among (rulesOf rules)) (rules .count) → not b ≡ true → false ≡ cyclic (rulesOf rules)
+    unfolding equalLeads
+    cyclic-straight e f =
+        let n = rules .count in
+        let rs = rulesOf rules in
+        cyclic-by
+        (straight rs among n b (equalLeads rs) e f (λ i j hi hj t.
+        let front = and-left (has rs 0 i && has rs 0 j) (leads rs i j) t in
+        (s .equal j hj (and-right (has rs 0 i) (has rs 0 j) front), and-right (has rs 0 i && has rs 0 j) (leads rs i j) t)))
+        (untrue (meets rs ends) (λ t. clash (hasRing (leads rs) n) (meets-ring t) (straight rs among n b (leads rs) e f (λ i j hi hj l. (rw (s .mixed t) (bit-ones 64 j (omega arith)), l)))))
+
+    pub cyclic-plain : b ≡ hasRing (equalLeads (rulesOf rules)) (rules .count) → b ≡ false → (among ≡ everything → ⊥) → false ≡ cyclic (rulesOf rules)
+    cyclic-plain e f d = cyclic-by (sym e ∙ f) (untrue (meets (rulesOf rules) ends) (λ t. d (s .mixed t)))
 
 module _ (rules : Rules) (b : Bool) where
   pub cyclic-equal : length (rules .items) ≡ mostRules → rules .count ≤ mostRules → b ≡ hasRing (equalLeads (rulesOf rules)) (rules .count) → b ≡ true
@@ -211,4 +366,4 @@ module _ (rules : Rules) (b : Bool) where
   unfolding cyclic
   cyclic-mixed d all few e n f = rw (held-length rules all few, ← e, n) f
 
-pub ruleset steps = (needs, length-mapped, links-apart, links-any, links-other, links-equal, link-yes, link-no, row-begun, row-more, row-done, fill-begun, fill-more, fill-done, at-other, at-both, at-none, none-begun, from-other, from-more, from-found, from-done, meet-more, meet-found, meet-done, equal-ring, mixed-ring, cyclic-equal, cyclic-mixed)
+pub ruleset steps = (needs, length-mapped, blank-made, mask-begun, mask-all, having-more, starting-more, row-out, row-in, fill-begun, fill-more, fill-done, buckets-none, buckets-more, bucket-small, bucket-small-yet, bucket-fits, buckets-all, near-row, may-ring, may-none, at-other, at-both, at-none, none-begun, from-other, from-more, from-found, from-done, meet-more, meet-found, meet-done, equal-ring, mixed-none, mixed-ring, suspects-all, suspects-no-greater, suspects-no-less, cyclic-straight, cyclic-equal, cyclic-plain, cyclic-mixed)

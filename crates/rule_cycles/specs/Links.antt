@@ -1,22 +1,44 @@
 -- What the parts of the search for a ring compute.
-use Prim.Native.Nat.{ℕ}
-use mathlib.Core.Bool.{Bool, true, false, _&&_}
+use Prim.Native.Nat.{ℕ, _%_, _<_}
+use mathlib.Core.Path.{_≡_}
+use mathlib.Core.Bool.{Bool, true, _&&_}
 use mathlib.Core.List.{List}
 use lib.Dec.{eqb}
-use lib.ListN.{length}
+use lib.ListN.{length, getD}
+use Rattle.relation.specs.Bits.{bit, maskOf}
 use Rattle.relation.specs.Lists.{anyBelow}
-use Rattle.relation.specs.Finite.{related}
+use Rattle.relation.specs.Finite.{related, rowsOf, closed}
 use Rattle.model.specs.declared.Rule.{Rule}
-use Rattle.model.specs.Cyclic.{ruleAt, has}
+use Rattle.model.specs.Cyclic.{ruleAt, leads, has, meets}
 
--- rule a leads to rule b; where so asked, both are = rules
-unfoldable pub links : Bool → Rule → Rule → Bool
-links true a b = eqb (a .predicate) 0 && eqb (b .predicate) 0 && eqb (a .second) (b .first)
-links false a b = eqb (a .second) (b .first)
+-- rule j has a name as its first
+unfoldable pub starts : List Rule → ℕ → ℕ → Bool
+starts rules name j = eqb name (ruleAt rules j .first)
 
--- the same by the numbers of the rules
-abbrev pub linked : Bool → List Rule → ℕ → ℕ → Bool
-linked equal rules i j = links equal (ruleAt rules i) (ruleAt rules j)
+-- rule i leads to rule j, and both are in a set
+unfoldable pub linked : ℕ → List Rule → ℕ → ℕ → Bool
+linked among rules i j = bit among i && bit among j && leads rules i j
+
+-- rule j's first name has the lowest six bits b
+unfoldable pub inBucket : List Rule → ℕ → ℕ → Bool
+inBucket rules b j = eqb b (ruleAt rules j .first % 64)
+
+-- a table has for each b the ones of the first k rules
+pub record Buckets (rules : List Rule) (k : ℕ) (table : List ℕ) : Type 0 where
+  pub at : (b : ℕ) → b < 64 → getD table b 0 ≡ maskOf (inBucket rules b) k
+
+-- rule i may lead to rule j, by the lowest six bits of the names, and rule j is in a set
+unfoldable pub near : ℕ → List Rule → ℕ → ℕ → Bool
+near among rules i j = bit among j && inBucket rules (ruleAt rules i .second % 64) j
+
+-- all numbers below 64, and so all rules
+abbrev pub everything : ℕ
+everything = 18446744073709551615
+
+-- a set has the rules that a ring can be made of: the = rules, and all where a > and a < rule reach each other
+pub record Suspects (rules : List Rule) (n set : ℕ) : Type 0 where
+  pub equal : (i : ℕ) → i < n → has rules 0 i ≡ true → bit set i ≡ true
+  pub mixed : meets rules (closed n (rowsOf (leads rules) n)) ≡ true → set ≡ everything
 
 -- r is a < rule, and in a table of who reaches whom i and j reach each other
 unfoldable pub meetsBy : Rule → List ℕ → ℕ → ℕ → Bool

@@ -2,67 +2,117 @@
 use model::Rule;
 use rule_match::Rules;
 ghost use mathlib.Core.Path.{_≡_};
-ghost use mathlib.Core.Bool.{cond};
-ghost use Prim.Native.Nat.{_<_, _≤_};
+ghost use Prim.Native.Nat.{_%_, _<_, _≤_};
 ghost use lib.ListN.{length, take};
-ghost use Rattle.relation.specs.Bits.{withBit, maskOf};
+ghost use Rattle.relation.specs.Bits.{maskOf};
+ghost use Rattle.relation.specs.Tables.{Blank};
 ghost use Rattle.relation.specs.Finite.{rowsOf, closed, hasRing};
 ghost use Rattle.model.specs.Limits.{mostRules};
-ghost use Rattle.model.specs.Cyclic.{leads, equalLeads, meets, cyclic};
+ghost use Rattle.model.specs.Cyclic.{leads, has, equalLeads, meets, cyclic};
 ghost use Rattle.rule_match.specs.Held.{rulesOf};
-ghost use Rattle.rule_cycles.specs.Links.{links, linked, meetsBy, meetsFrom};
+ghost use Rattle.rule_cycles.specs.Links.{starts, linked, Buckets, near, Suspects, meetsBy, meetsFrom};
 
-// Whether rule a leads to rule b; of = rules only, where so asked.
-fn leads_to(a: Rule, b: Rule, equal: bool) -> bool
-    ensures { λ r. ⌜ r ≡ links equal a b ⌝ }
-{
-    if a.second != b.first {
-        return false;
-    }
-    if !equal {
-        return true;
-    }
-    if a.predicate != 0 {
-        return false;
-    }
-    b.predicate == 0
-}
+// All numbers below 64, and so all rules.
+const ALL: u64 = 18446744073709551615;
 
-// mask, with bit j set where rule a leads to rule b.
-fn with_link(mask: u64, j: usize, a: Rule, b: Rule, equal: bool) -> u64
-    requires { ⌜ j < 64 ⌝ }
-    ensures { λ r. ⌜ r ≡ cond (links equal a b) (withBit mask j) mask ⌝ }
+// The rules with a predicate.
+fn having(rules: Rules, predicate: u8) -> u64
+    requires { ⌜ rules .count ≤ mostRules ⌝ }
+    ensures { λ r. ⌜ r ≡ maskOf (has (rulesOf rules) predicate) (rules .count) ⌝ }
 {
-    if leads_to(a, b, equal) {
-        return relation::with_bit(mask, j);
+    let mut mask: u64 = 0;
+    let mut i: usize = 0;
+    while i < rules.count {
+        mask = relation::with_if(mask, i, rules.items[i].predicate == predicate);
+        i += 1;
     }
     mask
 }
 
-// The rules that rule i leads to.
-fn row(rules: Rules, i: usize, equal: bool) -> u64
-    requires { ⌜ (rules .count ≤ mostRules) × (i < rules .count) ⌝ }
-    ensures { λ r. ⌜ r ≡ maskOf (linked equal (rulesOf rules) i) (rules .count) ⌝ }
+// The rules whose first name is a name.
+fn starting(rules: Rules, name: u8) -> u64
+    requires { ⌜ rules .count ≤ mostRules ⌝ }
+    ensures { λ r. ⌜ r ≡ maskOf (starts (rulesOf rules) name) (rules .count) ⌝ }
 {
     let mut mask: u64 = 0;
     let mut j: usize = 0;
     while j < rules.count {
-        mask = with_link(mask, j, rules.items[i], rules.items[j], equal);
+        mask = relation::with_if(mask, j, name == rules.items[j].first);
         j += 1;
     }
     mask
 }
 
-// The table of which rule leads to which.
-fn fill(rows: &mut [u64], rules: Rules, equal: bool)
+// The rules of a set that rule i leads to, where it is in the set too.
+fn row(rules: Rules, i: usize, among: u64) -> u64
+    requires { ⌜ (rules .count ≤ mostRules) × (i < rules .count) ⌝ }
+    ensures { λ r. ⌜ r ≡ maskOf (linked among (rulesOf rules) i) (rules .count) ⌝ }
+{
+    if !relation::has_bit(among, i) {
+        return 0;
+    }
+    starting(rules, rules.items[i].second) & among
+}
+
+// The table of which rule of a set leads to which.
+fn fill(rows: &mut [u64], rules: Rules, among: u64)
     requires { ⌜ (rules .count ≤ mostRules) × (length (now rows) ≡ 64) ⌝ }
-    ensures { λ _. ⌜ take (rules .count) (now (rows .exit)) ≡ rowsOf (linked equal (rulesOf rules)) (rules .count) ⌝ }
+    ensures { λ _. ⌜ take (rules .count) (now (rows .exit)) ≡ rowsOf (linked among (rulesOf rules)) (rules .count) ⌝ }
 {
     let mut i: usize = 0;
     while i < rules.count {
-        rows[i] = row(rules, i, equal);
+        rows[i] = row(rules, i, among);
         i += 1;
     }
+}
+
+// The lowest six bits of a name.
+fn bucket(name: u8) -> usize
+    ensures { λ r. ⌜ (r ≡ name % 64) × (r < 64) ⌝ }
+{
+    name as usize % 64
+}
+
+// The rules by the lowest six bits of their first names.
+fn fill_buckets(buckets: &mut [u32], rules: Rules)
+    requires { ⌜ (rules .count ≤ mostRules) × ((length (now buckets) ≡ 64) × Blank 64 (now buckets)) ⌝ }
+    ensures { λ _. ⌜ Buckets (rulesOf rules) (rules .count) (now (buckets .exit)) ⌝ }
+{
+    let mut j: usize = 0;
+    while j < rules.count {
+        let b = bucket(rules.items[j].first);
+        buckets[b] = relation::with_bit(buckets[b] as u64, j) as u32;
+        j += 1;
+    }
+}
+
+// The table of which rule may lead to which of a set, by buckets.
+fn fill_near(rows: &mut [u64], buckets: &[u32], rules: Rules, among: u64)
+    requires { ⌜ ((rules .count ≤ mostRules) × (length (now rows) ≡ 64)) × ((length (now buckets) ≡ 64) × Buckets (rulesOf rules) (rules .count) (now buckets)) ⌝ }
+    ensures { λ _. ⌜ take (rules .count) (now (rows .exit)) ≡ rowsOf (near among (rulesOf rules)) (rules .count) ⌝ }
+{
+    let mut i: usize = 0;
+    while i < rules.count {
+        rows[i] = buckets[bucket(rules.items[i].second)] as u64 & among;
+        i += 1;
+    }
+}
+
+// Whether rules of a set may lead round. Told in one pass over the rules and one over the table; where it is
+// so, the names themselves have to be compared, each with each.
+fn may_ring(rules: Rules, among: u64) -> bool
+    requires { ⌜ rules .count ≤ mostRules ⌝ }
+    ensures { λ r. ⌜ r ≡ hasRing (near among (rulesOf rules)) (rules .count) ⌝ }
+{
+    if among == 0 {
+        return false;
+    }
+    let mut buckets = [0u32; 64];
+    fill_buckets(&mut buckets, rules);
+    let mut rows = [0u64; 64];
+    let n = rules.count;
+    fill_near(&mut rows, &buckets, rules, among);
+    relation::has_ring(&rows, n)
 }
 
 // Whether rule is a < rule, and i and j reach each other.
@@ -112,37 +162,62 @@ fn rules_meet(rows: &[u64; 64], rules: Rules) -> bool
     false
 }
 
+// The rules that a ring can be made of: the = rules, and all where there are both > and < rules.
+fn suspects(rules: Rules) -> u64
+    requires { ⌜ rules .count ≤ mostRules ⌝ }
+    ensures { λ r. ⌜ Suspects (rulesOf rules) (rules .count) r ⌝ }
+{
+    let equals = having(rules, 0);
+    if having(rules, 1) == 0 {
+        return equals;
+    }
+    if having(rules, 2) == 0 {
+        return equals;
+    }
+    ALL
+}
+
 // Whether = rules lead round.
 fn equal_ring(rules: Rules) -> bool
     requires { ⌜ rules .count ≤ mostRules ⌝ }
     ensures { λ r. ⌜ r ≡ hasRing (equalLeads (rulesOf rules)) (rules .count) ⌝ }
 {
+    let among = having(rules, 0);
     let mut rows = [0u64; 64];
     let n = rules.count;
-    fill(&mut rows, rules, true);
-    relation::close(&mut rows, n);
-    relation::has_loop(&rows, n)
+    fill(&mut rows, rules, among);
+    relation::has_ring(&rows, n)
 }
 
-// Whether rules lead round by way of a > and a < rule.
+// Whether rules lead round by way of a > and a < rule. Where nothing leads round, nothing is closed.
 fn mixed_ring(rules: Rules) -> bool
     requires { ⌜ rules .count ≤ mostRules ⌝ }
     ensures { λ r. ⌜ r ≡ meets (rulesOf rules) (closed (rules .count) (rowsOf (leads (rulesOf rules)) (rules .count))) ⌝ }
 {
     let mut rows = [0u64; 64];
     let n = rules.count;
-    fill(&mut rows, rules, false);
+    fill(&mut rows, rules, ALL);
+    if !relation::has_ring(&rows, n) {
+        return false;
+    }
     relation::close(&mut rows, n);
     rules_meet(&rows, rules)
 }
 
-// Whether the rules are cyclic.
+// Whether the rules are cyclic. Most sets are told by their names' lowest bits.
 pub fn is_cyclic(rules: Rules) -> bool
     requires { ⌜ rules .count ≤ mostRules ⌝ }
     ensures { λ r. ⌜ r ≡ cyclic (rulesOf rules) ⌝ }
 {
+    let among = suspects(rules);
+    if !may_ring(rules, among) {
+        return false;
+    }
     if equal_ring(rules) {
         return true;
+    }
+    if among != ALL {
+        return false;
     }
     mixed_ring(rules)
 }

@@ -35,16 +35,18 @@ use Rattle.rule_cyclelaws.proofs.CyclicLaws.{cyclic-true}
 use Rattle.log_get.specs.Puts.{Put, writesOf, putWrites, afterAll, logTest, start as startLog, after as afterPut}
 use Rattle.log_get.specs.Get.{keyed, getFrom, getOf, valueCode}
 use Rattle.model.specs.Needs.{needs, needsRing, met, readyFrom, ready, late}
-use Rattle.cache_model.specs.State.{ruleIn, writeIn, rulesIn, writesIn, storedIn, rulesBytes, opened, entryBytes, handed, marked, storedOn}
-use Rattle.cache_model.specs.Sound.{Sound, zeros, layout, sound}
+use Rattle.cache_model.specs.Entries.{entry, accepted, flagAt, flagCount, waitingIn, appended, flagging}
+use Rattle.cache_model.specs.State.{ruleIn, writeIn, rulesIn, writesIn, storedIn, entriesIn, bytesEach, entryBytes, front, back, stateOf, opened, handed, marked, storedOn}
+use Rattle.cache_model.specs.Sound.{Sound, same, layout, ruled, needsHold, sound}
 use Rattle.cache_model.specs.Calls.{openWith, openOf, given, handInOf, storing, checked, stepped, stepOf, stepsOf, drained, drainOf}
-use Rattle.run_laws.specs.Book.{Book, accepted, flagAt, flagging, entry, waitingIn, appended, stepEntered, stepsEntered, entered, noted, Begins}
-use Rattle.run_laws.specs.Run.{Call, opening, handIn, step, drain, get, Lent, own, other, Moment, OpensNone, Listed, valued, called, ownAfter, isRefused, next, steps, moments}
+use Rattle.run_laws.specs.Book.{Book, opening, handIn, step, drain, get, stepEntered, stepsEntered, entered, noted, Begins}
+use Rattle.run_laws.specs.Run.{Call, call, onOwn, Lent, own, other, ListedAs, Listed, valued, calledBy, called, ownAfter, isRefused, Moment, next, after, countedAs, counted, passed, inner, moments}
 use Rattle.run_laws.specs.Theorem.{Safe, NoneBeyond, begun, Demand3}
+use Rattle.cache_statelaws.proofs.SoundLaws.{sound-clauses}
 use Rattle.cache_soundlaws.proofs.KeepLaws.{length-stored}
 use Rattle.run_laws.proofs.DiskLaws.{blocks-stored}
 use Rattle.run_laws.proofs.CallLaws.{widths}
-use Rattle.run_laws.proofs.MomentLaws.{after, cut-inside, cut-after}
+use Rattle.run_laws.proofs.MomentLaws.{passed-after, cut-inside, cut-after}
 use Rattle.run_laws.proofs.RunLaws.{demand3, steps-after}
 
 -- ---- a run: what the claim asks of it, and what it computes
@@ -85,7 +87,7 @@ safe {bytes} {rules} {disk} {calls} r = demand3 bytes blank disk (file rules [])
 
 -- what the calls give
 unfoldable pub gave : List Rule → List Call → Moment → List (Outcome ℕ)
-unfolding next called ownAfter isRefused noted entered appended stepEntered stepsEntered waitingIn flagging flagAt opened rulesBytes ruleBytes openOf openWith handInOf stepOf stepped drainOf drained stepsOf checked storing late sound layout zeros known cyclic meets equalLeads has leads noRule hasRing loops closed round joined rowsOf related countBelow met needs needsRing readyFrom ready rulesIn writesIn storedIn ruleIn writeIn handed marked storedOn entryBytes writeBytes block valued getOf damaged getFrom keyed valueCode blockIn empty firstOf secondOf isTag isCheck bodyLength ruleOf writeOf countsOf outOfOrder overTest overLimit ruleFault bodyFault faultOf grown finished readFrom nothing readOf half word noWrite dependsOn matches stands bit withBit maskOf allBelow anyBelow any all tabulate blank
+unfolding next called calledBy ownAfter isRefused noted entered appended stepEntered stepsEntered waitingIn flagging flagAt opened bytesEach ruleBytes openOf openWith handInOf stepOf stepped drainOf drained stepsOf checked storing late sound ruled needsHold layout same stateOf front back entriesIn flagCount known cyclic meets equalLeads has leads noRule hasRing loops closed round joined rowsOf related countBelow met needs needsRing readyFrom ready rulesIn writesIn storedIn ruleIn writeIn handed marked storedOn entryBytes writeBytes block valued getOf damaged getFrom keyed valueCode blockIn empty firstOf secondOf isTag isCheck bodyLength ruleOf writeOf countsOf outOfOrder overTest overLimit ruleFault bodyFault faultOf grown finished readFrom nothing readOf half word noWrite dependsOn matches stands bit withBit maskOf allBelow anyBelow any all tabulate blank
 gave rules [] m = []
 gave rules (c ∷ cs) m = called c (m .held) .outcome ∷ gave rules cs (next rules c m)
 
@@ -117,45 +119,45 @@ abbrev pub superblock4 : Write
 superblock4 = given 0 2 4 1 6
 
 hand-in : (address name epoch first second : ℕ) → address < 256 → name < 256 → epoch < 4294967296 → first < 65536 → second < 65536
-    → Listed (handIn (given address name epoch first second) own)
-unfolding Listed
-hand-in address name epoch first second a n e f s = (widths address name epoch first second a n e f s, inl (tt, tt))
+    → Listed (onOwn (handIn (given address name epoch first second)))
+unfolding ListedAs
+hand-in address name epoch first second a n e f s = (widths address name epoch first second a n e f s, inl refl)
 
-log1-listed : Listed (handIn log1 own)
+log1-listed : Listed (onOwn (handIn log1))
 log1-listed = hand-in 2 1 1 1 81 (omega arith) (omega arith) (omega arith) (omega arith) (omega arith)
 
-superblock1-listed : Listed (handIn superblock1 own)
+superblock1-listed : Listed (onOwn (handIn superblock1))
 superblock1-listed = hand-in 0 2 1 1 3 (omega arith) (omega arith) (omega arith) (omega arith) (omega arith)
 
-log2-listed : Listed (handIn log2 own)
+log2-listed : Listed (onOwn (handIn log2))
 log2-listed = hand-in 3 1 2 2 37 (omega arith) (omega arith) (omega arith) (omega arith) (omega arith)
 
-superblock2-listed : Listed (handIn superblock2 own)
+superblock2-listed : Listed (onOwn (handIn superblock2))
 superblock2-listed = hand-in 0 2 2 1 4 (omega arith) (omega arith) (omega arith) (omega arith) (omega arith)
 
-log3-listed : Listed (handIn log3 own)
+log3-listed : Listed (onOwn (handIn log3))
 log3-listed = hand-in 4 1 3 3 5 (omega arith) (omega arith) (omega arith) (omega arith) (omega arith)
 
-pub step-listed : Listed (step own own)
-unfolding Listed
-step-listed = inl (tt, tt)
+pub step-listed : Listed (onOwn step)
+unfolding ListedAs
+step-listed = inl refl
 
-pub drain-listed : Listed (drain own own)
-unfolding Listed
-drain-listed = inl (tt, tt)
+pub drain-listed : Listed (onOwn drain)
+unfolding ListedAs
+drain-listed = inl refl
 
 -- a step that is lent no disk
-pub other-length : Listed (step own (other []))
-unfolding Listed
+pub other-length : Listed (call step own (other []))
+unfolding ListedAs
 other-length = inr (inl (inr (λ e. omega arith)))
 
 -- a drain that is lent an unsound state
 pub ones : List ℕ
 ones = replicate 1024 1
 
-pub unsound-state : Listed (drain (other ones) own)
-unfolding Listed ones
-unsound-state = inr (inr (λ (s : Sound ones). let e : _≡_ {A = ℕ} 1 0 = s .third in omega arith))
+pub unsound-state : Listed (call drain (other ones) own)
+unfolding ListedAs ones
+unsound-state = inr (inr (λ (s : Sound ones). let e : _≡_ {A = ℕ} 1 0 = sound-clauses ones s .third in omega arith))
 
 -- openings: of a file of one byte, of a file with a test, of the rule (1,=,1), and of a file that opens a cache, lent no state
 pub oneByte : List ℕ
@@ -170,25 +172,25 @@ cyclicRule = 3 ∷ 0 ∷ 3 ∷ 1 ∷ 0 ∷ 1 ∷ []
 pub logBytes : List ℕ
 logBytes = 3 ∷ 0 ∷ 3 ∷ 2 ∷ 0 ∷ 1 ∷ 3 ∷ 0 ∷ 3 ∷ 2 ∷ 1 ∷ 2 ∷ []
 
-pub unread-opening : Listed (opening oneByte own)
-unfolding Listed OpensNone oneByte gave
-unread-opening = inr tt
+pub unread-opening : Listed (onOwn (opening oneByte))
+unfolding ListedAs oneByte gave
+unread-opening = inr (inl (1, 0, refl))
 
-pub opening-with-test : Listed (opening withTest own)
-unfolding Listed OpensNone withTest gave
-opening-with-test = inr (inl (omega arith))
+pub opening-with-test : Listed (onOwn (opening withTest))
+unfolding ListedAs withTest gave
+opening-with-test = inr (inr (inl (_, refl, omega arith)))
 
-pub cyclic-opening : Listed (opening cyclicRule own)
-unfolding Listed OpensNone cyclicRule gave
-cyclic-opening = inr (inr (cyclic-true _ (holding-limits cyclicRule _ refl .0 .known) refl))
+pub cyclic-opening : Listed (onOwn (opening cyclicRule))
+unfolding ListedAs cyclicRule gave
+cyclic-opening = inr (inr (inr (_, refl, cyclic-true _ (holding-limits cyclicRule _ refl .0 .known) refl)))
 
-pub other-length-opening : Listed (opening logBytes (other []))
-unfolding Listed
+pub other-length-opening : Listed (call (opening logBytes) (other []) own)
+unfolding ListedAs
 other-length-opening = inl (inl (λ e. omega arith))
 
 -- gets: of any disk
-pub get-listed : (key : ℕ) (d : Lent) → Listed (get key d)
-unfolding Listed
+pub get-listed : (key : ℕ) (d : Lent) → Listed (call (get key) own d)
+unfolding ListedAs
 get-listed key d = tt
 
 -- (1,257): the log goes past the disk
@@ -276,8 +278,8 @@ holds-longer = count-holds rules longer refl
 -- find nothing before the drain, and the second put's value after it; of other disks they are refused
 pub handing : List Call
 handing =
-    opening oneByte own ∷ handIn log1 own ∷ opening withTest own ∷ opening cyclicRule own ∷ step own (other []) ∷ handIn superblock1 own
-    ∷ opening logBytes (other []) ∷ drain (other ones) own ∷ get 2 own ∷ handIn log2 own ∷ handIn superblock2 own ∷ handIn log3 own ∷ []
+    onOwn (opening oneByte) ∷ onOwn (handIn log1) ∷ onOwn (opening withTest) ∷ onOwn (opening cyclicRule) ∷ call step own (other []) ∷ onOwn (handIn superblock1)
+    ∷ call (opening logBytes) (other []) own ∷ call drain (other ones) own ∷ onOwn (get 2) ∷ onOwn (handIn log2) ∷ onOwn (handIn superblock2) ∷ onOwn (handIn log3) ∷ []
 
 handing-listed : Each handing
 unfolding handing
@@ -286,7 +288,7 @@ handing-listed =
     also unsound-state also get-listed 2 own also log2-listed also superblock2-listed also log3-listed also none
 
 pub calls : List Call
-calls = handing ++ (drain own own ∷ get 2 own ∷ get 2 (other []) ∷ get 2 (other pastDisk) ∷ step own own ∷ [])
+calls = handing ++ (onOwn drain ∷ onOwn (get 2) ∷ call (get 2) own (other []) ∷ call (get 2) own (other pastDisk) ∷ onOwn step ∷ [])
 
 pub run-K : Run logBytes rules disk calls
 unfolding disk calls
@@ -309,7 +311,7 @@ pub handed-in : Moment
 handed-in = after rules handing (start logBytes disk)
 
 pub cut : Moment
-cut = steps rules 4 handed-in
+cut = after rules (replicate 4 (onOwn step)) handed-in
 
 pub book : Book
 book = entry log1 true ∷ entry superblock1 true ∷ entry log2 true ∷ entry superblock2 true ∷ entry log3 false ∷ []
@@ -326,9 +328,17 @@ pub cut-book : cut .book ≡ book
 unfolding cut handed-in book rules gave
 cut-book = steps-after logBytes blank disk (file rules []) handing log-read (log-opens disk) (unfold disk in refl) handing-listed 4 ∙ ap (stepsEntered rules 4) handed-book
 
+-- the drain counts as five steps
+pub counted-drain : counted rules (onOwn drain) handed-in ≡ replicate 5 (onOwn step)
+unfolding countedAs
+counted-drain = ap (λ (n : ℕ). replicate n (onOwn step)) five-wait
+
 pub cut-inside-drain : List·Memᴰ cut (moments rules calls (start logBytes disk))
 unfolding cut handed-in calls
-cut-inside-drain = cut-inside rules handing _ 4 (start logBytes disk) (rw five-wait (omega arith))
+cut-inside-drain = cut-inside rules handing _ (onOwn drain) (start logBytes disk) _ inside
+  where
+    inside : List·Memᴰ (after rules (replicate 4 (onOwn step)) handed-in) (inner rules (onOwn drain) handed-in)
+    inside = unfold inner in rw counted-drain (passed-after rules (replicate 4 (onOwn step)) (onOwn step ∷ []) handed-in)
 
 begins : Begins (accepted book) (longer .main)
 unfolding Begins book longer logTest writesOf putWrites afterAll afterPut startLog block
@@ -363,7 +373,7 @@ consistent-K =
 
 -- refused while block 0 has a head past its tail, and not once a superblock is stored; refused too on another disk, whose log goes past its end
 pub damagedFirst : List Call
-damagedFirst = get 1 own ∷ get 1 (other pastDisk) ∷ handIn superblock1 own ∷ get 1 own ∷ step own own ∷ get 1 own ∷ []
+damagedFirst = onOwn (get 1) ∷ call (get 1) own (other pastDisk) ∷ onOwn (handIn superblock1) ∷ onOwn (get 1) ∷ onOwn step ∷ onOwn (get 1) ∷ []
 
 pub run-damaged : Run logBytes rules reversedDisk damagedFirst
 unfolding reversedDisk damagedFirst
@@ -383,7 +393,7 @@ gave-damaged = ap (λ (s : List ℕ). gave rules damagedFirst (begun s reversedD
 
 -- the superblock stored before its log block is handed in
 pub tooLate : List Call
-tooLate = handIn superblock1 own ∷ step own own ∷ handIn log1 own ∷ []
+tooLate = onOwn (handIn superblock1) ∷ onOwn step ∷ onOwn (handIn log1) ∷ []
 
 pub run-K8 : Run logBytes rules disk tooLate
 unfolding disk tooLate
@@ -399,11 +409,11 @@ swapped = test (longer .initial) (superblock1 ∷ log1 ∷ []) (Range 0 ∷ [])
 
 -- the moment after the step
 pub stored-K8 : Moment
-stored-K8 = after rules (handIn superblock1 own ∷ step own own ∷ []) (start logBytes disk)
+stored-K8 = after rules (onOwn (handIn superblock1) ∷ onOwn step ∷ []) (start logBytes disk)
 
 pub cut-K8 : List·Memᴰ stored-K8 (moments rules tooLate (start logBytes disk))
 unfolding stored-K8 tooLate
-cut-K8 = cut-after rules (handIn superblock1 own ∷ step own own ∷ []) (handIn log1 own ∷ []) (start logBytes disk)
+cut-K8 = cut-after rules (onOwn (handIn superblock1) ∷ onOwn step ∷ []) (onOwn (handIn log1) ∷ []) (start logBytes disk)
 
 -- every hypothesis for a consistent disk is met there but the last, and the disk is not consistent
 pub record Inconsistent (rules : List Rule) (disk : List ℕ) (t : Test) (m : Moment) : Type 0 where
@@ -415,11 +425,11 @@ pub record Inconsistent (rules : List Rule) (disk : List ℕ) (t : Test) (m : Mo
 
 K8-book : stored-K8 .book ≡ entry superblock1 true ∷ []
 unfolding stored-K8 after gave rules disk
-K8-book = ap (λ (s : List ℕ). after rules (handIn superblock1 own ∷ step own own ∷ []) (begun s disk) .book) (log-state disk)
+K8-book = ap (λ (s : List ℕ). after rules (onOwn (handIn superblock1) ∷ onOwn step ∷ []) (begun s disk) .book) (log-state disk)
 
 K8-disk : consistent (swapped .checks) (blocksOf (stored-K8 .held .disk)) ≡ false
 unfolding stored-K8 swapped after gave bads rules disk blocksOf
-K8-disk = ap (λ (s : List ℕ). consistent (swapped .checks) (blocksOf (after rules (handIn superblock1 own ∷ step own own ∷ []) (begun s disk) .held .disk))) (log-state disk)
+K8-disk = ap (λ (s : List ℕ). consistent (swapped .checks) (blocksOf (after rules (onOwn (handIn superblock1) ∷ onOwn step ∷ []) (begun s disk) .held .disk))) (log-state disk)
 
 swapped-holds : TestHolds rules swapped
 unfolding rules swapped longer logTest writesOf putWrites afterAll afterPut startLog block bads
@@ -442,7 +452,7 @@ inconsistent-K8 =
 
 -- both handed in before a step
 pub inTime : List Call
-inTime = handIn superblock1 own ∷ handIn log1 own ∷ step own own ∷ []
+inTime = onOwn (handIn superblock1) ∷ onOwn (handIn log1) ∷ onOwn step ∷ []
 
 pub run-K9 : Run logBytes rules blank inTime
 unfolding blank inTime
@@ -452,6 +462,34 @@ pub K9 : gave rules inTime (start logBytes blank) ≡ answer 1 ∷ answer 2 ∷ 
 unfolding gave rules inTime
 K9 = ap (λ (s : List ℕ). gave rules inTime (begun s blank)) (log-state blank)
 
+-- .. and drained: the drain counts as two steps, and between them the log block is stored and the superblock waits
+pub drainedInTime : List Call
+drainedInTime = onOwn (handIn superblock1) ∷ onOwn (handIn log1) ∷ onOwn drain ∷ []
+
+pub run-K9-drained : Run logBytes rules blank drainedInTime
+unfolding blank drainedInTime
+run-K9-drained = record { reads = log-read; opens = log-opens blank; size = refl; listed = superblock1-listed also log1-listed also drain-listed also none }
+
+pub both : Moment
+both = after rules (onOwn (handIn superblock1) ∷ onOwn (handIn log1) ∷ []) (start logBytes blank)
+
+pub between-K9 : Moment
+between-K9 = after rules (onOwn step ∷ []) both
+
+pub counted-K9 : counted rules (onOwn drain) both ≡ onOwn step ∷ onOwn step ∷ []
+unfolding both countedAs after gave rules
+counted-K9 = ap (λ (s : List ℕ). counted rules (onOwn drain) (after rules (onOwn (handIn superblock1) ∷ onOwn (handIn log1) ∷ []) (begun s blank))) (log-state blank)
+
+pub cut-K9 : List·Memᴰ between-K9 (moments rules drainedInTime (start logBytes blank))
+unfolding between-K9 both drainedInTime inner
+cut-K9 =
+    cut-inside rules (onOwn (handIn superblock1) ∷ onOwn (handIn log1) ∷ []) [] (onOwn drain) (start logBytes blank) _
+    (subst (λ (cs : List Call). List·Memᴰ between-K9 (passed rules cs both)) (sym counted-K9) (passed-after rules (onOwn step ∷ []) (onOwn step ∷ []) both))
+
+pub between-book : between-K9 .book ≡ entry superblock1 false ∷ entry log1 true ∷ []
+unfolding between-K9 both after gave rules
+between-book = ap (λ (s : List ℕ). after rules (onOwn (handIn superblock1) ∷ onOwn (handIn log1) ∷ onOwn step ∷ []) (begun s blank) .book) (log-state blank)
+
 -- the rule (1,<,1)
 pub downBytes : List ℕ
 downBytes = 3 ∷ 0 ∷ 3 ∷ 1 ∷ 2 ∷ 1 ∷ []
@@ -460,7 +498,7 @@ pub downRules : List Rule
 downRules = record { first = 1; predicate = 2; second = 1 } ∷ []
 
 pub downward : List Call
-downward = handIn (given 5 1 1 0 1) own ∷ handIn (given 6 1 2 0 1) own ∷ step own own ∷ []
+downward = onOwn (handIn (given 5 1 1 0 1)) ∷ onOwn (handIn (given 6 1 2 0 1)) ∷ onOwn step ∷ []
 
 down-read : readOf downBytes ≡ answer (file downRules [])
 unfolding downBytes downRules gave

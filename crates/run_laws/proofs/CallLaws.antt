@@ -1,20 +1,17 @@
 -- Calls on any buffers: what a lent buffer is to them, what they give if it has another length or is unsound, that a refused one leaves what it
 -- was lent, which openings are refused, and that openings and hand-ins take no disk.
-use mathlib.Core.Path.{_≡_, refl, sym, ap, _∙_}
-use mathlib.Core.Logic.{_⊎_, inl, inr, ⊎-elim}
-use mathlib.Core.Bool.{Bool, true, false, cond, not, _||_}
-use mathlib.Core.List.{List, [], _∷_, _++_}
+use mathlib.Core.Path.{_≡_, refl, sym, ap, subst, _∙_}
+use mathlib.Core.Logic.{_↔_, _⊎_, inl, inr, ⊎-elim, ⊎-map}
+use mathlib.Core.Bool.{Bool, true, false, cond, _&&_, false≢true}
+use mathlib.Core.List.{List, []}
 use mathlib.Core.Option.{Option}
-use Prim.{tt}
 use Prim.Native.Nat.{ℕ, _-_}
 use native.Mathlib.Decide.{ℕ-discrete}
 use native.Mathlib.Omega.{arith}
-use lib.Dec.{eqb, leb, ltb}
+use lib.Dec.{ltb}
 use lib.ListN.{length}
-use borrow.Author.Tests.{eq-eqb, ne-eqb, lt-ltb, ltb-true}
-use Rattle.relation.proofs.ListLaws.{or-cases, or-left, or-right, untrue}
-use Rattle.model.specs.Limits.{mostHeld}
-use Rattle.model.specs.declared.Write.{Write}
+use borrow.Author.Tests.{eq-eqb, ne-eqb, lt-ltb, ltb-true, ltb-false}
+use Rattle.model.specs.declared.Rule.{Rule}
 use Rattle.model.specs.Answer.{Outcome, answer, refused, coded}
 use Rattle.model.specs.Disk.{block}
 use Rattle.model.specs.Cyclic.{cyclic}
@@ -24,17 +21,21 @@ use Rattle.file_format.specs.File.{readOf}
 use Rattle.file_reader.proofs.CallerLaws.{holding-limits}
 use Rattle.rule_cyclelaws.proofs.CyclicLaws.{true-cyclic, cyclic-true}
 use Rattle.model.specs.Check.{damaged}
-use Rattle.log_get.specs.Get.{headOf, tailOf, LogGets, LogDamaged, getFrom, getOf, getCode, getAnswer}
-use Rattle.log_get.proofs.Theorems.{highest, get-answers, refused-gets}
-use Rattle.model.specs.Needs.{needsRing, late}
-use Rattle.cache_model.specs.State.{stateSize, rulesIn, writesIn, storedIn, acceptedCount, opened}
+use Rattle.model.proofs.CheckLaws.{damaged-true, true-damaged}
+use Rattle.log_get.specs.Get.{headOf, tailOf, LogGets, getFrom, getOf, valueCode, getCode, getAnswer}
+use Rattle.log_get.proofs.Theorems.{highest}
+use Rattle.cache_model.specs.State.{stateSize}
 use Rattle.cache_model.specs.Sound.{Sound, sound}
-use Rattle.cache_model.specs.Calls.{Held, Left, left, openWith, openOf, handInOf, checked}
-use Rattle.cache_soundness.proofs.SoundLaws.{sound-true}
-use Rattle.cache_soundlaws.specs.Theorem.{Unchanged}
-use Rattle.cache_soundlaws.proofs.RefusalLaws.{refuses}
-use Rattle.run_laws.specs.Run.{Call, opening, handIn, step, drain, get, Lent, own, other, stateLent, diskLent, Wrong, Unsound, Own, WrongLength, OpensNone, Listed, lentTo, keptBy, valued, called, isRefused}
+use Rattle.cache_model.specs.Calls.{Held, Left, left, openWith, openOf, handInOf}
+use Rattle.cache_statelaws.proofs.SoundLaws.{sound-true, true-sound}
+use Rattle.cache_soundlaws.specs.Theorem.{Opening, Unchanged}
+use Rattle.cache_soundlaws.proofs.OpenLaws.{opens}
+use Rattle.cache_soundlaws.proofs.RefusalLaws.{refuses, turnsDown}
+use Rattle.run_laws.specs.Book.{Book, Kind, opening, handIn, step, drain, get}
+use Rattle.run_laws.specs.Run.{Call, call, Lent, own, other, asksSound, lentIf, stateLent, diskLent, Wrong, Unsound, isOwn, OwnLent, WrongLength, UnsoundLent, Unusable, Reads, OpensNone, ListedAs, lentTo, keptBy, valued, calledBy, called, isRefused}
+use Rattle.run_laws.specs.Gives.{kindConditions, AnsweredAs, Gives}
 use Rattle.run_laws.specs.Theorem.{RefusedOpenings, Widths, Diskless, GetCoded}
+use Rattle.run_laws.proofs.GivesLaws.{answer-refused, met, unmet, done, tested-by}
 
 -- ---- lent buffers
 
@@ -55,15 +56,31 @@ pub decide-wrong : (n : ℕ) (l : Lent) → Wrong n l ⊎ (Wrong n l → ⊥)
 decide-wrong n own = inr (λ w. w)
 decide-wrong n (other x) = elim (ℕ-discrete (length x) n) [ yes z ↦ inr (λ w. w z) | no d ↦ inl d ]
 
-pub own-is : (l : Lent) → Own l → l ≡ own
-own-is own o = refl
-own-is (other x) o = absurd o
-
 pub decide-length : (c : Call) → WrongLength c ⊎ (WrongLength c → ⊥)
 decide-length c = ⊎-elim
     (λ w. inl (inl w))
     (λ ns. ⊎-elim (λ w. inl (inr w)) (λ nd. inr (λ w. ⊎-elim ns nd w)) (decide-wrong diskLength (diskLent c)))
     (decide-wrong stateSize (stateLent c))
+
+decide-unsound : (l : Lent) → Unsound l ⊎ (Unsound l → ⊥)
+decide-unsound own = inr (λ u. u)
+decide-unsound (other x) = go (sound x) refl
+  where
+    go : (b : Bool) → sound x ≡ b → (Sound x → ⊥) ⊎ ((Sound x → ⊥) → ⊥)
+    go true e = inr (λ n. n (sound-true x e))
+    go false e = inl (λ s. false≢true (sym e ∙ true-sound x s))
+
+pub decide-soundness : (c : Call) → UnsoundLent c ⊎ (UnsoundLent c → ⊥)
+decide-soundness c = decide-unsound (lentIf (asksSound (c .kind)) (c .state))
+
+pub both-own : (s d : Lent) → (isOwn s && isOwn d) ≡ true → (s ≡ own) × (d ≡ own)
+both-own own own e = (refl, refl)
+both-own own (other x) e = absurd (false≢true e)
+both-own (other x) d e = absurd (false≢true e)
+
+-- of a call that is listed by its buffers: if none is unusable, they are the run's own
+pub own-usable : (c : Call) → OwnLent c ⊎ Unusable c → (WrongLength c → ⊥) → (UnsoundLent c → ⊥) → OwnLent c
+own-usable c l n v = ⊎-elim (λ o. o) (λ u. absurd (⊎-elim n v u)) l
 
 pub unsound-lent : (l : Lent) (mine : List ℕ) → Unsound l → Sound (lentTo l mine) → ⊥
 unsound-lent own mine u s = u
@@ -71,114 +88,109 @@ unsound-lent (other x) mine u s = u s
 
 -- ---- refusals by the buffers
 
--- a call that checks its buffers, lent one of another length
-pub checked-length : (call : List ℕ → List ℕ → Left) (s d : List ℕ) → (length s ≡ stateSize → ⊥) ⊎ (length d ≡ diskLength → ⊥) → checked call s d ≡ left (refused 14 0) s d
-unfolding checked
-checked-length call s d (inl n) = rw (ne-eqb (length s) stateSize n)
-checked-length call s d (inr n) = go (eqb (length s) stateSize)
-  where
-    go : (b : Bool) → cond (not b) (left (refused 14 0) s d) (cond (not (eqb (length d) diskLength)) (left (refused 14 0) s d) (cond (not (sound s)) (left (refused 15 0) s d) (call s d))) ≡ left (refused 14 0) s d
-    go true = rw (ne-eqb (length d) diskLength n)
-    go false = refl
+pub outcome-of : {l r : Left} → l ≡ r → l .outcome ≡ r .outcome
+outcome-of e = ap (λ (l : Left). l .outcome) e
 
-pub unsound-false : (s : List ℕ) → (Sound s → ⊥) → sound s ≡ false
-unsound-false s n = untrue (sound s) (λ e. n (sound-true s e))
-
-pub checked-unsound : (call : List ℕ → List ℕ → Left) (s d : List ℕ) → length s ≡ stateSize → length d ≡ diskLength → (Sound s → ⊥) → checked call s d ≡ left (refused 15 0) s d
-unfolding checked
-checked-unsound call s d es ed n = rw (eq-eqb (length s) stateSize es, eq-eqb (length d) diskLength ed, unsound-false s n)
-
-pub hand-length : (w : Write) (s d : List ℕ) → (length s ≡ stateSize → ⊥) → handInOf w s d ≡ left (refused 14 0) s d
-unfolding handInOf
-hand-length w s d n = rw (ne-eqb (length s) stateSize n)
-
-pub hand-unsound : (w : Write) (s d : List ℕ) → length s ≡ stateSize → (Sound s → ⊥) → handInOf w s d ≡ left (refused 15 0) s d
-unfolding handInOf
-hand-unsound w s d e n = rw (eq-eqb (length s) stateSize e, unsound-false s n)
-
-pub open-length : (file s d : List ℕ) → (length s ≡ stateSize → ⊥) → openOf file s d ≡ left (refused 14 0) s d
-unfolding openOf
-open-length file s d n = rw (ne-eqb (length s) stateSize n)
-
-pub open-read : (file s d : List ℕ) → length s ≡ stateSize → openOf file s d ≡ openWith (readOf file) s d
-unfolding openOf
-open-read file s d e = rw (eq-eqb (length s) stateSize e)
-
-pub get-length : (d : List ℕ) (key : ℕ) → (length d ≡ diskLength → ⊥) → getOf d key ≡ refused 14 0
+get-length : (d : List ℕ) (key : ℕ) → (length d ≡ diskLength → ⊥) → getOf d key ≡ refused 14 0
 unfolding getOf
 get-length d key n = rw (ne-eqb (length d) diskLength n)
 
--- a get of a disk of 1,024 bytes is refused by 21 or by none
-pub get-right : (d : List ℕ) (key : ℕ) → length d ≡ diskLength → (getOf d key ≡ refused 21 0) ⊎ ((v : Option ℕ) × (getOf d key ≡ answer v))
-unfolding getOf
-get-right d key e =
+-- lent a buffer of another length, whatever the kind
+pub by-length : (k : Kind) (s d : Lent) (h : Held) → WrongLength (call k s d) → called (call k s d) h .outcome ≡ refused 14 0
+unfolding called calledBy valued
+by-length (opening file) s d h w = ⊎-elim (λ v. outcome-of (opens file _ _ .wrong-length (wrong-lent stateSize s (h .state) v))) (λ v. absurd v) w
+by-length (handIn x) s d h w = ⊎-elim (λ v. outcome-of (turnsDown _ _ .hand-in-length x (wrong-lent stateSize s (h .state) v))) (λ v. absurd v) w
+by-length step s d h w = outcome-of (turnsDown _ _ .step-length (⊎-map (wrong-lent stateSize s (h .state)) (wrong-lent diskLength d (h .disk)) w))
+by-length drain s d h w = outcome-of (turnsDown _ _ .drain-length (⊎-map (wrong-lent stateSize s (h .state)) (wrong-lent diskLength d (h .disk)) w))
+by-length (get key) s d h w = ⊎-elim (λ v. absurd v) (λ v. ap valued (get-length _ key (wrong-lent diskLength d (h .disk) v))) w
+
+-- lent an unsound state, whatever the kind
+pub by-soundness : (k : Kind) (s d : Lent) (h : Held) → length (lentTo (stateLent (call k s d)) (h .state)) ≡ stateSize
+    → length (lentTo (diskLent (call k s d)) (h .disk)) ≡ diskLength → UnsoundLent (call k s d) → called (call k s d) h .outcome ≡ refused 15 0
+unfolding called calledBy
+by-soundness (opening file) s d h a b u = absurd u
+by-soundness (handIn x) s d h a b u = outcome-of (turnsDown _ _ .hand-in-unsound x a (unsound-lent s (h .state) u))
+by-soundness step s d h a b u = outcome-of (turnsDown _ _ .step-unsound a b (unsound-lent s (h .state) u))
+by-soundness drain s d h a b u = outcome-of (turnsDown _ _ .drain-unsound a b (unsound-lent s (h .state) u))
+by-soundness (get key) s d h a b u = absurd u
+
+-- a refused call leaves what it was lent
+pub leaves : (k : Kind) (s d : List ℕ) → Unchanged s d (calledBy k s d)
+unfolding calledBy
+leaves (opening file) s d = refuses s d .0 file
+leaves (handIn w) s d = refuses s d .1 w
+leaves step s d = refuses s d .2
+leaves drain s d = refuses s d .3
+leaves (get key) s d = λ n p e. (refl, refl)
+
+-- ---- gets
+
+-- the log gives a key one value
+pub gets-one : (d : List ℕ) (key : ℕ) (u v : Option ℕ) → LogGets d key u → LogGets d key v → u ≡ v
+gets-one d key u v g h = sym (highest d key (headOf d) (tailOf d) u .0 g) ∙ highest d key (headOf d) (tailOf d) v .0 h
+
+-- what a get gives that is lent 1,024 bytes
+pub get-gives : (rules : List Rule) (b : Book) (key : ℕ) (d : List ℕ) → length d ≡ diskLength
+    → Gives (kindConditions rules d b (get key)) (AnsweredAs rules d b (get key)) (valued (getOf d key))
+unfolding kindConditions AnsweredAs valued getOf
+get-gives rules b key d size =
     let head = headOf d in
     let tail = tailOf d in
-    rw (eq-eqb (length d) diskLength e) (go (damaged head tail) (getFrom d key head (tail - head)))
+    let v = getFrom d key head (tail - head) in
+    let given = valued (getOf d key) in
+    let long = eq-eqb (length d) diskLength size in
+    tested-by 21 _ _ _ given (damaged head tail) (damaged-true head tail) (true-damaged head tail) (λ x. rw (long, x))
+    (λ x. done _ (valueCode v) given (rw (long, x)) (v, highest d key head tail v .1 refl, refl))
+
+-- ---- openings
+
+-- what an opening gives that is lent 1,024 bytes
+pub open-gives : (rules : List Rule) (b : Book) (file s d lent : List ℕ) → length s ≡ stateSize
+    → Gives (kindConditions rules lent b (opening file)) (AnsweredAs rules lent b (opening file)) (openOf file s d .outcome)
+unfolding kindConditions AnsweredAs
+open-gives rules b file s d lent size = read (readOf file) refl
   where
-    go : (x : Bool) (v : Option ℕ) → (cond x (refused 21 0) (answer v) ≡ refused 21 0) ⊎ ((u : Option ℕ) × (cond x (refused 21 0) (answer v) ≡ answer u))
-    go true v = inl refl
-    go false v = inr (v, refl)
+    o : Opening file s d
+    o = opens file s d
 
--- ..: by none where the superblock is no damage, and then it gives the value there is
-pub get-given : (d : List ℕ) (key : ℕ) (v : Option ℕ) → length d ≡ diskLength → (LogDamaged d → ⊥) → LogGets d key v → getOf d key ≡ answer v
-get-given d key v e n g = ⊎-elim
-    (λ (r : getOf d key ≡ refused 21 0). absurd (n (refused-gets d key e .0 r)))
-    (λ (u : (x : Option ℕ) × (getOf d key ≡ answer x)). u .1 ∙ ap answer (one (u .0) (u .1)))
-    (get-right d key e)
-  where
-    one : (x : Option ℕ) → getOf d key ≡ answer x → x ≡ v
-    one x q =
-        let head = headOf d in
-        let tail = tailOf d in
-        sym (highest d key head tail x .0 (get-answers d key x q)) ∙ highest d key head tail v .0 g
+    that : (g : File) → readOf file ≡ answer g → (P : File → Type 0) → Reads file P → P g
+    that g q P x = subst P (let e = x .1 in cc) (x .2)
 
--- ---- a refused call leaves what it was lent
+    read : (r : Outcome File) → readOf file ≡ r → Gives (kindConditions rules lent b (opening file)) (AnsweredAs rules lent b (opening file)) (openOf file s d .outcome)
+    read (refused number place) q = rw (o .unread size number place q) (met _ _ _ number place q)
+    read (answer g) q =
+        let ring = cyclic-true (g .rules) (holding-limits file g q .0 .known) in
+        unmet _ _ _ _ (λ i j e. answer-refused (sym q ∙ e))
+        (tested-by 22 _ _ _ _ (ltb 0 (length (g .tests))) (λ t. (g, q, ltb-true 0 (length (g .tests)) t)) (λ x. lt-ltb 0 (length (g .tests)) (that g q _ x))
+        (λ t. outcome-of (o .has-tests size g q (ltb-true 0 (length (g .tests)) t)))
+        (λ t. let n : length (g .tests) ≡ 0 = let l = ltb-false 0 (length (g .tests)) t in omega arith in
+        tested-by 8 _ _ _ _ (cyclic (g .rules)) (λ u. (g, q, ring u)) (λ x. true-cyclic (g .rules) (that g q _ x))
+        (λ u. outcome-of (o .cyclic size g q n (ring u)))
+        (λ u. done _ 0 _ (outcome-of (o .taken size g q n (λ c. false≢true (sym u ∙ true-cyclic (g .rules) c)) .3)) refl)))
 
-pub called-leaves : (c : Call) (h : Held) → Unchanged (lentTo (stateLent c) (h .state)) (lentTo (diskLent c) (h .disk)) (called c h)
-unfolding called
-called-leaves (opening file s) h = refuses (lentTo s (h .state)) (h .disk) .0 file
-called-leaves (handIn w s) h = refuses (lentTo s (h .state)) (h .disk) .1 w
-called-leaves (step s d) h = refuses (lentTo s (h .state)) (lentTo d (h .disk)) .2
-called-leaves (drain s d) h = refuses (lentTo s (h .state)) (lentTo d (h .disk)) .3
-called-leaves (get key d) h = λ n p e. (refl, refl)
-
--- ---- the openings that are refused
-
-pub refused-openings : RefusedOpenings
-unfolding Listed OpensNone openWith isRefused
-refused-openings file mine disk s size = (
-  (λ l. ⊎-elim
-      (λ w. by-length w)
-      (λ n. right n ∙ none (readOf file) (⊎-elim (λ w. absurd (n w)) (λ x. x) l))
-      (decide-length (opening file s))),
-  λ e. ⊎-elim (λ w. inl w) (λ n. inr (some (readOf file) refl (sym (right n) ∙ e))) (decide-length (opening file s)),
+-- it is refused exactly if the file opens no cache
+pub opens-none : (rules : List Rule) (b : Book) (file lent : List ℕ) (o : Outcome ℕ) → Gives (kindConditions rules lent b (opening file)) (AnsweredAs rules lent b (opening file)) o
+    → OpensNone file ↔ (isRefused o ≡ true)
+unfolding kindConditions Gives isRefused
+opens-none rules b file lent (answer n) g = (
+  (λ x. absurd (⊎-elim (λ r. g .0 (r .0) (r .1) (r .2)) (λ y. ⊎-elim (λ t. g .1 .0 22 0 (t, refl, refl)) (λ c. g .1 .1 .0 8 0 (c, refl, refl)) y) x)),
+  λ e. absurd (false≢true e),
 )
+opens-none rules b file lent (refused number place) g = (
+  (λ x. refl),
+  λ e. ⊎-elim (λ q. inl (number, place, q)) (λ h. inr (⊎-elim (λ t. inl (t .0)) (λ i. ⊎-elim (λ c. inr (c .0)) (λ n. absurd (n .1)) (i .1)) (h .1))) g,
+)
+
+-- the openings that are listed are those that are refused
+pub refused-openings : RefusedOpenings
+unfolding ListedAs isRefused called calledBy
+refused-openings file mine disk s d size = ⊎-elim
+    (λ w. ((λ l. ap isRefused (by-length (opening file) s d (record { state = mine; disk = disk }) w)), λ e. inl w))
+    (λ n. ((λ l. none n .0 (⊎-elim (λ w. absurd (n w)) (λ x. x) l)), λ e. inr (none n .1 e)))
+    (decide-length (call (opening file) s d))
   where
-    by-length : WrongLength (opening file s) → isRefused (openOf file (lentTo s mine) disk .outcome) ≡ true
-    by-length w =
-        ap (λ (l : Left). isRefused (l .outcome)) (open-length file (lentTo s mine) disk (⊎-elim (λ v. wrong-lent stateSize s mine v) (λ v. absurd v) w))
-
-    right : (WrongLength (opening file s) → ⊥) → isRefused (openOf file (lentTo s mine) disk .outcome) ≡ isRefused (openWith (readOf file) (lentTo s mine) disk .outcome)
-    right n = ap (λ (l : Left). isRefused (l .outcome)) (open-read file (lentTo s mine) disk (right-length stateSize s mine size (λ w. n (inl w))))
-
-    cases : (a b : Bool) (s′ : List ℕ) → isRefused (cond a (left (refused 22 0) (lentTo s mine) disk) (cond b (left (refused 8 0) (lentTo s mine) disk) (left (answer 0) s′ disk)) .outcome) ≡ (a || b)
-    cases true b s′ = refl
-    cases false true s′ = refl
-    cases false false s′ = refl
-
-    none : (r : Outcome File) → OpensNone r → isRefused (openWith r (lentTo s mine) disk .outcome) ≡ true
-    none (refused number place) o = refl
-    none (answer g) o =
-        cases (ltb 0 (length (g .tests))) (cyclic (g .rules)) (opened (g .rules))
-        ∙ ⊎-elim (λ h. or-left (ltb 0 (length (g .tests))) (cyclic (g .rules)) (lt-ltb 0 (length (g .tests)) h)) (λ c. or-right (ltb 0 (length (g .tests))) (cyclic (g .rules)) (true-cyclic (g .rules) c)) o
-
-    some : (r : Outcome File) → readOf file ≡ r → isRefused (openWith r (lentTo s mine) disk .outcome) ≡ true → OpensNone r
-    some (refused number place) q e = tt
-    some (answer g) q e = ⊎-elim
-        (λ h. inl (ltb-true 0 (length (g .tests)) h))
-        (λ c. inr (cyclic-true (g .rules) (holding-limits file g q .0 .known) c))
-        (or-cases (ltb 0 (length (g .tests))) (cyclic (g .rules)) (sym (cases (ltb 0 (length (g .tests))) (cyclic (g .rules)) (opened (g .rules))) ∙ e))
+    none : (WrongLength (call (opening file) s d) → ⊥) → OpensNone file ↔ (isRefused (openOf file (lentTo s mine) disk .outcome) ≡ true)
+    none n = opens-none [] [] file [] _ (open-gives [] [] file (lentTo s mine) disk [] (right-length stateSize s mine size (λ w. n (inl w))))
 
 -- ---- hand-in's five values
 
@@ -208,15 +220,8 @@ either d false x y u v p q = q
 open-beside : (s d : List ℕ) (r : Outcome File) → openWith r s d ≡ beside d (openWith r s [])
 unfolding openWith
 open-beside s d (refused number place) = refl
-open-beside s d (answer g) = either d (ltb 0 (length (g .tests))) _ _ _ _ refl (either d (cyclic (g .rules)) _ _ _ _ refl refl)
+open-beside s d (answer g) = search either depth 9
 
 pub diskless : Diskless
 unfolding openOf handInOf
-diskless file s d w = (
-  either d (eqb (length s) stateSize) _ _ _ _ (open-beside s d (readOf file)) refl,
-  either d (not (eqb (length s) stateSize)) _ _ _ _ refl
-      (either d (not (sound s)) _ _ _ _ refl
-      (either d (leb mostHeld (acceptedCount s)) _ _ _ _ refl
-      (either d (late (rulesIn s) (writesIn s) (storedIn s) w) _ _ _ _ refl
-      (either d (needsRing (rulesIn s) (writesIn s ++ (w ∷ []))) _ _ _ _ refl refl)))),
-)
+diskless file s d w = (search (either, open-beside) depth 9, search either depth 9)

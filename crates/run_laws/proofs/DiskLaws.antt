@@ -10,7 +10,7 @@ use native.Mathlib.Nat.{div-one, lt-of-lt-of-le}
 use lib.Pow.{pow-mono}
 use native.Mathlib.Omega.{arith}
 use lib.Dec.{eqb}
-use lib.ListN.{length, getD, set, length-set, length-append, List·getD-append, List·getD-map}
+use lib.ListN.{length, getD, set, length-set, length-append, List·getD-append}
 use lib.Seq.{sets, set-comm, getD-set-same, getD-set-other, ext-getD}
 use borrow.Author.Tests.{lt-ltb, le-ltb}
 use Rattle.relation.specs.Bits.{bit}
@@ -28,11 +28,13 @@ use Rattle.file_format.specs.Bytes.{byte, half, word, bytes4, blockLength, disk
 use Rattle.file_format.specs.Encode.{WriteFits}
 use Rattle.file_format.proofs.ByteLaws.{number}
 use Rattle.cache_model.specs.State.{storedOn}
-use Rattle.cache_soundlaws.proofs.GeneralLaws.{sets-out, sets-in}
+use Rattle.cache_model.specs.Entries.{entry, accepted, flagAt, flagging}
+use Rattle.cache_statelaws.proofs.GeneralLaws.{sets-out, sets-in}
+use Rattle.cache_statelaws.proofs.EntryLaws.{length-accepted, accepted-at, flag-below}
 use Rattle.cache_soundlaws.proofs.KeepLaws.{length-stored}
-use Rattle.run_laws.specs.Book.{entry, Book, accepted, flagAt, flagging, applied, scheduleOf, Begins}
+use Rattle.run_laws.specs.Book.{Book, applied, scheduleOf, Begins}
 use Rattle.run_laws.specs.Theorem.{NoneBeyond}
-use Rattle.run_laws.proofs.BookLaws.{Fine, length-accepted, flag-below, needs-by-address, needs-by-rule}
+use Rattle.run_laws.proofs.BookLaws.{Lawful, needs-by-address, needs-by-rule}
 
 -- ---- stores to different places commute
 
@@ -78,20 +80,17 @@ on-top [] d i h q n = absurd (omega arith)
 on-top (e ∷ b) d zero h q n = rw q (past b d (e .write) (λ j. n (suc j) (omega arith)))
 on-top (e ∷ b) d (suc i) h q n = on-top b (cond (e .flag) (storedOn d (e .write)) d) i (omega arith) q (λ j l. n (suc j) (omega arith))
 
-write-in : (b : Book) (i : ℕ) → writeAt (accepted b) i ≡ getD b i (entry noWrite false) .write
-write-in b i = List·getD-map (λ e. e .write) b i (entry noWrite false)
-
-pub applied-flagging : (rules : List Rule) (b : Book) (d : List ℕ) (i : ℕ) → Fine rules b → i < length b → flagAt b i ≡ false
+pub applied-flagging : (rules : List Rule) (b : Book) (d : List ℕ) (i : ℕ) → Lawful rules b → i < length b → flagAt b i ≡ false
     → applied (flagging (suc i) b) d ≡ storedOn (applied b d) (writeAt (accepted b) i)
 applied-flagging rules b d i f h q =
-    on-top b d i h q later ∙ ap (storedOn (applied b d)) (sym (write-in b i))
+    on-top b d i h q later ∙ ap (storedOn (applied b d)) (sym (accepted-at b i))
   where
     later : (j : ℕ) → i < j → flagAt b j ≡ true → getD b j (entry noWrite false) .write .address ≢ getD b i (entry noWrite false) .write .address
     later j l p e =
         let hj : j < length (accepted b) = subst (λ (n : ℕ). j < n) (sym (length-accepted b)) (flag-below b j p) in
         let hi : i < length (accepted b) = subst (λ (n : ℕ). i < n) (sym (length-accepted b)) h in
-        let same : writeAt (accepted b) i .address ≡ writeAt (accepted b) j .address = ap (λ (w : Write). w .address) (write-in b i) ∙ sym e ∙ sym (ap (λ (w : Write). w .address) (write-in b j)) in
-        false≢true (sym q ∙ f .closed j i p (needs-by-address rules (accepted b) j i hj hi l same))
+        let same : writeAt (accepted b) i .address ≡ writeAt (accepted b) j .address = ap (λ (w : Write). w .address) (accepted-at b i) ∙ sym e ∙ sym (ap (λ (w : Write). w .address) (accepted-at b j)) in
+        false≢true (sym q ∙ f .fine .closed j i p (needs-by-address rules (accepted b) j i hj hi l same))
 
 -- ---- a valid schedule
 
@@ -103,12 +102,12 @@ bit-beyond : (b : Book) (i : ℕ) → length b ≤ i → bit (scheduleOf b) i �
 unfolding scheduleOf
 bit-beyond b i h = bit-mask (flagAt b) (length b) i ∙ rw (le-ltb i (length b) h)
 
-pub valid-book : (rules : List Rule) (b : Book) → Fine rules b → Valid rules (accepted b) (scheduleOf b)
+pub valid-book : (rules : List Rule) (b : Book) → Lawful rules b → Valid rules (accepted b) (scheduleOf b)
 unfolding Valid
 valid-book rules b f i j hi hj p d =
     let bi : i < length b = subst (λ (n : ℕ). i < n) (length-accepted b) hi in
     let bj : j < length b = subst (λ (n : ℕ). j < n) (length-accepted b) hj in
-    bit-schedule b j bj ∙ f .closed i j (sym (bit-schedule b i bi) ∙ p) (needs-by-rule rules (accepted b) i j hi hj d)
+    bit-schedule b j bj ∙ f .fine .closed i j (sym (bit-schedule b i bi) ∙ p) (needs-by-rule rules (accepted b) i j hi hj d)
 
 -- ---- bytes and blocks
 
@@ -203,7 +202,7 @@ run-front (w ∷ ws) rest s d h = run-front ws rest (s / 2) (cond (eqb (s % 2) 1
 label-front : (ws rest : List Write) (i : ℕ) → i < length ws → labelAt (ws ++ rest) i ≡ labelAt ws i
 label-front ws rest i h = ap labelOf (List·getD-append ws rest noWrite i h)
 
-pub consistent-left : (rules : List Rule) (b : Book) (disk : List ℕ) → Fine rules b → length disk ≡ diskLength
+pub consistent-left : (rules : List Rule) (b : Book) (disk : List ℕ) → Lawful rules b → length disk ≡ diskLength
     → (t : Test) → blocksOf disk ≡ initialDisk t → Begins (accepted b) (t .main) → TestHolds rules t → NoneBeyond rules b (t .main)
     → Consistent (t .checks) (blocksOf (applied b disk))
 unfolding Begins TestHolds NoneBeyond
@@ -211,7 +210,7 @@ consistent-left rules b disk f size t start begins holds beyond =
     subst (Consistent (t .checks)) same (holds (scheduleOf b) below valid)
   where
     valid-at : (i j : ℕ) → i < length b → j < length b → bit (scheduleOf b) i ≡ true → DependsOn rules (labelAt (accepted b) i) (labelAt (accepted b) j) → bit (scheduleOf b) j ≡ true
-    valid-at i j bi bj p d = bit-schedule b j bj ∙ f .closed i j (sym (bit-schedule b i bi) ∙ p) (needs-by-rule rules (accepted b) i j (subst (λ (n : ℕ). i < n) (sym (length-accepted b)) bi) (subst (λ (n : ℕ). j < n) (sym (length-accepted b)) bj) d)
+    valid-at i j bi bj p d = bit-schedule b j bj ∙ f .fine .closed i j (sym (bit-schedule b i bi) ∙ p) (needs-by-rule rules (accepted b) i j (subst (λ (n : ℕ). i < n) (sym (length-accepted b)) bi) (subst (λ (n : ℕ). j < n) (sym (length-accepted b)) bj) d)
 
     ws : List Write
     ws = accepted b

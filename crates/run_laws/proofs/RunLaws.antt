@@ -1,51 +1,49 @@
 -- Demand 3: each call of a run keeps the state and the disk those of the book, so every moment is safe and every call gives what the book says.
-use mathlib.Core.Path.{_≡_, refl, sym, ap, subst, subst₂, _∙_}
-use mathlib.Core.Logic.{_⊎_, inl, inr, ⊎-elim, ⊎-map}
-use mathlib.Core.Bool.{Bool, true, false, cond, not, false≢true}
-use mathlib.Core.Option.{Option}
-use mathlib.Core.List.{List, [], _∷_, _++_, List·Memᴰ, List·Memᴰ·head, List·Memᴰ·tail, List·Memᴰ·not-nil, List·Memᴰ·cases-cons, List·Memᴰ·append-cases}
+use mathlib.Core.Path.{_≡_, refl, sym, ap, subst, _∙_}
+use mathlib.Core.Logic.{inl, inr, ⊎-elim}
+use mathlib.Core.Bool.{Bool, true, false, cond, false≢true}
+use mathlib.Core.List.{List, [], _∷_, _++_, List·Memᴰ, List·Memᴰ·head, List·Memᴰ·tail, List·Memᴰ·not-nil, List·Memᴰ·cases-cons, List·Memᴰ·append-cases, List·Memᴰ·eq-of-singleton}
 use Prim.{tt}
-use Prim.Native.Nat.{ℕ, zero, suc, _+_, _≤_, _<_}
-use native.Mathlib.Decide.{decLt}
+use Prim.Native.Nat.{ℕ, zero, suc, _+_, _<_}
+use native.Mathlib.Decide.{ℕ-discrete, decLt}
 use native.Mathlib.Numerals.{add-one}
 use native.Mathlib.Omega.{arith}
-use lib.Dec.{eqb, leb, ltb}
-use lib.ListN.{length}
-use borrow.Author.Tests.{eq-eqb, leb-true, leb-false, le-leb, lt-leb, lt-ltb, le-ltb, not-false}
-use Rattle.relation.proofs.ListLaws.{untrue, mem-index, length-tabulate, getD-tabulate}
-use Rattle.relation.specs.Transitive.{Plus}
+use lib.Dec.{leb}
+use lib.ListN.{length, replicate}
+use borrow.Author.Tests.{leb-true, le-leb, lt-leb}
+use Rattle.relation.proofs.ListLaws.{untrue}
 use Rattle.model.specs.Limits.{mostHeld}
 use Rattle.model.specs.declared.Write.{Write}
 use Rattle.model.specs.declared.Rule.{Rule}
 use Rattle.model.specs.Answer.{Outcome, answer, refused}
-use Rattle.model.specs.Cyclic.{cyclic}
+use Rattle.model.specs.Cyclic.{Cyclic}
 use Rattle.model.specs.Test.{File}
-use Rattle.model.proofs.CountLaws.{count-none, none-count}
 use Rattle.file_format.specs.Bytes.{diskLength}
 use Rattle.file_format.specs.File.{readOf}
 use Rattle.file_format.specs.Encode.{WriteFits}
 use Rattle.file_reader.proofs.CallerLaws.{holding-limits}
-use Rattle.rule_cyclelaws.proofs.CyclicLaws.{true-cyclic}
-use Rattle.log_get.specs.Get.{LogDamaged, getOf, valueCode}
-use Rattle.log_get.proofs.Theorems.{get-answers, refused-gets}
-use Rattle.model.specs.Needs.{Needs, NeedsRing, Earliest, needsRing, ready, Late, late}
+use Rattle.log_get.specs.Get.{getOf, valueCode}
+use Rattle.model.specs.Needs.{Earliest, needsRing, ready, late}
+use Rattle.cache_model.specs.Entries.{accepted, flagAt, waitingIn, appended, flagging}
 use Rattle.cache_model.specs.State as State
-use Rattle.cache_model.specs.State.{stateSize, storedIn, handed, storedOn}
-use Rattle.cache_model.specs.Sound.{sound}
-use Rattle.cache_model.specs.Calls.{Left, left, openWith, openOf, handInOf, stepped as stepOn, stepOf, drained as drainOn, drainOf}
+use Rattle.cache_model.specs.State.{stateSize, stateOf, storedOn}
+use Rattle.cache_model.specs.Calls.{Left, left, openOf, handInOf}
 use Rattle.model.proofs.NeedsLaws.{late-true, true-late, needsRing-true, true-needsRing}
-use Rattle.cache_soundness.proofs.SoundLaws.{true-sound}
-use Rattle.run_laws.specs.Book.{Book, accepted, flagAt, waitingIn, appended, flagging, stepEntered, stepsEntered, applied, entered, noted}
-use Rattle.run_laws.specs.Run.{Call, opening, handIn, step, drain, get, Lent, own, other, WrongLength, UnsoundLent, Unusable, OpensNone, Listed, lentTo, valued, stateLent, diskLent, called, ownAfter, isRefused, next, steps, within, Moment, moments}
-use Rattle.run_laws.specs.Theorem.{Safe, Gives, wrong-length, unsound, full, too-late, ring, taken, stored, idle, emptied, unread, with-tests, with-cycle, log-damaged, got, Answers, Made, now, later, inside, begun, Demand3}
-use Rattle.cache_soundlaws.proofs.GeneralLaws.{count-one-more}
-use Rattle.model.proofs.ReadyLaws.{needs-left, ready-earliest, none-ready}
-use Rattle.run_laws.proofs.LayoutLaws.{stateOf, length-state, state-rules, state-writes, state-accepted, state-flags, handed-state, opened-state, length-flagging, flag-here, flag-else}
-use Rattle.run_laws.proofs.BookLaws.{Fine, length-accepted, fine-stepped, fine-appended, fine-sound}
+use Rattle.cache_statelaws.proofs.EntryLaws.{length-accepted, length-flagging}
+use Rattle.cache_statelaws.proofs.LayoutLaws.{length-state, state-accepted, state-flags, opened-state}
+use Rattle.cache_soundlaws.proofs.HoldableLaws.{holdable-none, handedBy, hand-entries}
+use Rattle.cache_soundlaws.proofs.OpenLaws.{opens}
+use Rattle.cache_soundlaws.proofs.SoundTheorems.{drains}
+use Rattle.run_laws.specs.Book.{Book, Kind, opening, handIn, step, drain, get, stepEntered, stepsEntered, applied, entered, noted}
+use Rattle.run_laws.specs.Run.{Call, call, onOwn, Lent, ownLent, OwnLent, WrongLength, UnsoundLent, OpensNone, ListedAs, Listed, lentTo, valued, stateLent, diskLent, calledBy, called, ownAfter, isRefused, Moment, next, after, countedAs, counted, passed, inner, moments}
+use Rattle.run_laws.specs.Gives.{lentDisk, kindConditions, conditions, StepAnswer, AnsweredAs, Answered, Gives, GivenBy}
+use Rattle.run_laws.specs.Theorem.{Safe, Answers, Made, now, later, inside, begun, Demand3}
+use Rattle.model.proofs.ReadyLaws.{ready-earliest, none-ready}
+use Rattle.run_laws.proofs.BookLaws.{Lawful, lawful-words, lawful-stepped, lawful-steps, lawful-appended, lawful-sound}
 use Rattle.run_laws.proofs.DiskLaws.{valid-book, consistent-left, length-applied}
-use Rattle.run_laws.proofs.MomentLaws.{after}
-use Rattle.run_laws.proofs.CallLaws.{kept-same, right-length, wrong-lent, own-is, decide-length, unsound-lent, checked-length, checked-unsound, hand-length, hand-unsound, open-length, open-read, get-length, get-right, get-given, called-leaves}
-use Rattle.run_laws.proofs.StepLaws.{late-ext, step-book, fine-steps, drain-book}
+use Rattle.run_laws.proofs.StepLaws.{step-book, drain-book}
+use Rattle.run_laws.proofs.GivesLaws.{answer-refused, done, tested, tested-by, past, gives-answer, by-single, Singles, gives-one}
+use Rattle.run_laws.proofs.CallLaws.{kept-same, right-length, decide-length, decide-soundness, both-own, own-usable, outcome-of, by-length, by-soundness, leaves, get-gives, gets-one, open-gives, opens-none}
 
 -- ---- the invariant: the bytes and the disk are those of the book
 
@@ -54,7 +52,7 @@ abbrev at : List Rule → List ℕ → Book → Moment
 at rules disk b = record { held = record { state = stateOf rules b; disk = applied b disk }; book = b }
 
 record Mirrors (rules : List Rule) (disk : List ℕ) (m : Moment) : Type 0 where
-  fine : Fine rules (m .book)
+  fine : Lawful rules (m .book)
   same : m ≡ at rules disk (m .book)
 
 -- what is shown of every call: it gives what the book says, and the next moment is that of the next book
@@ -62,361 +60,287 @@ abbrev Goes : List Rule → List ℕ → Call → Moment → Type 0
 Goes rules disk c m = Answers rules disk c m × Mirrors rules disk (next rules c m)
 
 module _ (rules : List Rule) (disk : List ℕ) (size : length disk ≡ diskLength) where
-  mirrored : (b : Book) → Fine rules b → Mirrors rules disk (at rules disk b)
+  -- what a call gives at a book's moment
+  abbrev outcome : Call → Book → Outcome ℕ
+  outcome c b = called c (at rules disk b .held) .outcome
+
+  mirrored : (b : Book) → Lawful rules b → Mirrors rules disk (at rules disk b)
   mirrored b f = record { fine = f; same = refl }
 
-  safe : (b : Book) → Fine rules b → Safe rules disk (at rules disk b)
-  safe b f = record { sound = fine-sound rules b f; size = length-applied b disk ∙ size; equals = refl; valid = valid-book rules b f; consistent = consistent-left rules b disk f size }
+  safe : (b : Book) → Lawful rules b → Safe rules disk (at rules disk b)
+  safe b f = record { sound = lawful-sound rules b f; size = length-applied b disk ∙ size; equals = refl; valid = valid-book rules b f; consistent = consistent-left rules b disk f size }
 
-  -- ---- whatever the list says of a call is what it gives
+  -- ---- the buffers of a call
 
-  -- the run's own have the right lengths
-  own-state : (b : Book) → Fine rules b → length (stateOf rules b) ≡ stateSize
-  own-state b f = length-state rules b (f .rules-most) (f .most)
+  -- those that are lent have the right lengths, if none has another
+  right-state : (c : Call) (b : Book) → Lawful rules b → (WrongLength c → ⊥) → length (lentTo (stateLent c) (stateOf rules b)) ≡ stateSize
+  right-state c b f n = right-length stateSize (stateLent c) (stateOf rules b) (length-state rules b (f .fine .rules-most) (f .fine .most)) (λ w. n (inl w))
 
-  own-disk : (b : Book) → length (applied b disk) ≡ diskLength
-  own-disk b = length-applied b disk ∙ size
+  right-disk : (c : Call) (b : Book) → (WrongLength c → ⊥) → length (lentTo (diskLent c) (applied b disk)) ≡ diskLength
+  right-disk c b n = right-length diskLength (diskLent c) (applied b disk) (length-applied b disk ∙ size) (λ w. n (inr w))
 
-  -- what hand-in gives, by the book
-  handed-by : Book → Write → Left
-  handed-by b w =
-      cond (leb mostHeld (length b)) (left (refused 16 0) (stateOf rules b) (applied b disk))
-      (cond (late rules (accepted b) (flagAt b) w) (left (refused 17 0) (stateOf rules b) (applied b disk))
-      (cond (needsRing rules (accepted b ++ (w ∷ []))) (left (refused 18 0) (stateOf rules b) (applied b disk))
-      (left (answer (length b + 1)) (handed (stateOf rules b) w) (applied b disk))))
+  -- a call on the run's own is its kind's on the bytes and the disk of the book
+  own-called : (c : Call) (b : Book) → OwnLent c → called c (at rules disk b .held) ≡ calledBy (c .kind) (stateOf rules b) (applied b disk)
+  unfolding called
+  own-called c b o = let e = both-own (stateLent c) (diskLent c) o in rw (e .0, e .1)
 
-  hand-book : (b : Book) (w : Write) → Fine rules b → handInOf w (stateOf rules b) (applied b disk) ≡ handed-by b w
-  unfolding handInOf handed-by
-  hand-book b w f =
-      rw (
-        eq-eqb (length (stateOf rules b)) stateSize (length-state rules b (f .rules-most) (f .most)),
-        true-sound (stateOf rules b) (fine-sound rules b f),
-        state-accepted rules b (f .rules-most),
-        state-rules rules b (f .rules-most),
-        state-writes rules b (f .rules-most) (f .fits),
-        late-ext rules (accepted b) (storedIn (stateOf rules b)) (flagAt b) (λ i h. state-flags rules b (f .rules-most) i (subst (λ (n : ℕ). i < n) (length-accepted b) h)) w,
-      )
-
-  -- the write that is earliest is the one found
-  earliest-ready : (b : Book) (i : ℕ) → Fine rules b → Earliest rules (accepted b) (flagAt b) i → ready rules (accepted b) (flagAt b) ≡ suc i
-  earliest-ready b i f w = go (ready rules (accepted b) (flagAt b)) refl
-    where
-      go : (k : ℕ) → ready rules (accepted b) (flagAt b) ≡ k → k ≡ suc i
-      go zero e = absurd (false≢true (sym (w .waits) ∙ none-ready rules (accepted b) (flagAt b) (f .ringless) e i (w .accepted)))
-      go (suc k) e =
-          let v = ready-earliest rules (accepted b) (flagAt b) k e in
-          elim (decLt k i) [
-            | yes l ↦ absurd (w .first k l (v .waits) (v .met))
-            | no g ↦ elim (decLt i k) [ yes l ↦ absurd (v .first i l (w .waits) (w .met)) | no h ↦ omega arith ]
-          ]
-
-  nothing-ready : (b : Book) → ((i : ℕ) → i < length b → flagAt b i ≡ true) → ready rules (accepted b) (flagAt b) ≡ 0
-  nothing-ready b h = go (ready rules (accepted b) (flagAt b)) refl
-    where
-      go : (k : ℕ) → ready rules (accepted b) (flagAt b) ≡ k → k ≡ 0
-      go zero e = refl
-      go (suc k) e =
-          let v = ready-earliest rules (accepted b) (flagAt b) k e in
-          absurd (false≢true (sym (v .waits) ∙ h k (subst (λ (n : ℕ). k < n) (length-accepted b) (v .accepted))))
-
-  outcome-of : {l r : Left} → l ≡ r → l .outcome ≡ r .outcome
-  outcome-of e = ap (λ (l : Left). l .outcome) e
-
-  by-length : (b : Book) (c : Call) → WrongLength c → called c (at rules disk b .held) .outcome ≡ refused 14 0
-  unfolding called stepOf drainOf valued
-  by-length b (opening file s) w = ⊎-elim (λ v. outcome-of (open-length file _ _ (wrong-lent stateSize s (stateOf rules b) v))) (λ v. absurd v) w
-  by-length b (handIn v s) w = ⊎-elim (λ x. outcome-of (hand-length v _ _ (wrong-lent stateSize s (stateOf rules b) x))) (λ x. absurd x) w
-  by-length b (step s d) w = outcome-of (checked-length stepOn _ _ (⊎-map (wrong-lent stateSize s (stateOf rules b)) (wrong-lent diskLength d (applied b disk)) w))
-  by-length b (drain s d) w = outcome-of (checked-length drainOn _ _ (⊎-map (wrong-lent stateSize s (stateOf rules b)) (wrong-lent diskLength d (applied b disk)) w))
-  by-length b (get key d) w = ⊎-elim (λ v. absurd v) (λ v. ap valued (get-length (lentTo d (applied b disk)) key (wrong-lent diskLength d (applied b disk) v))) w
-
-  -- what is lent otherwise has the right lengths
-  right-state : (b : Book) → Fine rules b → (c : Call) → (WrongLength c → ⊥) → length (lentTo (stateLent c) (stateOf rules b)) ≡ stateSize
-  right-state b f c n = right-length stateSize (stateLent c) (stateOf rules b) (own-state b f) (λ w. n (inl w))
-
-  right-disk : (b : Book) (c : Call) → (WrongLength c → ⊥) → length (lentTo (diskLent c) (applied b disk)) ≡ diskLength
-  right-disk b c n = right-length diskLength (diskLent c) (applied b disk) (own-disk b) (λ w. n (inr w))
-
-  by-soundness : (b : Book) → Fine rules b → (c : Call) → (WrongLength c → ⊥) → UnsoundLent c → called c (at rules disk b .held) .outcome ≡ refused 15 0
-  unfolding called stepOf drainOf
-  by-soundness b f (opening file s) n u = absurd u
-  by-soundness b f (handIn v s) n u = outcome-of (hand-unsound v _ _ (right-state b f (handIn v s) n) (unsound-lent s (stateOf rules b) u))
-  by-soundness b f (step s d) n u = outcome-of (checked-unsound stepOn _ _ (right-state b f (step s d) n) (right-disk b (step s d) n) (unsound-lent s (stateOf rules b) u))
-  by-soundness b f (drain s d) n u = outcome-of (checked-unsound drainOn _ _ (right-state b f (drain s d) n) (right-disk b (drain s d) n) (unsound-lent s (stateOf rules b) u))
-  by-soundness b f (get key d) n u = absurd u
-
-  not-late : (b : Book) (w : Write) → (Late rules (accepted b) (flagAt b) w → ⊥) → late rules (accepted b) (flagAt b) w ≡ false
-  not-late b w n = untrue (late rules (accepted b) (flagAt b) w) (λ e. n (late-true rules (accepted b) (flagAt b) w e))
-
-  no-ring : (b : Book) (w : Write) → (NeedsRing rules (accepted b ++ (w ∷ [])) → ⊥) → needsRing rules (accepted b ++ (w ∷ [])) ≡ false
-  no-ring b w n = untrue (needsRing rules (accepted b ++ (w ∷ []))) (λ e. n (needsRing-true rules (accepted b ++ (w ∷ [])) e))
-
-  handed-so : (b : Book) (w : Write) → Fine rules b → (x y z : Bool) → leb mostHeld (length b) ≡ x → late rules (accepted b) (flagAt b) w ≡ y → needsRing rules (accepted b ++ (w ∷ [])) ≡ z
-      → called (handIn w own) (at rules disk b .held) .outcome ≡ cond x (refused 16 0) (cond y (refused 17 0) (cond z (refused 18 0) (answer (suc (length b)))))
-  unfolding called handed-by
-  handed-so b w f x y z ex ey ez = outcome-of (hand-book b w f) ∙ rw (ex, ey, ez) (go x y z)
-    where
-      go : (x y z : Bool) → cond x (left (refused 16 0) (stateOf rules b) (applied b disk)) (cond y (left (refused 17 0) (stateOf rules b) (applied b disk)) (cond z (left (refused 18 0) (stateOf rules b) (applied b disk)) (left (answer (length b + 1)) (handed (stateOf rules b) w) (applied b disk)))) .outcome
-          ≡ cond x (refused 16 0) (cond y (refused 17 0) (cond z (refused 18 0) (answer (suc (length b)))))
-      go true y z = refl
-      go false true z = refl
-      go false false true = refl
-      go false false false = ap answer (add-one (length b))
-
-  gives-only : (b : Book) → Fine rules b → (c : Call) (o : Outcome ℕ) → Gives rules disk b c o → o ≡ called c (at rules disk b .held) .outcome
-  gives-only b f c o g = sym (go c o g)
-    where
-      open-so : (file : List ℕ) (s : Lent) (o : Outcome ℕ) → (WrongLength (opening file s) → ⊥)
-          → openWith (readOf file) (lentTo s (stateOf rules b)) (applied b disk) .outcome ≡ o → called (opening file s) (at rules disk b .held) .outcome ≡ o
-      open-so file s o n e = unfold called in outcome-of (open-read file _ _ (right-state b f (opening file s) n)) ∙ e
-
-      go : (c : Call) (o : Outcome ℕ) → Gives rules disk b c o → called c (at rules disk b .held) .outcome ≡ o
-      go c o (wrong-length w) = by-length b c w
-      go c o (unsound n u) = by-soundness b f c n u
-      go c o (full {w} h) = handed-so b w f true _ _ (le-leb mostHeld (length b) h) refl refl
-      go c o (too-late {w} h l) = handed-so b w f false true _ (lt-leb mostHeld (length b) h) (true-late rules (accepted b) (flagAt b) w l) refl
-      go c o (ring {w} h n r) = handed-so b w f false false true (lt-leb mostHeld (length b) h) (not-late b w n) (true-needsRing rules (accepted b ++ (w ∷ [])) r)
-      go c o (taken {w} h n r) = handed-so b w f false false false (lt-leb mostHeld (length b) h) (not-late b w n) (no-ring b w r)
-      go c o (stored {i} w) = unfold called in outcome-of (step-book rules disk size b f) ∙ ap answer (earliest-ready b i f w)
-      go c o (idle h) = unfold called in outcome-of (step-book rules disk size b f) ∙ ap answer (nothing-ready b h)
-      go c o emptied = unfold called in outcome-of (drain-book rules disk size b f)
-      go c o (unread {file} {s} n e) = open-so file s o n (rw e (unfold openWith in refl))
-      go c o (with-tests {file} {s} {f = g} n e h) = open-so file s o n (rw e (unfold openWith in rw (lt-ltb 0 (length (g .tests)) h)))
-      go c o (with-cycle {file} {s} {f = g} n e h k) = open-so file s o n (rw e (unfold openWith in rw (le-ltb 0 (length (g .tests)) (omega arith), true-cyclic (g .rules) k)))
-      go c o (log-damaged {key} {d} n p) = unfold called valued in rw (refused-gets (lentTo d (applied b disk)) key (right-disk b (get key d) n) .1 p)
-      go c o (got {key} {d} v n p g) = unfold called valued in rw (get-given (lentTo d (applied b disk)) key v (right-disk b (get key d) n) p g)
-
-  -- ---- a step of the run's own
-
-  step-gives : (b : Book) → Fine rules b → (k : ℕ) → ready rules (accepted b) (flagAt b) ≡ k → Gives rules disk b (step own own) (answer k)
-  step-gives b f zero e = idle (λ i h. none-ready rules (accepted b) (flagAt b) (f .ringless) e i (subst (λ (n : ℕ). i < n) (sym (length-accepted b)) h))
-  step-gives b f (suc i) e = stored (ready-earliest rules (accepted b) (flagAt b) i e)
-
-  -- a call from what it gives and the next book
-  goes : (c : Call) (b next-book : Book) (o : Outcome ℕ) → Fine rules b → Gives rules disk b c o → next rules c (at rules disk b) ≡ at rules disk next-book → Fine rules next-book
-      → ((number place : ℕ) → o ≡ refused number place → next-book ≡ b) → ((key : ℕ) (d : Lent) → c ≡ get key d → next-book ≡ b)
-      → ((i : ℕ) → c ≡ step own own → o ≡ answer i → next-book ≡ flagging i b)
-      → (c ≡ drain own own → (at rules disk next-book ≡ steps rules (waitingIn b) (at rules disk b)) × ((i : ℕ) → i < length b → flagAt next-book i ≡ true))
-      → Goes rules disk c (at rules disk b)
-  goes c b next-book o fine g en f same still one each =
-      let eo = gives-only b fine c o g in (
-        record {
-          gives = subst (Gives rules disk b c) eo g;
-          only = gives-only b fine c;
-          nothing = λ n p q. en ∙ ap (at rules disk) (same n p (eo ∙ q));
-          unchanged = λ key d e. en ∙ ap (at rules disk) (still key d e);
-          one = λ i e q. ap (λ (m : Moment). m .book) en ∙ one i e (eo ∙ q);
-          each = λ e. en ∙ each e .0;
-          all = λ e i h. subst (λ (m : Moment). flagAt (m .book) i ≡ true) (sym en) (each e .1 i h);
-        },
-        subst (Mirrors rules disk) (sym en) (mirrored next-book f),
-      )
-
-  -- the next moment of a call on the run's own whose outcome and leavings are known
-  step-next : (b : Book) (l : Left) (k : ℕ) → stepOf (stateOf rules b) (applied b disk) ≡ l → l .outcome ≡ answer k
-      → next rules (step own own) (at rules disk b) ≡ record { held = record { state = l .state; disk = l .disk }; book = stepEntered rules b }
-  unfolding next ownAfter called noted entered isRefused
-  step-next b l k e o = rw (e, o)
-
-  drain-next : (b : Book) (l : Left) (k : ℕ) → drainOf (stateOf rules b) (applied b disk) ≡ l → l .outcome ≡ answer k
-      → next rules (drain own own) (at rules disk b) ≡ record { held = record { state = l .state; disk = l .disk }; book = stepsEntered rules (waitingIn b) b }
-  unfolding next ownAfter called noted entered isRefused
-  drain-next b l k e o = rw (e, o)
-
-  stepped-is : (b : Book) (i : ℕ) → ready rules (accepted b) (flagAt b) ≡ i → stepEntered rules b ≡ flagging i b
-  unfolding stepEntered
-  stepped-is b i e = ap (λ (n : ℕ). flagging n b) e
-
-  same-answer : (i j : ℕ) → answer i ≡ answer j → i ≡ j
-  same-answer i j e = cc
-
-  step-at : (b : Book) → Fine rules b → next rules (step own own) (at rules disk b) ≡ at rules disk (stepEntered rules b)
-  step-at b f = step-next b _ (ready rules (accepted b) (flagAt b)) (step-book rules disk size b f) refl
-
-  steps-at : (n : ℕ) (b : Book) → Fine rules b → steps rules n (at rules disk b) ≡ at rules disk (stepsEntered rules n b)
-  unfolding steps stepsEntered
-  steps-at zero b f = refl
-  steps-at (suc n) b f = ap (steps rules n) (step-at b f) ∙ steps-at n (stepEntered rules b) (fine-stepped rules b f)
-
-  answer-refused : {i number place : ℕ} → answer i ≡ refused number place → ⊥
-  answer-refused e = let z : _≡_ {A = ℕ} 0 1 = cc in omega arith
-
-  step-own : (b : Book) → Fine rules b → Goes rules disk (step own own) (at rules disk b)
-  step-own b f =
-      let k = ready rules (accepted b) (flagAt b) in
-      goes (step own own) b (stepEntered rules b) (answer k) f (step-gives b f k refl) (step-at b f) (fine-stepped rules b f)
-      (λ n p q. absurd (answer-refused q))
-      (λ key d c. absurd (let z : _≡_ {A = ℕ} 0 1 = cc in omega arith))
-      (λ i c q. stepped-is b i (same-answer k i q))
-      (λ c. absurd (let z : _≡_ {A = ℕ} 0 1 = cc in omega arith))
-
-  -- ---- a drain of the run's own
-
-  waiting-less : (b : Book) (i : ℕ) → i < length b → flagAt b i ≡ false → waitingIn b ≡ waitingIn (flagging (suc i) b) + 1
-  unfolding waitingIn
-  waiting-less b i h e =
-      rw (length-flagging b (suc i))
-      (count-one-more (λ x. not (flagAt (flagging (suc i) b) x)) (λ x. not (flagAt b x)) i (length b) h (rw (flag-here b i h)) (rw e) (λ j n. ap not (sym (flag-else b i j n))))
-
-  none-waits : (b : Book) → waitingIn b ≡ 0 → (i : ℕ) → i < length b → flagAt b i ≡ true
-  unfolding waitingIn
-  none-waits b e i h = not-false (flagAt b i) (count-none (λ x. not (flagAt b x)) (length b) e i h)
-
-  waits-none : (b : Book) → ((i : ℕ) → i < length b → flagAt b i ≡ true) → waitingIn b ≡ 0
-  unfolding waitingIn
-  waits-none b h = none-count (λ x. not (flagAt b x)) (length b) (λ i l. rw (h i l))
-
-  length-stepped : (b : Book) → length (stepEntered rules b) ≡ length b
-  unfolding stepEntered
-  length-stepped b = length-flagging b (ready rules (accepted b) (flagAt b))
-
-  -- a step leaves one waiting write less
-  one-less : (n : ℕ) (b : Book) → Fine rules b → waitingIn b ≤ suc n → waitingIn (stepEntered rules b) ≤ n
-  one-less n b f l = go (ready rules (accepted b) (flagAt b)) refl
-    where
-      go : (k : ℕ) → ready rules (accepted b) (flagAt b) ≡ k → waitingIn (stepEntered rules b) ≤ n
-      go zero e =
-          let z : stepEntered rules b ≡ b = stepped-is b 0 e ∙ unfold flagging in refl in
-          let w = waits-none b (λ i h. none-ready rules (accepted b) (flagAt b) (f .ringless) e i (subst (λ (x : ℕ). i < x) (sym (length-accepted b)) h)) in
-          rw z (omega arith)
-      go (suc i) e =
-          let w = ready-earliest rules (accepted b) (flagAt b) i e in
-          let h : i < length b = subst (λ (x : ℕ). i < x) (length-accepted b) (w .accepted) in
-          let c = waiting-less b i h (w .waits) in
-          rw (stepped-is b (suc i) e) (omega arith)
-
-  all-stored : (n : ℕ) (b : Book) → Fine rules b → waitingIn b ≤ n → (i : ℕ) → i < length b → flagAt (stepsEntered rules n b) i ≡ true
-  unfolding stepsEntered
-  all-stored zero b f l i h = none-waits b (omega arith) i h
-  all-stored (suc n) b f l i h = all-stored n (stepEntered rules b) (fine-stepped rules b f) (one-less n b f l) i (rw (length-stepped b) h)
-
-  drain-own : (b : Book) → Fine rules b → Goes rules disk (drain own own) (at rules disk b)
-  drain-own b f =
-      let k = waitingIn b in
-      goes (drain own own) b (stepsEntered rules k b) (answer k) f emptied (drain-next b _ k (drain-book rules disk size b f) refl) (fine-steps rules disk size k b f)
-      (λ n p q. absurd (answer-refused q))
-      (λ key d c. absurd (let z : _≡_ {A = ℕ} 0 1 = cc in omega arith))
-      (λ i c. absurd (let z : _≡_ {A = ℕ} 0 1 = cc in omega arith))
-      (λ c. (sym (steps-at k b f), all-stored k b f (omega arith)))
-
-  -- ---- refused calls
+  -- ..: one that leaves those of the next book leads to its moment
+  own-next : (c : Call) (b next-book : Book) (n : ℕ) → OwnLent c → calledBy (c .kind) (stateOf rules b) (applied b disk) ≡ left (answer n) (stateOf rules next-book) (applied next-book disk)
+      → entered rules (c .kind) b ≡ next-book → next rules c (at rules disk b) ≡ at rules disk next-book
+  unfolding next ownAfter noted isRefused
+  own-next c b next-book n o e g = let p = both-own (stateLent c) (diskLent c) o in rw (own-called c b o, e, p .0, p .1, g)
 
   -- a refused call leaves the run's own as it was
-  stays : (c : Call) (b : Book) (number place : ℕ) → called c (at rules disk b .held) .outcome ≡ refused number place → next rules c (at rules disk b) ≡ at rules disk b
-  unfolding next ownAfter noted isRefused
+  stays : (c : Call) (b : Book) (number place : ℕ) → outcome c b ≡ refused number place → next rules c (at rules disk b) ≡ at rules disk b
+  unfolding next ownAfter noted isRefused called
   stays c b number place e =
-      let k = called-leaves c (at rules disk b .held) number place e in
+      let k = leaves (c .kind) (lentTo (stateLent c) (stateOf rules b)) (lentTo (diskLent c) (applied b disk)) number place e in
       rw (e, k .0, k .1, kept-same (stateLent c) (stateOf rules b), kept-same (diskLent c) (applied b disk))
 
-  -- a drain of the run's own is not refused
-  not-refused : (c : Call) (b : Book) (number place : ℕ) → Fine rules b → Gives rules disk b c (refused number place) → c ≡ drain own own → ⊥
-  not-refused c b number place f g e = answer-refused (gives-only b f (drain own own) _ emptied ∙ sym (gives-only b f (drain own own) _ (subst (λ (x : Call). Gives rules disk b x (refused number place)) e g)))
+  -- ---- a get
 
-  refuses : (c : Call) (b : Book) (number place : ℕ) → Fine rules b → Gives rules disk b c (refused number place) → Goes rules disk c (at rules disk b)
-  refuses c b number place f g =
-      goes c b b (refused number place) f g (stays c b number place (sym (gives-only b f c (refused number place) g))) f
-      (λ n p q. refl)
-      (λ key d q. refl)
-      (λ i e q. absurd (answer-refused (sym q)))
-      (λ e. absurd (not-refused c b number place f g e))
+  get-stays : (key : ℕ) (s d : Lent) (b : Book) → next rules (call (get key) s d) (at rules disk b) ≡ at rules disk b
+  unfolding next ownAfter called calledBy noted entered
+  get-stays key s d b = rw (kept-same d (applied b disk), same (isRefused (valued (getOf (lentTo d (applied b disk)) key))))
+    where
+      same : (r : Bool) → cond r b b ≡ b
+      same true = refl
+      same false = refl
 
-  unusable : (c : Call) (b : Book) → Fine rules b → Unusable c → Goes rules disk c (at rules disk b)
-  unusable c b f u = ⊎-elim
-      (λ w. refuses c b 14 0 f (wrong-length w))
-      (λ n. ⊎-elim (λ w. absurd (n w)) (λ x. refuses c b 15 0 f (unsound n x)) u)
-      (decide-length c)
+  -- ---- a hand-in
 
-  -- ---- a hand-in to the run's own
+  -- what hand-in gives, by the book
+  abbrev handed-by : Book → Write → Left
+  handed-by b w = handedBy (leb mostHeld (length b)) (late rules (accepted b) (flagAt b) w) (needsRing rules (accepted b ++ (w ∷ []))) rules b w (applied b disk)
 
-  hand-next : (b : Book) (w : Write) (s : List ℕ) (k : ℕ) → handInOf w (stateOf rules b) (applied b disk) ≡ left (answer k) s (applied b disk)
-      → next rules (handIn w own) (at rules disk b) ≡ record { held = record { state = s; disk = applied b disk }; book = appended b w }
-  unfolding next ownAfter called noted entered isRefused
-  hand-next b w s k e = rw e
+  hand-book : (b : Book) (w : Write) → Lawful rules b → handInOf w (stateOf rules b) (applied b disk) ≡ handed-by b w
+  hand-book b w f = hand-entries rules b (f .fine) (lawful-words rules b f) w (applied b disk)
+
+  hand-gives : (w : Write) (lent : List ℕ) (b : Book) → Lawful rules b
+      → Gives (kindConditions rules lent b (handIn w)) (AnsweredAs rules lent b (handIn w)) (handInOf w (stateOf rules b) (applied b disk) .outcome)
+  unfolding kindConditions AnsweredAs handedBy
+  hand-gives w lent b f =
+      let ws = accepted b in
+      rw (hand-book b w f)
+      (tested-by 16 _ _ _ (handed-by b w .outcome) (leb mostHeld (length b)) (leb-true mostHeld (length b)) (le-leb mostHeld (length b)) (λ x. rw x)
+      (λ x. tested-by 17 _ _ _ (handed-by b w .outcome) (late rules ws (flagAt b) w) (late-true rules ws (flagAt b) w) (true-late rules ws (flagAt b) w) (λ y. rw (x, y))
+      (λ y. tested-by 18 _ _ _ (handed-by b w .outcome) (needsRing rules (ws ++ (w ∷ []))) (needsRing-true rules (ws ++ (w ∷ []))) (true-needsRing rules (ws ++ (w ∷ []))) (λ z. rw (x, y, z))
+      (λ z. done _ (suc (length b)) (handed-by b w .outcome) (rw (x, y, z) (ap answer (add-one (length b)))) refl))))
 
   applied-appended : (b : Book) (w : Write) (d : List ℕ) → applied (appended b w) d ≡ applied b d
   unfolding applied appended
   applied-appended [] w d = refl
   applied-appended (e ∷ b) w d = applied-appended b w (cond (e .flag) (storedOn d (e .write)) d)
 
-  hand-taken : (b : Book) (w : Write) → Fine rules b → WriteFits w → length b < mostHeld → (Late rules (accepted b) (flagAt b) w → ⊥) → (NeedsRing rules (accepted b ++ (w ∷ [])) → ⊥)
-      → handInOf w (stateOf rules b) (applied b disk) ≡ left (answer (length b + 1)) (handed (stateOf rules b) w) (applied b disk) → Goes rules disk (handIn w own) (at rules disk b)
-  hand-taken b w f fw h nl nr e =
-      goes (handIn w own) b (appended b w) (answer (suc (length b))) f (taken h nl nr) (hand-next b w (handed (stateOf rules b) w) (length b + 1) e ∙ place)
-      (fine-appended rules b w f h fw nl nr)
-      (λ n p q. absurd (answer-refused q))
-      (λ key d c. absurd (let z : _≡_ {A = ℕ} 0 1 = cc in omega arith))
-      (λ i c. absurd (let z : _≡_ {A = ℕ} 0 1 = cc in omega arith))
-      (λ c. absurd (let z : _≡_ {A = ℕ} 0 1 = cc in omega arith))
-    where
-      place : record { held = record { state = handed (stateOf rules b) w; disk = applied b disk }; book = appended b w } ≡ at rules disk (appended b w)
-      place = rw (handed-state rules b w (f .rules-most) h, applied-appended b w disk)
+  hand-taken : (w : Write) (lent : List ℕ) (b : Book) (n : ℕ) → Lawful rules b → WriteFits w → Gives (kindConditions rules lent b (handIn w)) (AnsweredAs rules lent b (handIn w)) (answer n)
+      → (handInOf w (stateOf rules b) (applied b disk) ≡ left (answer (length b + 1)) (stateOf rules (appended b w)) (applied (appended b w) disk)) × Lawful rules (appended b w)
+  unfolding kindConditions handedBy
+  hand-taken w lent b n f fits g =
+      let p = past 16 _ _ _ n g in
+      let q = past 17 _ _ _ n (p .1) in
+      let r = past 18 _ _ _ n (q .1) in
+      let ws = accepted b in
+      let x : length b < mostHeld = let m = p .0 in omega arith in
+      let y = untrue (late rules ws (flagAt b) w) (λ e. q .0 (late-true rules ws (flagAt b) w e)) in
+      let z = untrue (needsRing rules (ws ++ (w ∷ []))) (λ e. r .0 (needsRing-true rules (ws ++ (w ∷ [])) e)) in
+      (hand-book b w f ∙ rw (lt-leb mostHeld (length b) x, y, z, applied-appended b w disk), lawful-appended rules b w f x fits (q .0) (r .0))
 
-  hand-own : (b : Book) (w : Write) → Fine rules b → WriteFits w → Goes rules disk (handIn w own) (at rules disk b)
-  hand-own b w f fw = go (leb mostHeld (length b)) (late rules (accepted b) (flagAt b) w) (needsRing rules (accepted b ++ (w ∷ []))) refl refl refl
+  -- ---- a step
+
+  -- what a step answers is the place of the write that is found
+  ready-stores : (b : Book) → Lawful rules b → (k : ℕ) → ready rules (accepted b) (flagAt b) ≡ k → StepAnswer rules b k
+  unfolding StepAnswer
+  ready-stores b f zero e = λ i h. none-ready rules (accepted b) (flagAt b) (f .fine .ringless) e i (subst (λ (n : ℕ). i < n) (sym (length-accepted b)) h)
+  ready-stores b f (suc i) e = ready-earliest rules (accepted b) (flagAt b) i e
+
+  stores-one : (b : Book) (m n : ℕ) → StepAnswer rules b m → StepAnswer rules b n → m ≡ n
+  unfolding StepAnswer
+  stores-one b m n u v = go m n u v
     where
-      go : (x y z : Bool) → leb mostHeld (length b) ≡ x → late rules (accepted b) (flagAt b) w ≡ y → needsRing rules (accepted b ++ (w ∷ [])) ≡ z → Goes rules disk (handIn w own) (at rules disk b)
-      go true y z ex ey ez = refuses (handIn w own) b 16 0 f (full (leb-true mostHeld (length b) ex))
-      go false true z ex ey ez = refuses (handIn w own) b 17 0 f (too-late (leb-false mostHeld (length b) ex) (late-true rules (accepted b) (flagAt b) w ey))
-      go false false true ex ey ez =
-          refuses (handIn w own) b 18 0 f
-          (ring (leb-false mostHeld (length b) ex) (λ l. false≢true (sym ey ∙ true-late rules (accepted b) (flagAt b) w l)) (needsRing-true rules (accepted b ++ (w ∷ [])) ez))
-      go false false false ex ey ez =
-          hand-taken b w f fw (leb-false mostHeld (length b) ex) (λ l. false≢true (sym ey ∙ true-late rules (accepted b) (flagAt b) w l))
-          (λ r. false≢true (sym ez ∙ true-needsRing rules (accepted b ++ (w ∷ [])) r)) (hand-book b w f ∙ (unfold handed-by in rw (ex, ey, ez)))
+      waits : (i : ℕ) → Earliest rules (accepted b) (flagAt b) i → ((j : ℕ) → j < length b → flagAt b j ≡ true) → ⊥
+      waits i u h = false≢true (sym (u .waits) ∙ h i (subst (λ (x : ℕ). i < x) (length-accepted b) (u .accepted)))
+
+      go : (m n : ℕ) → StepAnswer rules b m → StepAnswer rules b n → m ≡ n
+      go zero zero u v = refl
+      go zero (suc k) u v = absurd (waits k v u)
+      go (suc i) zero u v = absurd (waits i u v)
+      go (suc i) (suc k) u v = elim (decLt i k) [
+        | yes l ↦ absurd (v .first i l (u .waits) (u .met))
+        | no g ↦ elim (decLt k i) [ yes l ↦ absurd (u .first k l (v .waits) (v .met)) | no h ↦ omega arith ]
+      ]
+
+  stored-is : (b : Book) → Lawful rules b → (n : ℕ) → StepAnswer rules b n → stepEntered rules b ≡ flagging n b
+  unfolding stepEntered
+  stored-is b f n s = ap (λ (k : ℕ). flagging k b) (stores-one b _ n (ready-stores b f _ refl) s)
+
+  step-at : (b : Book) → Lawful rules b → next rules (onOwn step) (at rules disk b) ≡ at rules disk (stepEntered rules b)
+  step-at b f = own-next (onOwn step) b _ (ready rules (accepted b) (flagAt b)) refl (unfold calledBy in step-book rules disk size b f) (unfold entered in refl)
+
+  -- some steps
+  steps-at : (n : ℕ) (b : Book) → Lawful rules b → after rules (replicate n (onOwn step)) (at rules disk b) ≡ at rules disk (stepsEntered rules n b)
+  unfolding after stepsEntered
+  steps-at zero b f = refl
+  steps-at (suc n) b f = ap (after rules (replicate n (onOwn step))) (step-at b f) ∙ steps-at n (stepEntered rules b) (lawful-stepped rules b f)
+
+  -- ---- a drain
+
+  drain-at : (c : Call) (b : Book) → Lawful rules b → c .kind ≡ drain → OwnLent c → next rules c (at rules disk b) ≡ at rules disk (stepsEntered rules (waitingIn b) b)
+  drain-at c b f e o = own-next c b _ (waitingIn b) o (rw e (unfold calledBy in drain-book rules disk size b f)) (rw e (unfold entered in refl))
+
+  length-steps : (n : ℕ) (b : Book) → length (stepsEntered rules n b) ≡ length b
+  unfolding stepsEntered stepEntered
+  length-steps zero b = refl
+  length-steps (suc n) b = length-steps n _ ∙ length-flagging b (ready rules (accepted b) (flagAt b))
+
+  -- none waits in the state that it leaves, and that is the book's
+  all-stored : (b : Book) → Lawful rules b → (i : ℕ) → i < length b → flagAt (stepsEntered rules (waitingIn b) b) i ≡ true
+  all-stored b f i h =
+      let drained = stepsEntered rules (waitingIn b) b in
+      let l : i < length drained = rw (length-steps (waitingIn b) b) h in
+      let none = drains (stateOf rules b) (applied b disk) (lawful-sound rules b f) (length-applied b disk ∙ size) .after in
+      sym (state-flags rules drained (f .fine .rules-most) i) ∙ (rw (drain-book rules disk size b f) at none) i (rw (state-accepted rules drained (f .fine .rules-most)) l)
+
+  -- ---- every kind: what is given
+
+  further-gives : (k : Kind) (s d : Lent) (b : Book) → Lawful rules b → Listed (call k s d) → (WrongLength (call k s d) → ⊥) → (UnsoundLent (call k s d) → ⊥)
+      → Gives (kindConditions rules (lentDisk disk b (call k s d)) b k) (Answered rules disk b (call k s d)) (outcome (call k s d) b)
+  unfolding ListedAs
+  further-gives (opening file) s d b f l n v = unfold called calledBy in open-gives rules b file _ _ _ (right-state (call (opening file) s d) b f n)
+  further-gives (handIn w) s d b f l n v =
+      let c = call (handIn w) s d in
+      subst (Gives _ _) (sym (outcome-of (own-called c b (own-usable c (l .1) n v)))) (unfold calledBy in hand-gives w (lentDisk disk b c) b f)
+  further-gives step s d b f l n v =
+      let c = call step s d in
+      unfold kindConditions AnsweredAs calledBy in (done _ _ _ (outcome-of (own-called c b (own-usable c l n v) ∙ step-book rules disk size b f)) (ready-stores b f _ refl))
+  further-gives drain s d b f l n v =
+      let c = call drain s d in
+      unfold kindConditions AnsweredAs calledBy in (done _ _ _ (outcome-of (own-called c b (own-usable c l n v) ∙ drain-book rules disk size b f)) refl)
+  further-gives (get key) s d b f l n v = unfold called calledBy in get-gives rules b key _ (right-disk (call (get key) s d) b n)
+
+  -- the buffers come first, whatever the kind
+  given : (k : Kind) (s d : Lent) (b : Book) → Lawful rules b → Listed (call k s d) → GivenBy rules disk b (call k s d) (outcome (call k s d) b)
+  unfolding conditions
+  given k s d b f l =
+      let c = call k s d in
+      tested 14 (WrongLength c) _ _ _ (decide-length c) (by-length k s d (at rules disk b .held))
+      (λ n. tested 15 (UnsoundLent c) _ _ _ (decide-soundness c) (by-soundness k s d (at rules disk b .held) (right-state c b f n) (right-disk c b n))
+      (λ v. further-gives k s d b f l n v))
+
+  -- and nothing else
+  further-single : (lent : List ℕ) (b : Book) (k : Kind) → Singles (kindConditions rules lent b k)
+  unfolding kindConditions Singles
+  further-single lent b (opening file) = ((λ x y i j p q. cc), (by-single _ _, (by-single _ _, tt)))
+  further-single lent b (handIn w) = (by-single _ _, (by-single _ _, (by-single _ _, tt)))
+  further-single lent b step = tt
+  further-single lent b drain = tt
+  further-single lent b (get key) = (by-single _ _, tt)
+
+  answered-one : (lent : List ℕ) (b : Book) (k : Kind) (m n : ℕ) → AnsweredAs rules lent b k m → AnsweredAs rules lent b k n → m ≡ n
+  unfolding AnsweredAs
+  answered-one lent b (opening file) m n g h = g ∙ sym h
+  answered-one lent b (handIn w) m n g h = g ∙ sym h
+  answered-one lent b step m n g h = stores-one b m n g h
+  answered-one lent b drain m n g h = g ∙ sym h
+  answered-one lent b (get key) m n g h = g .2 ∙ ap valueCode (gets-one lent key (g .0) (h .0) (g .1) (h .1)) ∙ sym (h .2)
+
+  given-one : (c : Call) (b : Book) (o p : Outcome ℕ) → GivenBy rules disk b c o → GivenBy rules disk b c p → o ≡ p
+  given-one c b =
+      gives-one (conditions rules disk b c) (Answered rules disk b c) (unfold conditions Singles in (by-single _ _, (by-single _ _, further-single _ b (c .kind)))) (answered-one _ b (c .kind))
+
+  -- ---- every kind: what is left
+
+  -- a call that answers leads to the moment of the book that it is entered in
+  moves-on : (k : Kind) (s d : Lent) (b : Book) → Lawful rules b → Listed (call k s d) → (WrongLength (call k s d) → ⊥) → (UnsoundLent (call k s d) → ⊥)
+      → (n : ℕ) → Gives (kindConditions rules (lentDisk disk b (call k s d)) b k) (Answered rules disk b (call k s d)) (answer n)
+      → (next rules (call k s d) (at rules disk b) ≡ at rules disk (entered rules k b)) × Lawful rules (entered rules k b)
+  unfolding ListedAs entered isRefused
+  moves-on (opening file) s d b f l u v n g = absurd (⊎-elim u (λ x. false≢true (opens-none rules b file _ (answer n) g .0 x)) l)
+  moves-on (handIn w) s d b f l u v n g =
+      let c = call (handIn w) s d in
+      let t = hand-taken w _ b n f (l .0) g in
+      (own-next c b (appended b w) (length b + 1) (own-usable c (l .1) u v) (unfold calledBy in t .0) refl, t .1)
+  moves-on step s d b f l u v n g =
+      let c = call step s d in
+      (own-next c b (stepEntered rules b) (ready rules (accepted b) (flagAt b)) (own-usable c l u v) (unfold calledBy in step-book rules disk size b f) refl, lawful-stepped rules b f)
+  moves-on drain s d b f l u v n g = let c = call drain s d in (drain-at c b f refl (own-usable c l u v), lawful-steps rules (waitingIn b) b f)
+  moves-on (get key) s d b f l u v n g = (get-stays key s d b, f)
+
+  moves : (c : Call) (b : Book) → Lawful rules b → Listed c → (n : ℕ) → GivenBy rules disk b c (answer n)
+      → (next rules c (at rules disk b) ≡ at rules disk (entered rules (c .kind) b)) × Lawful rules (entered rules (c .kind) b)
+  unfolding conditions
+  moves c b f l n g =
+      let p = past 14 (WrongLength c) _ _ n g in
+      let q = past 15 (UnsoundLent c) _ _ n (p .1) in
+      moves-on (c .kind) (c .state) (c .disk) b f l (p .0) (q .0) n (q .1)
+
+  -- ---- every kind: what it counts as
+
+  -- it leaves what those leave
+  counts : (k : Kind) (s d : Lent) (b : Book) → Lawful rules b → next rules (call k s d) (at rules disk b) ≡ after rules (counted rules (call k s d) (at rules disk b)) (at rules disk b)
+  unfolding after countedAs
+  counts (opening file) s d b f = refl
+  counts (handIn w) s d b f = refl
+  counts step s d b f = refl
+  counts drain s d b f = go (ownLent (call drain s d)) refl
+    where
+      go : (x : Bool) → ownLent (call drain s d) ≡ x
+          → next rules (call drain s d) (at rules disk b) ≡ after rules (cond x (replicate (waitingIn b) (onOwn step)) (call drain s d ∷ [])) (at rules disk b)
+      go true e = drain-at (call drain s d) b f refl e ∙ sym (steps-at (waitingIn b) b f)
+      go false e = refl
+  counts (get key) s d b f = refl
+
+  abbrev AllListed : List Call → Type 0
+  AllListed cs = (c : Call) → List·Memᴰ c cs → Listed c
+
+  itself-listed : (c : Call) → Listed c → AllListed (c ∷ [])
+  itself-listed c l x h = subst Listed (sym (List·Memᴰ·eq-of-singleton h)) l
+
+  steps-listed : (n : ℕ) → AllListed (replicate n (onOwn step))
+  unfolding ListedAs
+  steps-listed zero x h = absurd (List·Memᴰ·not-nil h)
+  steps-listed (suc n) x h = ⊎-elim (λ (e : x ≡ onOwn step). subst Listed (sym e) (inl refl)) (steps-listed n x) (List·Memᴰ·cases-cons h)
+
+  -- and those are calls of a list too
+  counted-listed : (k : Kind) (s d : Lent) (m : Moment) → Listed (call k s d) → AllListed (counted rules (call k s d) m)
+  unfolding countedAs
+  counted-listed (opening file) s d m l = itself-listed _ l
+  counted-listed (handIn w) s d m l = itself-listed _ l
+  counted-listed step s d m l = itself-listed _ l
+  counted-listed drain s d m l = go (ownLent (call drain s d))
+    where
+      go : (x : Bool) → AllListed (cond x (replicate (waitingIn (m .book)) (onOwn step)) (call drain s d ∷ []))
+      go true = steps-listed (waitingIn (m .book))
+      go false = itself-listed (call drain s d) l
+  counted-listed (get key) s d m l = itself-listed _ l
 
   -- ---- every call, every list
 
-  open-goes : (file : List ℕ) (s : Lent) (b : Book) → Fine rules b → WrongLength (opening file s) ⊎ OpensNone (readOf file) → Goes rules disk (opening file s) (at rules disk b)
-  unfolding OpensNone
-  open-goes file s b f l = ⊎-elim
-      (λ w. refuses (opening file s) b 14 0 f (wrong-length w))
-      (λ n. ⊎-elim (λ w. absurd (n w)) (λ x. read n (readOf file) refl x) l)
-      (decide-length (opening file s))
+  call-goes : (c : Call) (b : Book) → Lawful rules b → Listed c → Goes rules disk c (at rules disk b)
+  call-goes c b f l = (
+    record {
+      gives = g;
+      only = λ o h. given-one c b o _ h g;
+      nothing = stays c b;
+      unchanged = λ key e. subst (λ (k : Kind). next rules (call k (c .state) (c .disk)) (at rules disk b) ≡ at rules disk b) (sym e) (get-stays key (c .state) (c .disk) b);
+      one = λ i e q. ap (λ (m : Moment). m .book) (moves c b f l i (so (answer i) q) .0) ∙ rw e (unfold entered in stored-is b f i (stores i e (so (answer i) q)));
+      each = counts (c .kind) (c .state) (c .disk) b f;
+      all = λ e o i h. rw (drain-at c b f e o) (all-stored b f i h);
+    },
+    turn (outcome c b) refl,
+  )
     where
-      read : (WrongLength (opening file s) → ⊥) → (r : Outcome File) → readOf file ≡ r → OpensNone r → Goes rules disk (opening file s) (at rules disk b)
-      read n (refused number place) q x = refuses (opening file s) b number place f (unread n q)
-      read n (answer g) q x = elim (decLt 0 (length (g .tests))) [
-        | yes h ↦ refuses (opening file s) b 22 0 f (with-tests n q h)
-        | no h ↦ refuses (opening file s) b 8 0 f (with-cycle n q (omega arith) (⊎-elim (λ y. absurd (h y)) (λ y. y) x))
-      ]
+      g : GivenBy rules disk b c (outcome c b)
+      g = given (c .kind) (c .state) (c .disk) b f l
 
-  get-stays : (key : ℕ) (d : Lent) (b : Book) → next rules (get key d) (at rules disk b) ≡ at rules disk b
-  unfolding next ownAfter called noted entered
-  get-stays key d b = rw (kept-same d (applied b disk), same (isRefused (valued (getOf (lentTo d (applied b disk)) key))))
-    where
-      same : (r : Bool) → cond r b b ≡ b
-      same true = refl
-      same false = refl
+      so : (o : Outcome ℕ) → outcome c b ≡ o → GivenBy rules disk b c o
+      so o e = subst (GivenBy rules disk b c) e g
 
-  get-goes : (key : ℕ) (d : Lent) (b : Book) → Fine rules b → Goes rules disk (get key d) (at rules disk b)
-  get-goes key d b f = ⊎-elim
-      (λ w. refuses (get key d) b 14 0 f (wrong-length w))
-      (λ n. ⊎-elim
-      (λ e. refuses (get key d) b 21 0 f (log-damaged n (refused-gets (lentTo d (applied b disk)) key (right-disk b (get key d) n) .0 e)))
-      (λ v. goes (get key d) b b (answer (valueCode (v .0))) f (got (v .0) n (on-disk n (v .0) (v .1)) (get-answers (lentTo d (applied b disk)) key (v .0) (v .1))) (get-stays key d b) f
-      (λ m p q. refl)
-      (λ k l c. refl)
-      (λ i c. absurd (let z : _≡_ {A = ℕ} 0 1 = cc in omega arith))
-      (λ c. absurd (let z : _≡_ {A = ℕ} 0 1 = cc in omega arith)))
-      (get-right (lentTo d (applied b disk)) key (right-disk b (get key d) n)))
-      (decide-length (get key d))
-    where
-      on-disk : (WrongLength (get key d) → ⊥) → (v : Option ℕ) → getOf (lentTo d (applied b disk)) key ≡ answer v → LogDamaged (lentTo d (applied b disk)) → ⊥
-      on-disk n v e p =
-          let q = refused-gets (lentTo d (applied b disk)) key (right-disk b (get key d) n) .1 p in
-          let z : _≡_ {A = ℕ} 0 1 = cc in
-          absurd (omega arith)
+      stores : (n : ℕ) → c .kind ≡ step → GivenBy rules disk b c (answer n) → StepAnswer rules b n
+      stores n k h = unfold AnsweredAs in (rw k at (gives-answer (conditions rules disk b c) (Answered rules disk b c) n h))
 
-  call-goes : (c : Call) (b : Book) → Fine rules b → Listed c → Goes rules disk c (at rules disk b)
-  unfolding Listed
-  call-goes (opening file s) b f l = open-goes file s b f l
-  call-goes (handIn w s) b f l =
-      ⊎-elim (λ o. subst (λ (x : Lent). Goes rules disk (handIn w x) (at rules disk b)) (sym (own-is s (o .0))) (hand-own b w f (l .0))) (unusable (handIn w s) b f) (l .1)
-  call-goes (step s d) b f l =
-      ⊎-elim (λ o. subst₂ (λ (x y : Lent). Goes rules disk (step x y) (at rules disk b)) (sym (own-is s (o .0))) (sym (own-is d (o .1))) (step-own b f)) (unusable (step s d) b f) l
-  call-goes (drain s d) b f l =
-      ⊎-elim (λ o. subst₂ (λ (x y : Lent). Goes rules disk (drain x y) (at rules disk b)) (sym (own-is s (o .0))) (sym (own-is d (o .1))) (drain-own b f)) (unusable (drain s d) b f) l
-  call-goes (get key d) b f l = get-goes key d b f
+      turn : (o : Outcome ℕ) → outcome c b ≡ o → Mirrors rules disk (next rules c (at rules disk b))
+      turn (answer n) e = let m = moves c b f l n (so (answer n) e) in subst (Mirrors rules disk) (sym (m .0)) (mirrored (entered rules (c .kind) b) (m .1))
+      turn (refused number place) e = subst (Mirrors rules disk) (sym (stays c b number place e)) (mirrored b f)
 
   call-goes-on : (c : Call) (m : Moment) → Mirrors rules disk m → Listed c → Goes rules disk c m
   call-goes-on c m k l = subst (Goes rules disk c) (sym (k .same)) (call-goes c (m .book) (k .fine) l)
@@ -424,90 +348,56 @@ module _ (rules : List Rule) (disk : List ℕ) (size : length disk ≡ diskLengt
   safe-on : (m : Moment) → Mirrors rules disk m → Safe rules disk m
   safe-on m k = subst (Safe rules disk) (sym (k .same)) (safe (m .book) (k .fine))
 
-  -- the moments inside a drain are those of its steps
-  within-safe : (c : Call) (b : Book) → Fine rules b → (m : Moment) → List·Memᴰ m (within rules c (at rules disk b)) → Safe rules disk m
-  unfolding within
-  within-safe (opening file s) b f m h = absurd (List·Memᴰ·not-nil h)
-  within-safe (handIn w s) b f m h = absurd (List·Memᴰ·not-nil h)
-  within-safe (step s d) b f m h = absurd (List·Memᴰ·not-nil h)
-  within-safe (drain own own) b f m h =
-      let i = mem-index h (at rules disk b) in
-      let n = length-tabulate (λ k. steps rules k (at rules disk b)) (waitingIn b) in
-      let l = i .1 in
-      let e : m ≡ at rules disk (stepsEntered rules (i .0) b) = sym (i .2) ∙ getD-tabulate (λ k. steps rules k (at rules disk b)) (waitingIn b) (i .0) (at rules disk b) (omega arith) ∙ steps-at (i .0) b f in
-      subst (Safe rules disk) (sym e) (safe (stepsEntered rules (i .0) b) (fine-steps rules disk size (i .0) b f))
-  within-safe (drain own (other d)) b f m h = absurd (List·Memᴰ·not-nil h)
-  within-safe (drain (other s) d) b f m h = absurd (List·Memᴰ·not-nil h)
-  within-safe (get key d) b f m h = absurd (List·Memᴰ·not-nil h)
+  turned : (c : Call) (cs : List Call) (n : Moment) → Mirrors rules disk n → AllListed (c ∷ cs) → Mirrors rules disk (next rules c n)
+  turned c cs n k l = call-goes-on c n k (l c (List·Memᴰ·head refl)) .1
 
-  within-safe-on : (c : Call) (n : Moment) → Mirrors rules disk n → (m : Moment) → List·Memᴰ m (within rules c n) → Safe rules disk m
-  within-safe-on c n k m h = within-safe c (n .book) (k .fine) m (subst (λ (x : Moment). List·Memᴰ m (within rules c x)) (k .same) h)
-
-  moments-safe : (cs : List Call) (n : Moment) → Mirrors rules disk n → ((c : Call) → List·Memᴰ c cs → Listed c)
-      → (m : Moment) → List·Memᴰ m (moments rules cs n) → Safe rules disk m
-  unfolding moments
-  moments-safe [] n k l m h = ⊎-elim (λ (e : m ≡ n). subst (Safe rules disk) (sym e) (safe-on n k)) (λ i. absurd (List·Memᴰ·not-nil i)) (List·Memᴰ·cases-cons h)
-  moments-safe (c ∷ cs) n k l m h = ⊎-elim
+  passed-safe : (cs : List Call) (n : Moment) → Mirrors rules disk n → AllListed cs → (m : Moment) → List·Memᴰ m (passed rules cs n) → Safe rules disk m
+  unfolding passed
+  passed-safe [] n k l m h = ⊎-elim (λ (e : m ≡ n). subst (Safe rules disk) (sym e) (safe-on n k)) (λ i. absurd (List·Memᴰ·not-nil i)) (List·Memᴰ·cases-cons h)
+  passed-safe (c ∷ cs) n k l m h = ⊎-elim
       (λ (e : m ≡ n). subst (Safe rules disk) (sym e) (safe-on n k))
-      (λ i. ⊎-elim
-      (λ j. within-safe-on c n k m j)
-      (λ j. moments-safe cs (next rules c n) (call-goes-on c n k (l c (List·Memᴰ·head refl)) .1) (λ d x. l d (List·Memᴰ·tail x)) m j)
-      (List·Memᴰ·append-cases (within rules c n) i))
+      (λ i. passed-safe cs (next rules c n) (turned c cs n k l) (λ d x. l d (List·Memᴰ·tail x)) m i)
       (List·Memᴰ·cases-cons h)
 
-  steps-mirror : (i : ℕ) (n : Moment) → Mirrors rules disk n → Mirrors rules disk (steps rules i n)
-  steps-mirror i n k =
-      subst (Mirrors rules disk) (sym (ap (steps rules i) (k .same) ∙ steps-at i (n .book) (k .fine)))
-      (mirrored (stepsEntered rules i (n .book)) (fine-steps rules disk size i (n .book) (k .fine)))
+  moments-safe : (cs : List Call) (n : Moment) → Mirrors rules disk n → AllListed cs → (m : Moment) → List·Memᴰ m (moments rules cs n) → Safe rules disk m
+  unfolding moments inner
+  moments-safe [] n k l m h = passed-safe [] n k l m (unfold passed in h)
+  moments-safe (c ∷ cs) n k l m h = ⊎-elim
+      (λ i. passed-safe (counted rules c n) n k (counted-listed (c .kind) (c .state) (c .disk) n (l c (List·Memᴰ·head refl))) m i)
+      (λ i. moments-safe cs (next rules c n) (turned c cs n k l) (λ d x. l d (List·Memᴰ·tail x)) m i)
+      (List·Memᴰ·append-cases (inner rules c n) h)
 
-  made-answers : (cs : List Call) (n : Moment) → Mirrors rules disk n → ((c : Call) → List·Memᴰ c cs → Listed c)
-      → (c : Call) (m : Moment) → Made rules cs n c m → Answers rules disk c m
+  made-answers : (cs : List Call) (n : Moment) → Mirrors rules disk n → AllListed cs → (c : Call) (m : Moment) → Made rules cs n c m → Answers rules disk c m
   made-answers cs n k l c m now = call-goes-on c n k (l c (List·Memᴰ·head refl)) .0
-  made-answers (drain own own ∷ cs) n k l c m (inside {n = i} h) =
-      call-goes-on (step own own) (steps rules i n) (steps-mirror i n k) (unfold Listed in inl (tt, tt)) .0
-  made-answers (d ∷ cs) n k l c m (later x) =
-      made-answers cs (next rules d n) (call-goes-on d n k (l d (List·Memᴰ·head refl)) .1) (λ e y. l e (List·Memᴰ·tail y)) c m x
+  made-answers (d ∷ cs) n k l c m (later x) = made-answers cs (next rules d n) (turned d cs n k l) (λ e y. l e (List·Memᴰ·tail y)) c m x
+  made-answers (d ∷ cs) n k l c m (inside x) = made-answers (counted rules d n) n k (counted-listed (d .kind) (d .state) (d .disk) n (l d (List·Memᴰ·head refl))) c m x
 
-  after-mirror : (cs : List Call) (n : Moment) → Mirrors rules disk n → ((c : Call) → List·Memᴰ c cs → Listed c) → Mirrors rules disk (after rules cs n)
+  after-mirror : (cs : List Call) (n : Moment) → Mirrors rules disk n → AllListed cs → Mirrors rules disk (after rules cs n)
   unfolding after
   after-mirror [] n k l = k
-  after-mirror (c ∷ cs) n k l = after-mirror cs (next rules c n) (call-goes-on c n k (l c (List·Memᴰ·head refl)) .1) (λ d x. l d (List·Memᴰ·tail x))
+  after-mirror (c ∷ cs) n k l = after-mirror cs (next rules c n) (turned c cs n k l) (λ d x. l d (List·Memᴰ·tail x))
 
 -- ---- the start
 
--- an accepted opening's file has no tests and no cyclic rules, and its state is the rules' bytes
+-- an accepted opening's rules are not cyclic, and its state is theirs
 open-accepted : (file s d : List ℕ) (g : File) → readOf file ≡ answer g → openOf file s d .outcome ≡ answer 0
-    → (cyclic (g .rules) ≡ false) × (openOf file s d .state ≡ State.opened (g .rules))
-unfolding openOf
-open-accepted file s d g e o = go (eqb (length s) stateSize) (readOf file) e o
+    → (Cyclic (g .rules) → ⊥) × (openOf file s d .state ≡ State.opened (g .rules))
+unfolding isRefused
+open-accepted file s d g q e = elim (ℕ-discrete (length s) stateSize) [ no n ↦ absurd (answer-refused (sym e ∙ outcome-of (opens file s d .wrong-length n))) | yes size ↦ right size ]
   where
-    two : (x y : Bool) → cyclic (g .rules) ≡ y → cond x (left (refused 22 0) s d) (cond y (left (refused 8 0) s d) (left (answer 0) (State.opened (g .rules)) d)) .outcome ≡ answer 0
-        → (cyclic (g .rules) ≡ false) × (cond x (left (refused 22 0) s d) (cond y (left (refused 8 0) s d) (left (answer 0) (State.opened (g .rules)) d)) .state ≡ State.opened (g .rules))
-    two true y q h = absurd (let z : _≡_ {A = ℕ} 0 1 = cc in omega arith)
-    two false true q h = absurd (let z : _≡_ {A = ℕ} 0 1 = cc in omega arith)
-    two false false q h = (q, refl)
+    opened : length s ≡ stateSize → OpensNone file → ⊥
+    opened size x = false≢true (sym (ap isRefused e) ∙ opens-none [] [] file [] _ (open-gives [] [] file s d [] size) .0 x)
 
-    go : (b : Bool) (r : Outcome File) → r ≡ answer g → cond b (openWith r s d) (left (refused 14 0) s d) .outcome ≡ answer 0
-        → (cyclic (g .rules) ≡ false) × (cond b (openWith r s d) (left (refused 14 0) s d) .state ≡ State.opened (g .rules))
-    go false r q h = absurd (let z : _≡_ {A = ℕ} 0 1 = cc in omega arith)
-    go true r q h = rw q (unfold openWith in two (ltb 0 (length (g .tests))) (cyclic (g .rules)) refl (rw (q, openWith) at h))
+    right : length s ≡ stateSize → (Cyclic (g .rules) → ⊥) × (openOf file s d .state ≡ State.opened (g .rules))
+    right size =
+        let tests : length (g .tests) ≡ 0 = let n : 0 < length (g .tests) → ⊥ = λ h. opened size (inr (inl (g, q, h))) in omega arith in
+        let acyclic : Cyclic (g .rules) → ⊥ = λ c. opened size (inr (inr (g, q, c))) in
+        (acyclic, ap (λ (l : Left). l .state) (opens file s d .taken size g q tests acyclic .3))
 
-fine-start : (file : List ℕ) (g : File) → readOf file ≡ answer g → cyclic (g .rules) ≡ false → Fine (g .rules) []
-fine-start file g e c =
+lawful-start : (file : List ℕ) (g : File) → readOf file ≡ answer g → (Cyclic (g .rules) → ⊥) → Lawful (g .rules) []
+lawful-start file g e c =
     let l = holding-limits file g e .0 in
-    record {
-      known = l .known;
-      acyclic = λ x. false≢true (sym c ∙ true-cyclic (g .rules) x);
-      rules-most = l .rules;
-      most = omega arith;
-      fits = λ j h. absurd (omega arith);
-      closed = λ i j p. absurd (false≢true (unfold flagAt in p));
-      ringless = λ r. unfold NeedsRing in absurd (no-needs (r .1));
-    }
-  where
-    no-needs : {i j : ℕ} → Plus (Needs (g .rules) []) i j → ⊥
-    no-needs (Plus.one n) = let h = needs-left (g .rules) [] _ _ n in omega arith
-    no-needs (Plus.more n p) = let h = needs-left (g .rules) [] _ _ n in omega arith
+    record { fine = holdable-none (g .rules) (l .rules) (l .known) c; fits = λ j h. absurd (omega arith) }
 
 begun-at : (rules : List Rule) (disk s : List ℕ) → s ≡ stateOf rules [] → begun s disk ≡ at rules disk []
 unfolding applied
@@ -517,8 +407,8 @@ begun-mirrors : (file state disk : List ℕ) (g : File) → readOf file ≡ answ
     → Mirrors (g .rules) disk (begun (openOf file state disk .state) disk)
 begun-mirrors file state disk g e o =
     let a = open-accepted file state disk g e o in
-    let f = fine-start file g e (a .0) in
-    let s : openOf file state disk .state ≡ stateOf (g .rules) [] = a .1 ∙ opened-state (g .rules) (f .rules-most) in
+    let f = lawful-start file g e (a .0) in
+    let s : openOf file state disk .state ≡ stateOf (g .rules) [] = a .1 ∙ opened-state (g .rules) (f .fine .rules-most) in
     record { fine = f; same = begun-at (g .rules) disk (openOf file state disk .state) s }
 
 -- demand 3
@@ -533,8 +423,8 @@ demand3 file state disk g calls e o size listed =
 -- after the calls of a list, n calls of step are n steps of the book. (For examples: the book is quick to compute)
 pub steps-after : (file state disk : List ℕ) (g : File) (calls : List Call) → readOf file ≡ answer g → openOf file state disk .outcome ≡ answer 0 → length disk ≡ diskLength
     → ((c : Call) → List·Memᴰ c calls → Listed c) → (n : ℕ)
-    → steps (g .rules) n (after (g .rules) calls (begun (openOf file state disk .state) disk)) .book
+    → after (g .rules) (replicate n (onOwn step)) (after (g .rules) calls (begun (openOf file state disk .state) disk)) .book
     ≡ stepsEntered (g .rules) n (after (g .rules) calls (begun (openOf file state disk .state) disk) .book)
 steps-after file state disk g calls e o size listed n =
     let k = after-mirror (g .rules) disk size calls (begun (openOf file state disk .state) disk) (begun-mirrors file state disk g e o) listed in
-    ap (λ (m : Moment). m .book) (ap (steps (g .rules) n) (k .same) ∙ steps-at (g .rules) disk size n _ (k .fine))
+    ap (λ (m : Moment). m .book) (ap (after (g .rules) (replicate n (onOwn step))) (k .same) ∙ steps-at (g .rules) disk size n _ (k .fine))

@@ -1,55 +1,27 @@
 -- The book of a run: the writes accepted so far, in the order they came, each flagged once it is stored.
 use Prim.Native.Nat.{ℕ, zero, suc}
 use mathlib.Core.Path.{_≡_}
-use mathlib.Core.Bool.{Bool, true, false, cond, not}
-use mathlib.Core.List.{List, [], _∷_, _++_, map}
-use lib.ListN.{length, getD, set}
+use mathlib.Core.Bool.{Bool, cond}
+use mathlib.Core.List.{List, [], _∷_, _++_}
+use lib.ListN.{length}
 use Rattle.model.specs.declared.Write.{Write}
 use Rattle.model.specs.declared.Rule.{Rule}
 use Rattle.relation.specs.Bits.{maskOf}
-use Rattle.model.specs.Schedule.{noWrite}
-use Rattle.model.specs.Test.{countBelow}
 use Rattle.model.specs.Needs.{ready}
+use Rattle.cache_model.specs.Entries.{Entry, accepted, flagAt, waitingIn, appended, flagging}
 use Rattle.cache_model.specs.State.{storedOn}
 
--- a write of the book: *accepted*; *stored* if flagged, *waiting* if not
-pub record Entry : Type 0 where
-  pub write : Write
-  pub flag : Bool
+-- what a call asks for: an opening of its file, a hand-in of its write, a step, a drain, a get of its key. (State and disk are not in it)
+pub data Kind : Type 0 where
+  opening : List ℕ → Kind
+  handIn : Write → Kind
+  step : Kind
+  drain : Kind
+  get : ℕ → Kind
 
-abbrev pub entry : Write → Bool → Entry
-entry w f = record { write = w; flag = f }
-
--- what the book is told of a call
-pub data Event : Type 0 where
-  openingMade : Event
-  handedIn : Write → Event
-  stepMade : Event
-  drainMade : Event
-  getMade : Event
-
--- *book*, the history of a run
+-- *book*, the history of a run: a list of writes with flags
 abbrev pub Book : Type 0
 Book = List Entry
-
-abbrev pub accepted : Book → List Write
-accepted b = map (λ e. e .write) b
-
-unfoldable pub flagAt : Book → ℕ → Bool
-flagAt b i = getD b i (entry noWrite false) .flag
-
--- how many wait
-unfoldable pub waitingIn : Book → ℕ
-waitingIn b = countBelow (λ i. not (flagAt b i)) (length b)
-
--- a hand-in appends its write, unflagged
-unfoldable pub appended : Book → Write → Book
-appended b w = b ++ (entry w false ∷ [])
-
--- the write at a place, counted from 1, flagged; at place 0 there is none
-unfoldable pub flagging : ℕ → Book → Book
-flagging zero b = b
-flagging (suc i) b = set b i (entry (getD b i (entry noWrite false) .write) true)
 
 -- a step flags the earliest unflagged write whose needs are all flagged. If there is none, nothing changes
 unfoldable pub stepEntered : List Rule → Book → Book
@@ -74,13 +46,13 @@ unfoldable pub Begins : List Write → List Write → Type 0
 Begins ws trace = (rest : List Write) × (trace ≡ ws ++ rest)
 
 -- the book after a call that was not refused. A get changes nothing. (An opening that is not refused begins another run)
-unfoldable pub entered : List Rule → Event → Book → Book
-entered rules openingMade b = b
-entered rules (handedIn w) b = appended b w
-entered rules stepMade b = stepEntered rules b
-entered rules drainMade b = stepsEntered rules (waitingIn b) b
-entered rules getMade b = b
+unfoldable pub entered : List Rule → Kind → Book → Book
+entered rules (opening file) b = b
+entered rules (handIn w) b = appended b w
+entered rules step b = stepEntered rules b
+entered rules drain b = stepsEntered rules (waitingIn b) b
+entered rules (get key) b = b
 
--- the book is fed the opened rules, the call and whether it was refused. A refused call changes nothing
-unfoldable pub noted : List Rule → Event → Bool → Book → Book
-noted rules e refusal b = cond refusal b (entered rules e b)
+-- the book is fed the opened rules, the call's kind and whether it was refused. A refused call changes nothing
+unfoldable pub noted : List Rule → Kind → Bool → Book → Book
+noted rules k refusal b = cond refusal b (entered rules k b)

@@ -1,13 +1,11 @@
 -- Lists of calls, run on a state and a disk, with the book kept beside them.
-use Prim.Native.Nat.{ℕ, zero, suc, _<_}
+use Prim.Native.Nat.{ℕ, _<_}
 use mathlib.Core.Path.{_≡_}
 use mathlib.Core.Logic.{_⊎_}
-use mathlib.Core.Bool.{Bool, true, false}
+use mathlib.Core.Bool.{Bool, true, false, cond, _&&_}
 use mathlib.Core.List.{List, [], _∷_, _++_}
 use mathlib.Core.Option.{Option}
-use lib.ListN.{length}
-use Rattle.relation.specs.Lists.{tabulate}
-use Rattle.model.specs.declared.Write.{Write}
+use lib.ListN.{length, replicate}
 use Rattle.model.specs.declared.Rule.{Rule}
 use Rattle.model.specs.Answer.{Outcome, answer, refused}
 use Rattle.model.specs.Cyclic.{Cyclic}
@@ -16,26 +14,72 @@ use Rattle.file_format.specs.Bytes.{diskLength}
 use Rattle.file_format.specs.File.{readOf}
 use Rattle.file_format.specs.Encode.{WriteFits}
 use Rattle.log_get.specs.Get.{getOf, valueCode}
+use Rattle.cache_model.specs.Entries.{waitingIn}
 use Rattle.cache_model.specs.State.{stateSize}
 use Rattle.cache_model.specs.Sound.{Sound}
 use Rattle.cache_model.specs.Calls.{Left, left, Held, openOf, handInOf, stepOf, drainOf}
-use Rattle.run_laws.specs.Book.{Book, waitingIn, Event, openingMade, handedIn, stepMade, drainMade, getMade, noted}
+use Rattle.run_laws.specs.Book.{Book, Kind, opening, handIn, step, drain, get, noted}
 
 -- what a call is lent: the run's own buffer as the last call left it, or another in its place
 pub data Lent : Type 0 where
   own : Lent
   other : List ℕ → Lent
 
--- an opening with its file, a hand-in with its write, a step, a drain, a get with its key; each with the state, and the disk, that it is lent
-pub data Call : Type 0 where
-  opening : List ℕ → Lent → Call
-  handIn : Write → Lent → Call
-  step : Lent → Lent → Call
-  drain : Lent → Lent → Call
-  get : ℕ → Lent → Call
+-- a call: its kind, and the state and the disk that it is lent
+pub record Call : Type 0 where
+  pub kind : Kind
+  pub state : Lent
+  pub disk : Lent
+
+-- a call, written in a line
+abbrev pub call : Kind → Lent → Lent → Call
+call k s d = record { kind = k; state = s; disk = d }
+
+-- a call on the run's own
+abbrev pub onOwn : Kind → Call
+onOwn k = call k own own
+
+-- ---- what a kind of call takes
+
+-- whether a state is taken
+abbrev pub takesState : Kind → Bool
+takesState (opening file) = true
+takesState (handIn w) = true
+takesState step = true
+takesState drain = true
+takesState (get key) = false
+
+-- whether a disk is taken
+abbrev pub takesDisk : Kind → Bool
+takesDisk (opening file) = false
+takesDisk (handIn w) = false
+takesDisk step = true
+takesDisk drain = true
+takesDisk (get key) = true
+
+-- whether the state has to be sound
+abbrev pub asksSound : Kind → Bool
+asksSound (opening file) = false
+asksSound (handIn w) = true
+asksSound step = true
+asksSound drain = true
+asksSound (get key) = false
+
+-- what is lent, if it is asked for; else the run's own stays
+abbrev pub lentIf : Bool → Lent → Lent
+lentIf true l = l
+lentIf false l = own
+
+-- what a call is lent for a state, and for a disk
+abbrev pub stateLent : Call → Lent
+stateLent c = lentIf (takesState (c .kind)) (c .state)
+
+abbrev pub diskLent : Call → Lent
+diskLent c = lentIf (takesDisk (c .kind)) (c .disk)
 
 -- ---- what a call does
 
+-- the buffer that is lent
 abbrev pub lentTo : Lent → List ℕ → List ℕ
 lentTo own mine = mine
 lentTo (other theirs) mine = theirs
@@ -50,28 +94,18 @@ unfoldable pub valued : Outcome (Option ℕ) → Outcome ℕ
 valued (answer v) = answer (valueCode v)
 valued (refused number place) = refused number place
 
--- what a call gives and leaves, of the buffers it is lent. An opening and a hand-in take no disk, a get takes no state: they pass on the one
+-- what a call gives and leaves, of a state and a disk. An opening and a hand-in take no disk, a get takes no state: they pass on the one
 -- beside them (`Diskless` in `Theorem.antt`). A get leaves its disk as it was
+unfoldable pub calledBy : Kind → List ℕ → List ℕ → Left
+calledBy (opening file) s d = openOf file s d
+calledBy (handIn w) s d = handInOf w s d
+calledBy step s d = stepOf s d
+calledBy drain s d = drainOf s d
+calledBy (get key) s d = left (valued (getOf d key)) s d
+
+-- .., of the buffers that it is lent
 unfoldable pub called : Call → Held → Left
-called (opening file s) h = openOf file (lentTo s (h .state)) (h .disk)
-called (handIn w s) h = handInOf w (lentTo s (h .state)) (h .disk)
-called (step s d) h = stepOf (lentTo s (h .state)) (lentTo d (h .disk))
-called (drain s d) h = drainOf (lentTo s (h .state)) (lentTo d (h .disk))
-called (get key d) h = left (valued (getOf (lentTo d (h .disk)) key)) (h .state) (lentTo d (h .disk))
-
-abbrev pub stateLent : Call → Lent
-stateLent (opening file s) = s
-stateLent (handIn w s) = s
-stateLent (step s d) = s
-stateLent (drain s d) = s
-stateLent (get key d) = own
-
-abbrev pub diskLent : Call → Lent
-diskLent (opening file s) = own
-diskLent (handIn w s) = own
-diskLent (step s d) = d
-diskLent (drain s d) = d
-diskLent (get key d) = d
+called c h = calledBy (c .kind) (lentTo (stateLent c) (h .state)) (lentTo (diskLent c) (h .disk))
 
 -- the run's own after a call that left these of the buffers it was lent
 unfoldable pub ownAfter : Call → Left → Held → Held
@@ -81,14 +115,7 @@ ownAfter c l h =
       disk = keptBy (diskLent c) (h .disk) (l .disk);
     }
 
--- what the book is told of a call
-abbrev pub eventOf : Call → Event
-eventOf (opening file s) = openingMade
-eventOf (handIn w s) = handedIn w
-eventOf (step s d) = stepMade
-eventOf (drain s d) = drainMade
-eventOf (get key d) = getMade
-
+-- whether a call is refused
 unfoldable pub isRefused : Outcome ℕ → Bool
 isRefused (answer n) = false
 isRefused (refused number place) = true
@@ -105,44 +132,52 @@ abbrev pub Unsound : Lent → Type 0
 Unsound own = ⊥
 Unsound (other x) = Sound x → ⊥
 
--- the run's own
-abbrev pub Own : Lent → Type 0
-Own own = Unit {0}
-Own (other b) = ⊥
+-- whether it is the run's own
+abbrev pub isOwn : Lent → Bool
+isOwn own = true
+isOwn (other x) = false
 
 -- a call is given the run's own
+abbrev pub ownLent : Call → Bool
+ownLent c = isOwn (stateLent c) && isOwn (diskLent c)
+
 abbrev pub OwnLent : Call → Type 0
-OwnLent c = Own (stateLent c) × Own (diskLent c)
+OwnLent c = ownLent c ≡ true
 
 -- a buffer of another length is lent
 abbrev pub WrongLength : Call → Type 0
 WrongLength c = Wrong stateSize (stateLent c) ⊎ Wrong diskLength (diskLent c)
 
--- an unsound state is lent, to a call that asks for a sound one: an opening does not
+-- an unsound state is lent, to a call that asks for a sound one
 abbrev pub UnsoundLent : Call → Type 0
-UnsoundLent (opening file s) = ⊥
-UnsoundLent (handIn w s) = Unsound s
-UnsoundLent (step s d) = Unsound s
-UnsoundLent (drain s d) = Unsound s
-UnsoundLent (get key d) = ⊥
+UnsoundLent c = Unsound (lentIf (asksSound (c .kind)) (c .state))
 
 -- a buffer of another length or an unsound state is lent in place of either
 abbrev pub Unusable : Call → Type 0
 Unusable c = WrongLength c ⊎ UnsoundLent c
 
--- by what is read of it, a file opens no cache: it is refused by reading, it has tests (22), or its rules are cyclic (8)
-unfoldable pub OpensNone : Outcome File → Type 0
-OpensNone (refused number place) = Unit {0}
-OpensNone (answer f) = (0 < length (f .tests)) ⊎ Cyclic (f .rules)
+-- a file is read, and this is true of it
+abbrev pub Reads : List ℕ → (File → Type 0) → Type 0
+Reads file P = (f : File) × (readOf file ≡ answer f) × P f
+
+-- a file opens no cache: it is refused by reading, it has tests (22), or its rules are cyclic (8)
+abbrev pub OpensNone : List ℕ → Type 0
+OpensNone file =
+    ((number : ℕ) × (place : ℕ) × (readOf file ≡ refused number place))
+    ⊎ (Reads file (λ f. 0 < length (f .tests)) ⊎ Reads file (λ f. Cyclic (f .rules)))
+
+-- a call of a run's list, by its kind
+unfoldable pub ListedAs : Kind → Call → Type 0
+ListedAs (opening file) c = WrongLength c ⊎ OpensNone file
+ListedAs (handIn w) c = WriteFits w × (OwnLent c ⊎ Unusable c)
+ListedAs step c = OwnLent c ⊎ Unusable c
+ListedAs drain c = OwnLent c ⊎ Unusable c
+ListedAs (get key) c = Unit {0}
 
 -- a call of a run's list: hand-ins of writes of the right widths, steps and drains given the run's own, the same calls lent a buffer of another
 -- length or an unsound state in place of either, openings that meet a condition of document 01's list, and gets of any disk
-unfoldable pub Listed : Call → Type 0
-Listed (opening file s) = WrongLength (opening file s) ⊎ OpensNone (readOf file)
-Listed (handIn w s) = WriteFits w × (OwnLent (handIn w s) ⊎ Unusable (handIn w s))
-Listed (step s d) = OwnLent (step s d) ⊎ Unusable (step s d)
-Listed (drain s d) = OwnLent (drain s d) ⊎ Unusable (drain s d)
-Listed (get key d) = Unit {0}
+abbrev pub Listed : Call → Type 0
+Listed c = ListedAs (c .kind) c
 
 -- ---- the moments of a run
 
@@ -151,27 +186,40 @@ pub record Moment : Type 0 where
   pub held : Held
   pub book : Book
 
+-- the moment after a call
 unfoldable pub next : List Rule → Call → Moment → Moment
 next rules c m =
     let l = called c (m .held) in
-    record { held = ownAfter c l (m .held); book = noted rules (eventOf c) (isRefused (l .outcome)) (m .book) }
+    record { held = ownAfter c l (m .held); book = noted rules (c .kind) (isRefused (l .outcome)) (m .book) }
 
--- n calls of step on the run's own
-unfoldable pub steps : List Rule → ℕ → Moment → Moment
-steps rules zero m = m
-steps rules (suc n) m = steps rules n (next rules (step own own) m)
+-- the moment after some calls
+unfoldable pub after : List Rule → List Call → Moment → Moment
+after rules [] m = m
+after rules (c ∷ cs) m = after rules cs (next rules c m)
 
--- the moments inside a call: a drain is counted as its steps, so these are the moments after 0, 1, 2, .. calls of step
-unfoldable pub within : List Rule → Call → Moment → List Moment
-within rules (opening file s) m = []
-within rules (handIn w s) m = []
-within rules (step s d) m = []
-within rules (drain own own) m = tabulate (λ n. steps rules n m) (waitingIn (m .book))
-within rules (drain own (other d)) m = []
-within rules (drain (other s) d) m = []
-within rules (get key d) m = []
+-- the calls that a call counts as, by its kind: a drain on the run's own is as many steps as writes wait; any other call is itself
+unfoldable pub countedAs : List Rule → Kind → Call → Moment → List Call
+countedAs rules (opening file) c m = c ∷ []
+countedAs rules (handIn w) c m = c ∷ []
+countedAs rules step c m = c ∷ []
+countedAs rules drain c m = cond (ownLent c) (replicate (waitingIn (m .book)) (onOwn step)) (c ∷ [])
+countedAs rules (get key) c m = c ∷ []
 
--- every moment at which the supply can be cut: before and after each call, and between two steps of a drain
+-- the calls that a call counts as
+abbrev pub counted : List Rule → Call → Moment → List Call
+counted rules c m = countedAs rules (c .kind) c m
+
+-- the moments before and after each of some calls, each counted as one
+unfoldable pub passed : List Rule → List Call → Moment → List Moment
+passed rules [] m = m ∷ []
+passed rules (c ∷ cs) m = m ∷ passed rules cs (next rules c m)
+
+-- the moments of one call, at which the supply can be cut: before and after each of those that it counts as. (That the last of these is the
+-- moment after the call itself is `Answers.each`)
+unfoldable pub inner : List Rule → Call → Moment → List Moment
+inner rules c m = passed rules (counted rules c m) m
+
+-- every moment at which the supply can be cut
 unfoldable pub moments : List Rule → List Call → Moment → List Moment
 moments rules [] m = m ∷ []
-moments rules (c ∷ cs) m = m ∷ (within rules c m ++ moments rules cs (next rules c m))
+moments rules (c ∷ cs) m = inner rules c m ++ moments rules cs (next rules c m)

@@ -24,11 +24,8 @@ wide-requires c κs = search reading
 loop-holds : tie.Need-loop-holds Inv-loop μ-loop
 loop-holds c = search reading
 
-mul-b : tie.Need-mul-b Inv-loop μ-loop
-mul-b c = search reading
-
-add-b : tie.Need-add-b Inv-loop μ-loop
-add-b c = search reading
+rule-place-requires : tie.Need-rule-place-requires Inv-loop μ-loop
+rule-place-requires c κs = search reading
 
 add-e : tie.Need-add-e Inv-loop μ-loop
 add-e c = search reading
@@ -72,8 +69,7 @@ state-rules-spec =
     shared-slice-read-wide
     wide-requires
     loop-holds
-    mul-b
-    add-b
+    rule-place-requires
     add-e
     sub-read-rule
     part-read-rule-start

@@ -1,13 +1,10 @@
--- `cache_contents::write_in` meets its contract: the part of the state that is lent is the write's body.
+-- `cache_contents::write_in` meets its contract.
 use Rattle.cache_contents.proofs.ContentSteps.{reading}
 use Rattle.cache_contents.proofs.write_in.Statement.{statement}
 use Rattle.cache_contents.proofs.write_in.Tie as tie
 
-mul-b : tie.Need-mul-b
-mul-b c = search reading
-
-add-b : tie.Need-add-b
-add-b c = search reading
+write-place-requires : tie.Need-write-place-requires
+write-place-requires c κs = search reading
 
 add-e : tie.Need-add-e
 add-e c = search reading
@@ -31,8 +28,7 @@ pub write-in-spec : {M : Type 1} → statement M
 write-in-spec =
     tie.close
     (tie.spec
-    mul-b
-    add-b
+    write-place-requires
     add-e
     sub-read-write
     part-read-write-start

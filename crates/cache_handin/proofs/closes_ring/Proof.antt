@@ -1,41 +1,19 @@
--- `cache_handin::closes_ring` meets its contract: the closure of the table with w has a loop exactly if there is a ring (`ring-closed`).
-use Rattle.cache_handin.proofs.HandInSteps.{ringing}
+-- `cache_handin::closes_ring` meets its contract: nothing depends on the new write, or what it needs is followed.
+use Rattle.cache_handin.proofs.HandInSteps.{behind}
 use Rattle.cache_handin.proofs.closes_ring.Statement.{statement}
 use Rattle.cache_handin.proofs.closes_ring.Tie as tie
 
-shared-slice-read-wide : tie.Need-shared-slice-read-wide
-shared-slice-read-wide c = search ringing
-
-wide-requires : tie.Need-wide-requires
-wide-requires c κs = search ringing
-
-add-n : tie.Need-add-n
-add-n c = search ringing
-
-slice-aggregate-fill-with : tie.Need-slice-aggregate-fill-with
-slice-aggregate-fill-with c = search ringing
-
-fill-with-requires : tie.Need-fill-with-requires
-fill-with-requires c κs = search ringing
-
-close-requires : tie.Need-close-requires
-close-requires c κs = search ringing
-
-has-loop-requires : tie.Need-has-loop-requires
-has-loop-requires c κs = search ringing
-
 returns : tie.Need-returns
-returns c = search ringing
+returns c = search behind
+
+needed-requires : tie.Need-needed-requires
+needed-requires c κs = search behind
+
+closes-ring-requires : tie.Need-closes-ring-requires
+closes-ring-requires c κs = search behind
+
+returns-2 : tie.Need-returns-2
+returns-2 c = search behind
 
 pub closes-ring-spec : {M : Type 1} → statement M
-closes-ring-spec =
-    tie.close
-    (tie.spec
-    shared-slice-read-wide
-    wide-requires
-    add-n
-    slice-aggregate-fill-with
-    fill-with-requires
-    close-requires
-    has-loop-requires
-    returns)
+closes-ring-spec = tie.close (tie.spec returns needed-requires closes-ring-requires returns-2)

@@ -2,7 +2,7 @@
 use mathlib.Core.Path.{_≡_}
 use mathlib.Core.Bool.{true}
 use Prim.Native.Nat.{_≤_, _-_}
-use Rattle.cache_model.specs.Sound.{zeros}
+use Rattle.cache_layout.specs.Flags.{zeros}
 use Rattle.cache_layout.proofs.LayoutSteps.{zeroes}
 use Rattle.cache_layout.proofs.are_zero.Statement.{statement}
 use Rattle.cache_layout.proofs.are_zero.Tie as tie

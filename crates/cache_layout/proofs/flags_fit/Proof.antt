@@ -1,7 +1,7 @@
--- `cache_layout::flags_fit` meets its contract. The invariant: the flags below i fit.
+-- `cache_layout::flags_fit` meets its contract. The invariant: the first i flags fit.
+use Prim.Native.Nat.{_-_, _≤_}
 use mathlib.Core.Path.{_≡_}
 use mathlib.Core.Bool.{true}
-use Prim.Native.Nat.{_≤_, _-_}
 use Rattle.relation.specs.Lists.{allBelow}
 use Rattle.cache_layout.specs.Flags.{flagFits}
 use Rattle.cache_layout.proofs.LayoutSteps.{fitting}
@@ -23,11 +23,8 @@ wide-requires c κs = search fitting
 loop-holds : tie.Need-loop-holds Inv-loop μ-loop
 loop-holds c = search fitting
 
-mul-at : tie.Need-mul-at Inv-loop μ-loop
-mul-at c = search fitting
-
-add-at : tie.Need-add-at Inv-loop μ-loop
-add-at c = search fitting
+flag-place-requires : tie.Need-flag-place-requires Inv-loop μ-loop
+flag-place-requires c κs = search fitting
 
 shared-slice-read-flag-fits : tie.Need-shared-slice-read-flag-fits Inv-loop μ-loop
 shared-slice-read-flag-fits c = search fitting
@@ -51,7 +48,7 @@ loop-less : tie.Need-loop-less Inv-loop μ-loop
 loop-less c = search fitting
 
 loop-again : tie.Need-loop-again Inv-loop μ-loop
-loop-again c = search fitting
+loop-again c = (search fitting, search fitting)
 
 returns-2 : tie.Need-returns-2 Inv-loop μ-loop
 returns-2 c = search fitting
@@ -65,8 +62,7 @@ flags-fit-spec =
     shared-slice-read-wide
     wide-requires
     loop-holds
-    mul-at
-    add-at
+    flag-place-requires
     shared-slice-read-flag-fits
     add-flag-fits
     shared-slice-read-flag-fits-2

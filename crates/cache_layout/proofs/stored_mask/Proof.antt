@@ -1,6 +1,6 @@
--- `cache_layout::stored_mask` meets its contract. The invariant: the mask has the flags below i.
+-- `cache_layout::stored_mask` meets its contract. The invariant: the mask has the first i flags.
+use Prim.Native.Nat.{_-_, _≤_}
 use mathlib.Core.Path.{_≡_}
-use Prim.Native.Nat.{_≤_, _-_}
 use Rattle.relation.specs.Bits.{maskOf}
 use Rattle.cache_model.specs.State.{storedIn}
 use Rattle.cache_layout.proofs.LayoutSteps.{flags}
@@ -22,17 +22,14 @@ wide-requires c κs = search flags
 loop-holds : tie.Need-loop-holds Inv-loop μ-loop
 loop-holds c = search flags
 
-mul-with-bit-if : tie.Need-mul-with-bit-if Inv-loop μ-loop
-mul-with-bit-if c = search flags
+flag-place-requires : tie.Need-flag-place-requires Inv-loop μ-loop
+flag-place-requires c κs = search flags
 
-add-with-bit-if : tie.Need-add-with-bit-if Inv-loop μ-loop
-add-with-bit-if c = search flags
+shared-slice-read-with-if : tie.Need-shared-slice-read-with-if Inv-loop μ-loop
+shared-slice-read-with-if c = search flags
 
-shared-slice-read-with-bit-if : tie.Need-shared-slice-read-with-bit-if Inv-loop μ-loop
-shared-slice-read-with-bit-if c = search flags
-
-with-bit-if-requires : tie.Need-with-bit-if-requires Inv-loop μ-loop
-with-bit-if-requires c κs = search flags
+with-if-requires : tie.Need-with-if-requires Inv-loop μ-loop
+with-if-requires c κs = search flags
 
 add-i : tie.Need-add-i Inv-loop μ-loop
 add-i c = search flags
@@ -41,7 +38,7 @@ loop-less : tie.Need-loop-less Inv-loop μ-loop
 loop-less c = search flags
 
 loop-again : tie.Need-loop-again Inv-loop μ-loop
-loop-again c = search flags
+loop-again c = (search flags, search flags)
 
 returns : tie.Need-returns Inv-loop μ-loop
 returns c = search flags
@@ -55,10 +52,9 @@ stored-mask-spec =
     shared-slice-read-wide
     wide-requires
     loop-holds
-    mul-with-bit-if
-    add-with-bit-if
-    shared-slice-read-with-bit-if
-    with-bit-if-requires
+    flag-place-requires
+    shared-slice-read-with-if
+    with-if-requires
     add-i
     loop-less
     loop-again

@@ -1,102 +1,67 @@
--- `cache_needs::fill_needs` meets its contract. The invariant: n is the count of the accepted writes, epochs says how the epochs stand to t, and the first i rows are filled.
-use mathlib.Core.Path.{_≡_}
-use Prim.Native.Nat.{_≤_, _-_}
-use lib.ListN.{length, take}
-use Rattle.model.specs.Limits.{mostHeld}
-use Rattle.rule_match.specs.Held.{rulesOf}
-use Rattle.model.specs.Needs.{needs}
-use Rattle.cache_model.specs.State.{acceptedCount, writesIn}
-use Rattle.cache_masks.specs.Masks.{Compared}
-use Rattle.cache_needs.proofs.NeedSteps.{rowsFrom}
-use Rattle.cache_needs.proofs.NeedSteps.{steps, fill-more}
+-- `cache_needs::fill_needs` meets its contract: the tables are filled, and each is what the next one wants.
+use Rattle.cache_needs.proofs.NeedSteps.{filling, needs-filled}
 use Rattle.cache_needs.proofs.fill_needs.Statement.{statement}
 use Rattle.cache_needs.proofs.fill_needs.Tie as tie
 
-abbrev Inv-loop : tie.InvT-loop
-Inv-loop rows₀ state rules n seconds t₀ epochs₀ i₀ rows t epochs i = (i ≤ n) × (n ≡ acceptedCount state) × (n ≤ mostHeld) × (length rows ≡ 64) × Compared state t epochs × (take i rows ≡ rowsFrom (needs (rulesOf rules) (writesIn state)) (acceptedCount state) i)
+fill-earlier-requires : tie.Need-fill-earlier-requires
+fill-earlier-requires c κs = search filling
 
-abbrev μ-loop : tie.MeasureT-loop
-μ-loop rows₀ state rules n seconds t₀ epochs₀ i₀ rows t epochs i = n - i
+slice-aggregate-fill-same : tie.Need-slice-aggregate-fill-same
+slice-aggregate-fill-same c = search filling
 
-shared-slice-read-wide : tie.Need-shared-slice-read-wide Inv-loop μ-loop
-shared-slice-read-wide c = search steps
+fill-same-requires : tie.Need-fill-same-requires
+fill-same-requires c κs = search filling
 
-wide-requires : tie.Need-wide-requires Inv-loop μ-loop
-wide-requires c κs = search steps
+slice-aggregate-fill-ranks : tie.Need-slice-aggregate-fill-ranks
+slice-aggregate-fill-ranks c = search filling
 
-slice-aggregate-fill-seconds : tie.Need-slice-aggregate-fill-seconds Inv-loop μ-loop
-slice-aggregate-fill-seconds c = search steps
+fill-ranks-requires : tie.Need-fill-ranks-requires
+fill-ranks-requires c κs = search filling
 
-fill-seconds-requires : tie.Need-fill-seconds-requires Inv-loop μ-loop
-fill-seconds-requires c κs = search steps
+slice-aggregate-fill-belows : tie.Need-slice-aggregate-fill-belows
+slice-aggregate-fill-belows c = search filling
 
-compare-epochs-requires : tie.Need-compare-epochs-requires Inv-loop μ-loop
-compare-epochs-requires c κs = search steps
+slice-aggregate-fill-belows-2 : tie.Need-slice-aggregate-fill-belows-2
+slice-aggregate-fill-belows-2 c = search filling
 
-loop-holds : tie.Need-loop-holds Inv-loop μ-loop
-loop-holds c = search steps
+fill-belows-requires : tie.Need-fill-belows-requires
+fill-belows-requires c κs = ((search filling, search filling), (search filling, (search filling, search filling)))
 
-write-in-requires : tie.Need-write-in-requires Inv-loop μ-loop
-write-in-requires c κs = search steps
+slice-aggregate-add-rules : tie.Need-slice-aggregate-add-rules
+slice-aggregate-add-rules c = search filling
 
-next-epochs-requires : tie.Need-next-epochs-requires Inv-loop μ-loop
-next-epochs-requires c κs = search steps
+slice-aggregate-add-rules-2 : tie.Need-slice-aggregate-add-rules-2
+slice-aggregate-add-rules-2 c = search filling
 
-slice-aggregate-row : tie.Need-slice-aggregate-row Inv-loop μ-loop
-slice-aggregate-row c = search steps
+slice-aggregate-add-rules-3 : tie.Need-slice-aggregate-add-rules-3
+slice-aggregate-add-rules-3 c = search filling
 
-row-requires : tie.Need-row-requires Inv-loop μ-loop
-row-requires c κs = (search steps, (search steps, (search steps, (search steps, (search steps, (search steps, (search steps, search steps)))))))
+add-rules-requires : tie.Need-add-rules-requires
+add-rules-requires c κs = (search filling, (search filling, (search filling, search filling)))
 
-mul-rows : tie.Need-mul-rows Inv-loop μ-loop
-mul-rows c = search steps
+same-length : tie.Need-same-length
+same-length c = search filling
 
-slice-write-rows : tie.Need-slice-write-rows Inv-loop μ-loop
-slice-write-rows c = search steps
-
-add-i : tie.Need-add-i Inv-loop μ-loop
-add-i c = search steps
-
-loop-less : tie.Need-loop-less Inv-loop μ-loop
-loop-less c = search steps
-
-loop-again : tie.Need-loop-again Inv-loop μ-loop
-loop-again c =
-    let h = c .before .before .before .before .before .loop .inv in (
-      search steps,
-      h .1,
-      h .2,
-      search steps,
-      search steps,
-      fill-more _ _ _ _ _ _ (h .2) (h .3) (search steps) (h .5) (c .row .ensures),
-    )
-
-same-length : tie.Need-same-length Inv-loop μ-loop
-same-length c = search steps
-
-returns : tie.Need-returns Inv-loop μ-loop
-returns c = search steps
+returns : tie.Need-returns
+returns c =
+    let added = c .before .before .add-rules .ensures in
+    (added .0, needs-filled _ _ _ _ _ _ _ _ _ (c .before .before .before .before .before .before .before .before .before .before .before .before .before .before .before .before .before .before .before .before .before .before .before .before .before .pre .1 .1) (added .0) (c .before .before .before .before .before .before .before .before .before .before .before .before .before .before .before .before .before .before .before .fill-earlier .ensures .1) (c .before .before .before .before .before .before .before .before .before .before .before .before .fill-ranks .ensures .1 .0) (c .before .before .before .before .before .before .before .before .fill-belows .ensures .1) (added .1))
 
 pub fill-needs-spec : {M : Type 1} → statement M
 fill-needs-spec =
     tie.close
     (tie.spec
-    Inv-loop
-    μ-loop
-    shared-slice-read-wide
-    wide-requires
-    slice-aggregate-fill-seconds
-    fill-seconds-requires
-    compare-epochs-requires
-    loop-holds
-    write-in-requires
-    next-epochs-requires
-    slice-aggregate-row
-    row-requires
-    mul-rows
-    slice-write-rows
-    add-i
-    loop-less
-    loop-again
+    fill-earlier-requires
+    slice-aggregate-fill-same
+    fill-same-requires
+    slice-aggregate-fill-ranks
+    fill-ranks-requires
+    slice-aggregate-fill-belows
+    slice-aggregate-fill-belows-2
+    fill-belows-requires
+    slice-aggregate-add-rules
+    slice-aggregate-add-rules-2
+    slice-aggregate-add-rules-3
+    add-rules-requires
     same-length
     returns)

@@ -2,15 +2,16 @@
 use mathlib.Core.Path.{_≡_}
 use Prim.Native.Nat.{_≤_, _-_}
 use lib.ListN.{length, take, replicate}
+use Rattle.cache_model.specs.State.{stateSize}
 use Rattle.cache_opening.proofs.OpenSteps.{clearing}
 use Rattle.cache_opening.proofs.clear.Statement.{statement}
 use Rattle.cache_opening.proofs.clear.Tie as tie
 
 abbrev Inv-loop : tie.InvT-loop
-Inv-loop state₀ i₀ state i = (i ≤ 1024) × (length state ≡ 1024) × (take i state ≡ replicate i 0)
+Inv-loop state₀ i₀ state i = (i ≤ stateSize) × (length state ≡ stateSize) × (take i state ≡ replicate i 0)
 
 abbrev μ-loop : tie.MeasureT-loop
-μ-loop state₀ i₀ state i = 1024 - i
+μ-loop state₀ i₀ state i = stateSize - i
 
 loop-holds : tie.Need-loop-holds Inv-loop μ-loop
 loop-holds c = search clearing

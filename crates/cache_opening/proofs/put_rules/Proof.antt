@@ -1,13 +1,15 @@
--- `cache_opening::put_rules` meets its contract. The invariant: the first i rules are written.
-use mathlib.Core.Path.{_≡_}
+-- `cache_opening::put_rules` meets its contract. The invariant: the count and the first i rules are written.
 use Prim.Native.Nat.{_≤_, _-_}
+use mathlib.Core.Path.{_≡_}
 use lib.ListN.{length, take}
-use Rattle.cache_opening.proofs.OpenSteps.{putting, written}
+use Rattle.cache_model.specs.State.{stateSize}
+use Rattle.cache_opening.proofs.OpenSteps.{written}
+use Rattle.cache_opening.proofs.OpenSteps.{putting, rules-more}
 use Rattle.cache_opening.proofs.put_rules.Statement.{statement}
 use Rattle.cache_opening.proofs.put_rules.Tie as tie
 
 abbrev Inv-loop : tie.InvT-loop
-Inv-loop state₀ rules i₀ state i = (i ≤ rules .count) × (length state ≡ 1024) × (state ≡ written (rules .count) (take i (rules .items)))
+Inv-loop state₀ rules i₀ state i = (i ≤ rules .count) × (length state ≡ stateSize) × (state ≡ written (rules .count) (take i (rules .items)))
 
 abbrev μ-loop : tie.MeasureT-loop
 μ-loop state₀ rules i₀ state i = rules .count - i
@@ -21,14 +23,11 @@ slice-write-state c = search putting
 loop-holds : tie.Need-loop-holds Inv-loop μ-loop
 loop-holds c = search putting
 
+rule-place-requires : tie.Need-rule-place-requires Inv-loop μ-loop
+rule-place-requires c κs = search putting
+
 mul-put-rule : tie.Need-mul-put-rule Inv-loop μ-loop
 mul-put-rule c = search putting
-
-add-put-rule : tie.Need-add-put-rule Inv-loop μ-loop
-add-put-rule c = search putting
-
-mul-put-rule-2 : tie.Need-mul-put-rule-2 Inv-loop μ-loop
-mul-put-rule-2 c = search putting
 
 element-copy-out-put-rule : tie.Need-element-copy-out-put-rule Inv-loop μ-loop
 element-copy-out-put-rule c = search putting
@@ -43,7 +42,11 @@ loop-less : tie.Need-loop-less Inv-loop μ-loop
 loop-less c = search putting
 
 loop-again : tie.Need-loop-again Inv-loop μ-loop
-loop-again c = search putting
+loop-again c = (
+  search putting,
+  search putting,
+  rules-more _ _ _ _ _ (c .before .before .put-rule .ensures) (c .before .before .before .before .rule-place .ensures) (c .before .before .before .before .before .before .before .loop .inv .2) (search putting) (c .before .before .before .before .before .before .before .before .before .pre .0) (search putting),
+)
 
 same-length : tie.Need-same-length Inv-loop μ-loop
 same-length c = search putting
@@ -60,9 +63,8 @@ put-rules-spec =
     cast-state
     slice-write-state
     loop-holds
+    rule-place-requires
     mul-put-rule
-    add-put-rule
-    mul-put-rule-2
     element-copy-out-put-rule
     put-rule-requires
     add-i

@@ -20,8 +20,8 @@ loop-holds c = search covering
 mul-row-covered : tie.Need-mul-row-covered Inv-loop μ-loop
 mul-row-covered c = search covering
 
-element-copy-out-row-covered : tie.Need-element-copy-out-row-covered Inv-loop μ-loop
-element-copy-out-row-covered c = search covering
+shared-slice-read-row-covered : tie.Need-shared-slice-read-row-covered Inv-loop μ-loop
+shared-slice-read-row-covered c = search covering
 
 row-covered-requires : tie.Need-row-covered-requires Inv-loop μ-loop
 row-covered-requires c κs = search covering
@@ -36,7 +36,7 @@ loop-less : tie.Need-loop-less Inv-loop μ-loop
 loop-less c = search covering
 
 loop-again : tie.Need-loop-again Inv-loop μ-loop
-loop-again c = search covering
+loop-again c = (search covering, search covering)
 
 returns-2 : tie.Need-returns-2 Inv-loop μ-loop
 returns-2 c = search covering
@@ -49,7 +49,7 @@ all-covered-spec =
     μ-loop
     loop-holds
     mul-row-covered
-    element-copy-out-row-covered
+    shared-slice-read-row-covered
     row-covered-requires
     returns
     add-i

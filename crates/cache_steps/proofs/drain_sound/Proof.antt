@@ -5,7 +5,7 @@ use Prim.Native.Nat.{_≤_, _-_}
 use lib.ListN.{length}
 use Rattle.relation.specs.Bits.{maskOf}
 use Rattle.file_format.specs.Bytes.{diskLength}
-use Rattle.cache_model.specs.State.{acceptedCount, storedIn}
+use Rattle.cache_model.specs.State.{stateSize, acceptedCount, storedIn}
 use Rattle.cache_model.specs.Sound.{sound}
 use Rattle.cache_soundness.specs.Parts.{Tabled}
 use Rattle.cache_steps.proofs.StepLaws.{Drains}
@@ -14,7 +14,7 @@ use Rattle.cache_steps.proofs.drain_sound.Statement.{statement}
 use Rattle.cache_steps.proofs.drain_sound.Tie as tie
 
 abbrev Inv-loop : tie.InvT-loop
-Inv-loop state₀ disk₀ rows mask accepted stored done₀ n₀ state disk done n = (stored ≤ n) × (n ≤ accepted) × (length state ≡ 1024) × (length disk ≡ diskLength) × (sound state ≡ true) × Tabled state rows × (done ≡ maskOf (storedIn state) (acceptedCount state)) × Drains state₀ disk₀ accepted stored state disk n
+Inv-loop state₀ disk₀ rows mask accepted stored done₀ n₀ state disk done n = (stored ≤ n) × (n ≤ accepted) × (length state ≡ stateSize) × (length disk ≡ diskLength) × (sound state ≡ true) × Tabled state rows × (done ≡ maskOf (storedIn state) (acceptedCount state)) × Drains state₀ disk₀ accepted stored state disk n
 
 abbrev μ-loop : tie.MeasureT-loop
 μ-loop state₀ disk₀ rows mask accepted stored done₀ n₀ state disk done n = accepted - n
@@ -47,16 +47,7 @@ loop-less : tie.Need-loop-less Inv-loop μ-loop
 loop-less c = search draining
 
 loop-again : tie.Need-loop-again Inv-loop μ-loop
-loop-again c = (
-  search draining,
-  search draining,
-  search draining,
-  search draining,
-  search draining,
-  search draining,
-  search draining,
-  search draining,
-)
+loop-again c = (search draining, search draining, search draining, search draining, search draining, search draining, search draining, search draining)
 
 sub-result : tie.Need-sub-result Inv-loop μ-loop
 sub-result c = search draining

@@ -1,33 +1,32 @@
--- `cache_steps::ready` meets its contract. The invariant: no write below i is the one.
-use Prim.Native.Nat.{_≤_, _-_}
-use Rattle.cache_steps.proofs.StepLaws.{readyBy, Sought}
+-- `cache_steps::ready` meets its contract. The invariant: of the waiting writes those that are no longer left are not ready.
+use Rattle.cache_steps.proofs.StepLaws.{Seeks}
 use Rattle.cache_steps.proofs.StepLaws.{readying}
 use Rattle.cache_steps.proofs.ready.Statement.{statement}
 use Rattle.cache_steps.proofs.ready.Tie as tie
 
 abbrev Inv-loop : tie.InvT-loop
-Inv-loop state rows mask n i₀ i = (i ≤ n) × Sought (readyBy rows mask) n i
+Inv-loop rows mask n left₀ left = Seeks rows mask n left
 
 abbrev μ-loop : tie.MeasureT-loop
-μ-loop state rows mask n i₀ i = n - i
+μ-loop rows mask n left₀ left = left
 
-shared-slice-read-wide : tie.Need-shared-slice-read-wide Inv-loop μ-loop
-shared-slice-read-wide c = search readying
+all-below-requires : tie.Need-all-below-requires Inv-loop μ-loop
+all-below-requires c κs = search readying
 
-wide-requires : tie.Need-wide-requires Inv-loop μ-loop
-wide-requires c κs = search readying
+without-requires : tie.Need-without-requires Inv-loop μ-loop
+without-requires c κs = search readying
 
 loop-holds : tie.Need-loop-holds Inv-loop μ-loop
 loop-holds c = search readying
 
-mul-is-ready : tie.Need-mul-is-ready Inv-loop μ-loop
-mul-is-ready c = search readying
+lowest-requires : tie.Need-lowest-requires Inv-loop μ-loop
+lowest-requires c κs = search readying
 
-element-copy-out-is-ready : tie.Need-element-copy-out-is-ready Inv-loop μ-loop
-element-copy-out-is-ready c = search readying
+mul-row : tie.Need-mul-row Inv-loop μ-loop
+mul-row c = search readying
 
-is-ready-requires : tie.Need-is-ready-requires Inv-loop μ-loop
-is-ready-requires c κs = search readying
+shared-slice-read-row : tie.Need-shared-slice-read-row Inv-loop μ-loop
+shared-slice-read-row c = search readying
 
 add-result : tie.Need-add-result Inv-loop μ-loop
 add-result c = search readying
@@ -35,8 +34,11 @@ add-result c = search readying
 returns : tie.Need-returns Inv-loop μ-loop
 returns c = search readying
 
-add-i : tie.Need-add-i Inv-loop μ-loop
-add-i c = search readying
+shl-without : tie.Need-shl-without Inv-loop μ-loop
+shl-without c = search readying
+
+without-requires-2 : tie.Need-without-requires-2 Inv-loop μ-loop
+without-requires-2 c κs = search readying
 
 loop-less : tie.Need-loop-less Inv-loop μ-loop
 loop-less c = search readying
@@ -53,15 +55,16 @@ ready-spec =
     (tie.spec
     Inv-loop
     μ-loop
-    shared-slice-read-wide
-    wide-requires
+    all-below-requires
+    without-requires
     loop-holds
-    mul-is-ready
-    element-copy-out-is-ready
-    is-ready-requires
+    lowest-requires
+    mul-row
+    shared-slice-read-row
     add-result
     returns
-    add-i
+    shl-without
+    without-requires-2
     loop-less
     loop-again
     returns-2)

@@ -15,11 +15,8 @@ slice-read-wide c = search appending
 wide-requires : tie.Need-wide-requires
 wide-requires c κs = search appending
 
-mul-at : tie.Need-mul-at
-mul-at c = search appending
-
-add-at : tie.Need-add-at
-add-at c = search appending
+write-place-requires : tie.Need-write-place-requires
+write-place-requires c κs = search appending
 
 put-entry-requires : tie.Need-put-entry-requires
 put-entry-requires c κs = search appending
@@ -44,8 +41,7 @@ append-spec =
     add-place
     slice-read-wide
     wide-requires
-    mul-at
-    add-at
+    write-place-requires
     put-entry-requires
     slice-write-state
     cast-result

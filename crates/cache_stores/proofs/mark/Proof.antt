@@ -9,11 +9,8 @@ slice-read-stored c = search storing-steps
 add-stored : tie.Need-add-stored
 add-stored c = search storing-steps
 
-mul-state : tie.Need-mul-state
-mul-state c = search storing-steps
-
-add-state : tie.Need-add-state
-add-state c = search storing-steps
+flag-place-requires : tie.Need-flag-place-requires
+flag-place-requires c κs = search storing-steps
 
 slice-write-state : tie.Need-slice-write-state
 slice-write-state c = search storing-steps
@@ -33,8 +30,7 @@ mark-spec =
     (tie.spec
     slice-read-stored
     add-stored
-    mul-state
-    add-state
+    flag-place-requires
     slice-write-state
     slice-write-state-2
     same-length

@@ -1,11 +1,14 @@
 -- `receiver::pelzhondy_drain` meets its contract: a refusal, or the drain of a sound state.
 use Rattle.cache_model.specs.Calls.{drainOf}
-use Rattle.cache_steps.proofs.StepLaws.{calling, clean-few, cleared}
+use Rattle.cache_steps.proofs.StepLaws.{calling, cleared}
 use Rattle.receiver.proofs.pelzhondy_drain.Statement.{statement}
 use Rattle.receiver.proofs.pelzhondy_drain.Tie as tie
 
-fault-requires : tie.Need-fault-requires
-fault-requires c κs = search calling
+slice-aggregate-look : tie.Need-slice-aggregate-look
+slice-aggregate-look c = search calling
+
+look-requires : tie.Need-look-requires
+look-requires c κs = search calling
 
 refuse-requires : tie.Need-refuse-requires
 refuse-requires c κs = search calling
@@ -20,11 +23,11 @@ returns : tie.Need-returns
 unfolding drainOf
 returns c = search calling
 
-stored-mask-requires : tie.Need-stored-mask-requires
-stored-mask-requires c κs = clean-few _ _ _ (c .before .before .fault .ensures .0) (c .before .if1 .left)
+slice-aggregate-drain-sound : tie.Need-slice-aggregate-drain-sound
+slice-aggregate-drain-sound c = search calling
 
 drain-sound-requires : tie.Need-drain-sound-requires
-drain-sound-requires c κs = cleared _ _ _ (c .before .before .before .before .before .before .fault .ensures .0) (c .before .before .before .before .before .if1 .left) _ _ (c .before .before .before .before .before .before .fault .ensures .1 .1) (c .before .before .before .stored-mask .ensures)
+drain-sound-requires c κs = cleared _ _ (c .before .before .before .before .before .before .look .result) _ (c .before .before .before .before .before .before .look .ensures .0) (c .before .before .before .if1 .left) (search calling) (c .before .before .before .before .before .before .look .ensures .1 .1)
 
 same-length-3 : tie.Need-same-length-3
 same-length-3 c = search calling
@@ -40,12 +43,13 @@ pub pelzhondy-drain-spec : {M : Type 1} → statement M
 pelzhondy-drain-spec =
     tie.close
     (tie.spec
-    fault-requires
+    slice-aggregate-look
+    look-requires
     refuse-requires
     same-length
     same-length-2
     returns
-    stored-mask-requires
+    slice-aggregate-drain-sound
     drain-sound-requires
     same-length-3
     same-length-4

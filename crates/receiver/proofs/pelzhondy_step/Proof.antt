@@ -1,11 +1,14 @@
 -- `receiver::pelzhondy_step` meets its contract: a refusal, or the step of a sound state.
 use Rattle.cache_model.specs.Calls.{stepOf}
-use Rattle.cache_steps.proofs.StepLaws.{calling, clean-few, cleared}
+use Rattle.cache_steps.proofs.StepLaws.{calling, cleared}
 use Rattle.receiver.proofs.pelzhondy_step.Statement.{statement}
 use Rattle.receiver.proofs.pelzhondy_step.Tie as tie
 
-fault-requires : tie.Need-fault-requires
-fault-requires c κs = search calling
+slice-aggregate-look : tie.Need-slice-aggregate-look
+slice-aggregate-look c = search calling
+
+look-requires : tie.Need-look-requires
+look-requires c κs = search calling
 
 refuse-requires : tie.Need-refuse-requires
 refuse-requires c κs = search calling
@@ -20,11 +23,11 @@ returns : tie.Need-returns
 unfolding stepOf
 returns c = search calling
 
-stored-mask-requires : tie.Need-stored-mask-requires
-stored-mask-requires c κs = clean-few _ _ _ (c .before .before .fault .ensures .0) (c .before .if1 .left)
+slice-aggregate-step-sound : tie.Need-slice-aggregate-step-sound
+slice-aggregate-step-sound c = search calling
 
 step-sound-requires : tie.Need-step-sound-requires
-step-sound-requires c κs = cleared _ _ _ (c .before .before .before .before .before .before .fault .ensures .0) (c .before .before .before .before .before .if1 .left) _ _ (c .before .before .before .before .before .before .fault .ensures .1 .1) (c .before .before .before .stored-mask .ensures)
+step-sound-requires c κs = cleared _ _ (c .before .before .before .before .before .before .look .result) _ (c .before .before .before .before .before .before .look .ensures .0) (c .before .before .before .if1 .left) (search calling) (c .before .before .before .before .before .before .look .ensures .1 .1)
 
 same-length-3 : tie.Need-same-length-3
 same-length-3 c = search calling
@@ -40,12 +43,13 @@ pub pelzhondy-step-spec : {M : Type 1} → statement M
 pelzhondy-step-spec =
     tie.close
     (tie.spec
-    fault-requires
+    slice-aggregate-look
+    look-requires
     refuse-requires
     same-length
     same-length-2
     returns
-    stored-mask-requires
+    slice-aggregate-step-sound
     step-sound-requires
     same-length-3
     same-length-4

@@ -1,7 +1,10 @@
--- `rule_cycles::equal_ring` meets its contract: the closed table has a loop where = rules have a ring.
+-- `rule_cycles::equal_ring` meets its contract: the table of = rules has a ring where they have.
 use Rattle.rule_cycles.proofs.CycleSteps.{steps}
 use Rattle.rule_cycles.proofs.equal_ring.Statement.{statement}
 use Rattle.rule_cycles.proofs.equal_ring.Tie as tie
+
+having-requires : tie.Need-having-requires
+having-requires c κs = search steps
 
 slice-aggregate-fill : tie.Need-slice-aggregate-fill
 slice-aggregate-fill c = search steps
@@ -9,11 +12,11 @@ slice-aggregate-fill c = search steps
 fill-requires : tie.Need-fill-requires
 fill-requires c κs = search steps
 
-close-requires : tie.Need-close-requires
-close-requires c κs = search steps
+slice-aggregate-has-ring : tie.Need-slice-aggregate-has-ring
+slice-aggregate-has-ring c = search steps
 
-has-loop-requires : tie.Need-has-loop-requires
-has-loop-requires c κs = search steps
+has-ring-requires : tie.Need-has-ring-requires
+has-ring-requires c κs = search steps
 
 returns : tie.Need-returns
 returns c = search steps
@@ -21,4 +24,10 @@ returns c = search steps
 pub equal-ring-spec : {M : Type 1} → statement M
 equal-ring-spec =
     tie.close
-    (tie.spec slice-aggregate-fill fill-requires close-requires has-loop-requires returns)
+    (tie.spec
+    having-requires
+    slice-aggregate-fill
+    fill-requires
+    slice-aggregate-has-ring
+    has-ring-requires
+    returns)

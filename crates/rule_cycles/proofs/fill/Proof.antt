@@ -2,15 +2,17 @@
 use mathlib.Core.Path.{_≡_}
 use Prim.Native.Nat.{_≤_, _-_}
 use lib.ListN.{length, take}
+use Rattle.rule_match.specs.Held.{rulesOf}
+use Rattle.rule_cycles.specs.Links.{linked}
 use Rattle.rule_cycles.proofs.CycleSteps.{steps, filled}
 use Rattle.rule_cycles.proofs.fill.Statement.{statement}
 use Rattle.rule_cycles.proofs.fill.Tie as tie
 
 abbrev Inv-loop : tie.InvT-loop
-Inv-loop rows₀ rules equal i₀ rows i = (i ≤ rules .count) × (length rows ≡ 64) × (take i rows ≡ filled equal rules i)
+Inv-loop rows₀ rules among i₀ rows i = (i ≤ rules .count) × (length rows ≡ 64) × (take i rows ≡ filled (linked among (rulesOf rules)) (rules .count) i)
 
 abbrev μ-loop : tie.MeasureT-loop
-μ-loop rows₀ rules equal i₀ rows i = rules .count - i
+μ-loop rows₀ rules among i₀ rows i = rules .count - i
 
 loop-holds : tie.Need-loop-holds Inv-loop μ-loop
 loop-holds c = search steps

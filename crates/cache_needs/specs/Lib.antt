@@ -1,0 +1,2 @@
+pub mod Needed
+pub mod Tables
