@@ -449,6 +449,30 @@ fn load_of(epoch: fn(u8) -> u32) -> Load {
     }
 }
 
+/// 64 names: each of the first 32 depends, within an epoch, on one of the last, which come later.
+pub fn names_load() -> Load {
+    Load {
+        rules: (0..32)
+            .map(|name| rule(name, Predicate::Equal, name + 32))
+            .collect(),
+        writes: (0..64)
+            .map(|i| write(3 * i, i, (i % 32) as u32, block(i as u16, 1)))
+            .collect(),
+    }
+}
+
+/// One name, whose writes depend on those of lower epochs, which come in no order, by each of 32 rules.
+pub fn one_name_load() -> Load {
+    const NAME: u8 = 7;
+    let epoch = |i: u8| (37 * i as u32 + 5) % 64;
+    Load {
+        rules: vec![rule(NAME, Predicate::Greater, NAME); 32],
+        writes: (0..64)
+            .map(|i| write(3 * i, NAME, epoch(i), block(i as u16, 1)))
+            .collect(),
+    }
+}
+
 /// The state with the first so many writes accepted, and so many of them stored.
 pub fn state_of(load: &Load, accepted: usize, stored: usize) -> Vec<u8> {
     let file = File {
@@ -500,5 +524,42 @@ mod tests {
         assert_eq!(judged(&chain_file()), (21, 1, all - 1));
         assert_eq!(judged(&emptied_ranges_file()), (all, 0, 0));
         assert_eq!(judged(&emptied_beside_file()), (all, 0, 0));
+    }
+
+    /// All hand-ins of each load and then all steps, in Rust, answer and leave what the reference's do;
+    /// and so do drains on the way.
+    #[test]
+    fn loads_in_rust() {
+        for load in [
+            log_load(),
+            dense_load(),
+            changing_load(),
+            names_load(),
+            one_name_load(),
+        ] {
+            let (mut state, mut disk) = (state_of(&load, 0, 0), [0; DISK]);
+            for (place, write) in (1..=64).zip(&load.writes) {
+                let (address, name, epoch) = (write.address, write.name, write.epoch);
+                let content = u32::from_be_bytes(write.block.to_bytes());
+                let answer = fast::cache::hand_in(&mut state, address, name, epoch, content);
+                assert_eq!(answer, place);
+            }
+            assert_eq!(state, state_of(&load, 64, 0));
+            let (mut same, mut same_disk) = (state.clone(), disk);
+            for left in (0..=64).rev() {
+                if left % 16 == 0 {
+                    let (mut one, mut two) = (state.clone(), state.clone());
+                    let (mut one_disk, mut two_disk) = (disk, disk);
+                    let answer = fast::cache::drain(&mut one, &mut one_disk);
+                    assert_eq!(answer, left);
+                    assert_eq!(cache::drain(&mut two, &mut two_disk), Ok(left as usize));
+                    assert_eq!((one, one_disk), (two, two_disk));
+                }
+                let answer = fast::cache::step(&mut state, &mut disk);
+                let expected = cache::step(&mut same, &mut same_disk);
+                assert_eq!(Ok(answer as usize), expected);
+                assert_eq!((&state, disk), (&same, same_disk));
+            }
+        }
     }
 }

@@ -254,6 +254,14 @@ fn step(proved: OnState) -> Vec<Row> {
             "64 writes, half stored, 32 rules, epochs in no order",
             half(&inputs::changing_load()),
         ),
+        (
+            "64 writes of different names, half stored, 32 rules",
+            half(&inputs::names_load()),
+        ),
+        (
+            "64 writes of one name, half stored, 32 rules on it",
+            half(&inputs::one_name_load()),
+        ),
     ];
     let mut rows = on_states("step", inputs, 1, proved, fast::cache::step);
     let full = |load: &Load| inputs::state_of(load, 64, 0);
@@ -332,6 +340,14 @@ fn hand_in(proved: HandIn) -> Vec<Row> {
         row(
             "the 64th write, 32 rules, epochs in no order",
             &inputs::changing_load(),
+        ),
+        row(
+            "the 64th write, all of different names, 32 rules",
+            &inputs::names_load(),
+        ),
+        row(
+            "the 64th write, all of one name, 32 rules on it",
+            &inputs::one_name_load(),
         ),
     ]
 }

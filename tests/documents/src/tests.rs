@@ -327,8 +327,9 @@ fn another_statement_is_noticed() {
     );
 }
 
-/// Each theorem has a term of that type among the proofs. A theorem is a declaration of type
-/// `Type 0` in a theorem file, or a record of facts there; in the bench sheet these are three records.
+/// Each theorem has a term of that type among the proofs. A theorem is a declaration of type `Type 0` in
+/// a theorem file, or of `Type 1` where it is no family of types, or a record of facts there; in the
+/// bench sheet these are three records.
 #[test]
 fn every_theorem_is_proved() {
     // The types that proofs have, each with the module that its name comes from.
@@ -358,6 +359,7 @@ fn every_theorem_is_proved() {
         for declaration in antt_declarations(sources.get(path)) {
             let is_theorem = match declaration.declared_type().as_str() {
                 "Type 0" => true,
+                "Type 1" => !declaration.text.trim_end().ends_with("Type 0"),
                 "Type 0 where" => declaration.text.starts_with("pub record "),
                 _ => false,
             };
@@ -377,8 +379,8 @@ fn every_theorem_is_proved() {
 
 /// Who is lent a disk to write to, and to whom it passes it on. Nobody else writes to it.
 const DISK_PASSED_ON: [(&str, &str, &[&str]); 6] = [
-    ("receiver", "pelzhondy_step", &["fault", "step_sound"]),
-    ("receiver", "pelzhondy_drain", &["fault", "drain_sound"]),
+    ("receiver", "pelzhondy_step", &["look", "step_sound"]),
+    ("receiver", "pelzhondy_drain", &["look", "drain_sound"]),
     ("cache_stores", "store_block", &["put_word"]),
     ("cache_steps", "store_write", &["store_block"]),
     ("cache_steps", "step_sound", &["store_write"]),
@@ -606,9 +608,9 @@ fn other_turns_are_noticed() {
     }
 }
 
-/// What is done once for a file, or once for a test of it, and who does it: each of these is done once
-/// too, up to the routines that nothing of the kit calls.
-const DONE_ONCE: [(&str, &[&str]); 34] = [
+/// What is done once for a file, or once for a test of it, or once for a state, and who does it: each of
+/// these is done once too, up to the routines that nothing of the kit calls.
+const DONE_ONCE: [(&str, &[&str]); 43] = [
     (
         "read",
         &[
@@ -632,7 +634,7 @@ const DONE_ONCE: [(&str, &[&str]); 34] = [
         "is_cyclic",
         &[
             "cache_opening::open_with",
-            "cache_soundness::is_sound",
+            "cache_soundness::decode",
             "file_calls::cyclic_rules",
             "find_choice::better_of",
             "judge_cases::with_rules",
@@ -695,6 +697,22 @@ const DONE_ONCE: [(&str, &[&str]); 34] = [
     ("read_counts", &["workbench::pelzhondy_read"]),
     ("locate_test", &["workbench::pelzhondy_locate"]),
     ("cyclic_rules", &["workbench::pelzhondy_cyclic"]),
+    // A state's layout, rules and stored writes, then its writes in columns and their needs.
+    ("is_framed", &["cache_soundness::decode"]),
+    ("stored_mask", &["cache_soundness::decode"]),
+    ("state_rules", &["cache_soundness::decode"]),
+    ("fill_columns", &["cache_soundness::needs_hold"]),
+    ("fill_needs", &["cache_soundness::needs_hold"]),
+    ("decode", &["cache_handin::hand_fault", "cache_steps::look"]),
+    (
+        "needs_hold",
+        &["cache_handin::hand_fault", "cache_steps::look"],
+    ),
+    ("hand_fault", &["receiver::pelzhondy_hand_in"]),
+    (
+        "look",
+        &["receiver::pelzhondy_step", "receiver::pelzhondy_drain"],
+    ),
 ];
 
 /// Those that go from test to test; the others have no loop before the call.
@@ -704,14 +722,14 @@ const FROM_TEST_TO_TEST: [&str; 3] = [
     "judge_text::put_cases",
 ];
 
-/// Those that ask for rings among rules that are not a file's: a state's, and a set of candidates.
-const OF_OTHER_RULES: [&str; 2] = ["cache_soundness::is_sound", "find_choice::better_of"];
+/// Who asks for rings among rules that are neither a file's nor a state's: a set of candidates.
+const OF_OTHER_RULES: [&str; 1] = ["find_choice::better_of"];
 
 /// Calls of others that have the name of one of these.
-const OF_OTHERS: [&str; 2] = ["libc::read(", "cache_stores::mark("];
+const OF_OTHERS: [&str; 3] = ["libc::read(", "cache_stores::mark(", "= suspects(rules)"];
 
 /// What is against it that a file is scanned, its rules loaded and asked for rings, a test loaded and
-/// prepared once: a caller that is not known to, one that does it twice, or in a loop, or one that is
+/// prepared, and a state decoded once: a caller that is not known to, one that does it twice, or in a loop, or one that is
 /// not called once itself, for all that is known.
 fn done_again(sources: &Sources) -> Vec<String> {
     let mut faults = Vec::new();
@@ -755,7 +773,7 @@ fn done_again(sources: &Sources) -> Vec<String> {
 }
 
 #[test]
-fn a_file_is_decoded_once() {
+fn files_and_states_are_decoded_once() {
     none(done_again(&Sources::load()));
 }
 
@@ -834,9 +852,133 @@ fn decoding_again_is_noticed() {
             "    judge_counting::count_all(",
             "    judge_search::smallest_bad(&mut rows, base, &stores, 0, checks, 0);\n    judge_counting::count_all(",
         ),
+        (
+            "receiver/src/lib.rt",
+            "    cache_steps::drain_sound(",
+            "    cache_steps::look(&mut rows, state, disk);\n    cache_steps::drain_sound(",
+        ),
+        (
+            "cache_steps/src/lib.rt",
+            "        let place = step_sound(",
+            "        let again = cache_soundness::decode(state);\n        let place = step_sound(",
+        ),
+        (
+            "cache_handin/src/lib.rt",
+            "    let dependents = cache_needs::dependents(",
+            "    cache_needs::fill_needs(rows, rules, addresses, names, epochs, n);\n    let dependents = cache_needs::dependents(",
+        ),
+        (
+            "cache_soundness/src/lib.rt",
+            "    cache_needs::fill_needs(",
+            "    let rules = cache_contents::state_rules(state);\n    cache_needs::fill_needs(",
+        ),
     ] {
         let changed = edited(&sources, path, old, new);
         assert_ne!(done_again(&changed), [""; 0], "{} for {}", new, old);
+    }
+}
+
+/// The numbers of a state's layout by name, and who uses them. (Its size is also a length to ask for.)
+const LAYOUT: [(&str, &[&str]); 4] = [
+    ("RULES_START", &["cache_contents::rule_place"]),
+    (
+        "WRITES_START",
+        &["cache_contents::write_place", "cache_layout::is_framed"],
+    ),
+    ("ENTRY_LENGTH", &["cache_contents::write_place"]),
+    (
+        "FLAG_PLACE",
+        &["cache_contents::flag_place", "cache_stores::put_entry"],
+    ),
+];
+
+/// Its numbers as numerals. (The rules' start, 4, is also the length of a word.)
+const LAYOUT_NUMERALS: [&str; 4] = ["1024", "100", "12", "10"];
+
+/// What is against it that the layout of a state stands in one place: another use of one of its
+/// numbers, or one as a numeral in a crate that knows states.
+fn layout_elsewhere(sources: &Sources) -> Vec<String> {
+    let mut faults = Vec::new();
+    let mut found = BTreeSet::new();
+    let others = |path: &&String| *path != "cache_model/src/lib.rt";
+    for path in sources.code().filter(others) {
+        let name = path.split('/').next().unwrap_or("");
+        let source = sources.get(path);
+        let whole = without_comments(source);
+        for (number, _) in LAYOUT {
+            let mut used = 0;
+            for function in functions(source) {
+                let count = uses(&function.body, number);
+                used += count;
+                let of = format!("{}::{} uses {}", name, function.name, number);
+                found.extend((0..count).map(|i| format!("{} ({})", of, i + 1)));
+            }
+            // A use outside of what is taken for a function would not be seen.
+            if used != uses(&whole, number) {
+                faults.push(format!("{} names {} in no function", path, number));
+            }
+        }
+        if named_in(path, source).contains("cache_model") {
+            let numerals = LAYOUT_NUMERALS.iter().filter(|n| uses(&whole, n) > 0);
+            faults.extend(numerals.map(|n| format!("{} has the numeral {}", path, n)));
+        }
+    }
+    let known = LAYOUT.iter().flat_map(|(number, by)| {
+        by.iter()
+            .map(move |of| format!("{} uses {} (1)", of, number))
+    });
+    faults.extend(found.symmetric_difference(&known.collect()).cloned());
+    faults
+}
+
+#[test]
+fn the_layout_stands_in_one_place() {
+    none(layout_elsewhere(&Sources::load()));
+}
+
+/// Each of these would say a second time where something stands.
+#[test]
+fn another_layout_is_noticed() {
+    let sources = Sources::load();
+    for (path, old, new) in [
+        (
+            "cache_layout/src/lib.rt",
+            "cache_contents::flag_place(i)",
+            "cache_contents::write_place(i) + cache_model::FLAG_PLACE",
+        ),
+        (
+            "cache_layout/src/lib.rt",
+            "cache_contents::write_place(writes)",
+            "100 + 12 * writes",
+        ),
+        (
+            "cache_contents/src/lib.rt",
+            "let at = write_place(i);",
+            "let at = cache_model::WRITES_START + cache_model::ENTRY_LENGTH * i;",
+        ),
+        (
+            "cache_stores/src/lib.rt",
+            "at + cache_model::FLAG_PLACE",
+            "at + 10",
+        ),
+        (
+            "cache_steps/src/lib.rt",
+            "// Write i is stored",
+            "const LAST: usize = cache_model::FLAG_PLACE + 1;\n\n// Write i is stored",
+        ),
+        (
+            "cache_opening/src/lib.rt",
+            "i < cache_model::STATE_SIZE",
+            "i < 1024",
+        ),
+        (
+            "receiver/src/lib.rt",
+            "state.len() != cache_model::STATE_SIZE",
+            "state.len() != 1024",
+        ),
+    ] {
+        let changed = edited(&sources, path, old, new);
+        assert_ne!(layout_elsewhere(&changed), [""; 0], "{} for {}", new, old);
     }
 }
 

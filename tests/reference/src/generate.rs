@@ -263,9 +263,8 @@ pub fn nearly_cyclic_rules(random: &mut Random) -> Vec<Rule> {
     rules
 }
 
-/// A ring of rules over these names, in half of the cases with one rule left out, and with both,
-/// one or none of > and <.
-fn ring_of_rules(random: &mut Random, names: &[u8]) -> Vec<Rule> {
+/// Predicates for the rules of a set: one, two or all of them, = often more often.
+pub fn some_predicates(random: &mut Random) -> &'static [Predicate] {
     use Predicate::{Equal, Greater, Less};
     const KINDS: [&[Predicate]; 8] = [
         &[Equal],
@@ -277,7 +276,55 @@ fn ring_of_rules(random: &mut Random, names: &[u8]) -> Vec<Rule> {
         &[Equal, Equal, Equal, Less],
         &[Equal, Greater, Less],
     ];
-    let predicates = random.pick(&KINDS);
+    random.pick(&KINDS)
+}
+
+/// All names in some order, four after another being equal modulo 64.
+pub fn alike_names(random: &mut Random) -> Vec<u8> {
+    let mut lowest: Vec<u8> = (0..64).collect();
+    random.shuffle(&mut lowest);
+    let mut names = Vec::new();
+    for name in lowest {
+        let mut four = [name, name + 64, name + 128, name + 192];
+        random.shuffle(&mut four);
+        names.extend(four);
+    }
+    names
+}
+
+/// So many epochs, 1 to 256, from the whole of their range: all equal, few, neighbours, different in
+/// one byte only, at the ends, any; rising, falling or in no order.
+pub fn epoch_column(random: &mut Random, count: usize) -> Vec<u32> {
+    const ENDS: [u32; 6] = [0, 1, 0x7FFF_FFFF, 0x8000_0000, u32::MAX - 1, u32::MAX];
+    let count = count as u32;
+    let last = u32::MAX - (count - 1);
+    let any = random.number() as u32 % last;
+    let from = random.pick(&[0, 1, 0xFFE0, 0x00FF_FFE0, 0x7FFF_FFE0, last, last, any]);
+    let shift = random.pick(&[8, 16, 24]);
+    let few = random.between(2, 3) as u32;
+    let kind = random.below(7);
+    let mut epochs: Vec<u32> = (0..count)
+        .map(|i| match kind {
+            0 => from,
+            1 => from + i % few,
+            2 => from + i,
+            3 => i << shift,
+            4 => random.pick(&ENDS),
+            _ => random.number() as u32,
+        })
+        .collect();
+    match random.below(3) {
+        0 => epochs.sort_unstable(),
+        1 => epochs.sort_unstable_by(|one, two| two.cmp(one)),
+        _ => random.shuffle(&mut epochs),
+    }
+    epochs
+}
+
+/// A ring of rules over these names, in half of the cases with one rule left out, and with both,
+/// one or none of > and <.
+fn ring_of_rules(random: &mut Random, names: &[u8]) -> Vec<Rule> {
+    let predicates = some_predicates(random);
     let mut rules: Vec<Rule> = (0..names.len())
         .map(|i| Rule {
             name: names[i],
@@ -289,4 +336,45 @@ fn ring_of_rules(random: &mut Random, names: &[u8]) -> Vec<Rule> {
         rules.remove(random.below(names.len()));
     }
     rules
+}
+
+/// So many rules about names many of which are equal modulo 64, all of which lead one way along the
+/// names but for a few.
+pub fn alike_rules(random: &mut Random, count: usize) -> Vec<Rule> {
+    let mut names = alike_names(random);
+    names.truncate(random.pick(&[1, 2, 3, 4, 4, 8, 16, 33]));
+    let predicates = some_predicates(random);
+    let back = random.pick(&[0, 0, 1, 3]);
+    let mut rules = Vec::new();
+    while rules.len() < count {
+        let (a, b) = (random.below(names.len()), random.below(names.len()));
+        let one_way = (names[a.min(b)], names[a.max(b)]);
+        let (name, second) = match rules.len() < back {
+            true => (one_way.1, one_way.0),
+            false => one_way,
+        };
+        let predicate = random.pick(predicates);
+        // One of = alone would lead round.
+        if a != b || predicate != Predicate::Equal || random.one_in(100) {
+            rules.push(Rule {
+                name,
+                predicate,
+                second,
+            });
+        }
+    }
+    random.shuffle(&mut rules);
+    rules
+}
+
+/// Rules that lead round, from each of these names to the next, with these predicates in any order.
+pub fn round(random: &mut Random, names: &[u8], predicates: &[Predicate]) -> Vec<Rule> {
+    let mut predicates = predicates.to_vec();
+    random.shuffle(&mut predicates);
+    let rule = |(i, predicate)| Rule {
+        name: names[i],
+        predicate,
+        second: names[(i + 1) % names.len()],
+    };
+    predicates.into_iter().enumerate().map(rule).collect()
 }

@@ -4,6 +4,7 @@
 use crate::cache::{self, Clause, DISK, STATE};
 use crate::cache::{MOST_WRITES, RULES_AT, RULE_SIZE, WRITES_AT, WRITES_END, WRITE_SIZE};
 use crate::crashes;
+use crate::cyclic::cyclic;
 use crate::file::{write_body, File, MOST_RULES};
 use crate::generate::{self, Values};
 use crate::needs::needs;
@@ -70,6 +71,54 @@ impl Source {
         state
     }
 
+    /// As many writes as a state holds, column by column: names, addresses and epochs that are all
+    /// equal, all different, or something between; and rules for them, none to the most. The values
+    /// are those of the writes.
+    pub fn by_columns(random: &mut Random) -> (Source, Vec<Write>) {
+        let names = name_column(random);
+        let addresses = address_column(random);
+        let epochs = generate::epoch_column(random, MOST_WRITES);
+        let rules = rules_about(random, &names);
+        let values = Values {
+            names,
+            addresses,
+            epochs,
+            halves: Values::wide(random).halves,
+        };
+        let write = |i: usize| Write {
+            address: values.addresses[i],
+            name: values.names[i],
+            epoch: values.epochs[i],
+            block: generate::block(random, &values),
+        };
+        let writes = (0..MOST_WRITES).map(write).collect();
+        (Source { values, rules }, writes)
+    }
+
+    /// The state after these writes were handed in, some perhaps stored by steps in between. One that
+    /// is refused is handed in with an address of its own, and then with a name that no rule has.
+    pub fn after_all(&self, random: &mut Random, writes: &[Write]) -> Vec<u8> {
+        let (mut state, mut disk) = (self.opened(), [0; DISK]);
+        let steps = random.pick(&[0, 0, 0, 1, 4]);
+        for write in writes {
+            let mut write = *write;
+            if cache::hand_in(&mut state, &write).is_err() {
+                write.address = unused_address(random, &state);
+                if cache::hand_in(&mut state, &write).is_err() {
+                    write.name = unused_name(random, &state, self);
+                    cache::hand_in(&mut state, &write).expect("a write that rules say nothing of");
+                }
+            }
+            if random.below(10) < steps {
+                cache::step(&mut state, &mut disk).expect("a sound state");
+            }
+        }
+        if random.one_in(2) {
+            store_any(random, &self.rules, &mut state);
+        }
+        state
+    }
+
     /// A state that a run leaves.
     pub fn reached(&self, random: &mut Random) -> Vec<u8> {
         let calls = match random.below(8) {
@@ -121,6 +170,87 @@ fn store_any(random: &mut Random, rules: &[Rule], state: &mut [u8]) {
         state[WRITES_AT + random.pick(&ready) * WRITE_SIZE + FLAG] = 1;
         state[STORED] += 1;
     }
+}
+
+/// A name for each of 64 writes.
+fn name_column(random: &mut Random) -> Vec<u8> {
+    let mut all = generate::alike_names(random);
+    if random.one_in(3) {
+        random.shuffle(&mut all);
+    }
+    all.truncate(random.pick(&[1, 2, 4, 8, MOST_WRITES]));
+    column(random, &all)
+}
+
+/// An address for each of 64 writes.
+fn address_column(random: &mut Random) -> Vec<u8> {
+    let mut all: Vec<u8> = (0..=255).collect();
+    random.shuffle(&mut all);
+    let half = MOST_WRITES / 2;
+    all.truncate(random.pick(&[1, 8, half, MOST_WRITES, MOST_WRITES]));
+    column(random, &all)
+}
+
+/// Each of the items as often as another one, one after another or in no order.
+fn column(random: &mut Random, items: &[u8]) -> Vec<u8> {
+    let mut column: Vec<u8> = items.iter().copied().cycle().take(MOST_WRITES).collect();
+    match random.below(3) {
+        0 => column.sort_unstable(),
+        1 => random.shuffle(&mut column),
+        _ => {}
+    }
+    column
+}
+
+/// Rules that are not cyclic, few or as many as there can be, about these names, about others, or
+/// about one of these and one of others.
+fn rules_about(random: &mut Random, names: &[u8]) -> Vec<Rule> {
+    let count = random.pick(&[0, 1, 4, MOST_RULES - 1, MOST_RULES, MOST_RULES]);
+    let of_others = random.pick(&[0, 0, 1, 5]);
+    let predicates = generate::some_predicates(random);
+    let name = |random: &mut Random| match random.below(10) < of_others {
+        true => random.byte(),
+        false => random.pick(names),
+    };
+    let mut rules = Vec::new();
+    for _ in 0..4 * count {
+        if rules.len() == count {
+            break;
+        }
+        rules.push(Rule {
+            name: name(random),
+            predicate: random.pick(predicates),
+            second: name(random),
+        });
+        if cyclic(&rules) {
+            rules.pop();
+        }
+    }
+    rules
+}
+
+/// An address that no write of the state has.
+fn unused_address(random: &mut Random, state: &[u8]) -> u8 {
+    let writes = cache::accepted(state);
+    loop {
+        let address = random.byte();
+        if writes.iter().all(|write| write.address != address) {
+            return address;
+        }
+    }
+}
+
+/// The state with these rules and writes, sound or not, of which these are stored.
+pub fn state_of(rules: &[Rule], writes: &[Write], stored: &[bool]) -> Vec<u8> {
+    let mut state = vec![0; STATE];
+    state[0] = rules.len() as u8;
+    for (entry, rule) in state[RULES_AT..].chunks_exact_mut(RULE_SIZE).zip(rules) {
+        entry.copy_from_slice(&[rule.name, rule.predicate.to_byte(), rule.second]);
+    }
+    for (write, &stored) in writes.iter().zip(stored) {
+        append(&mut state, write, stored);
+    }
+    state
 }
 
 /// Appends a write, whether or not it would be accepted.

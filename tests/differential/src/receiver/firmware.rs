@@ -77,10 +77,14 @@ fn stack_of_open(run: &mut Run) -> Outcome {
 
 /// Sound states of every kind, and unsound ones.
 fn any_state(random: &mut Random) -> Vec<u8> {
-    match random.below(5) {
+    match random.below(6) {
         0 => {
             let clause = random.pick(&states::CLAUSES);
             states::broken(random, clause)
+        }
+        1 => {
+            let (source, writes) = Source::by_columns(random);
+            source.after_all(random, &writes)
         }
         _ => states::sound(random),
     }

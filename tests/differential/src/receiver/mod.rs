@@ -1,10 +1,12 @@
 // The receiver's library: the cache's calls one by one, whole runs of them, get, and what firmware
 // asks of the code itself.
 
+mod columns;
 mod firmware;
 mod getting;
 mod hand_in;
 mod opening;
+mod rings;
 mod runs;
 mod soundness;
 mod storing;
@@ -26,6 +28,8 @@ pub fn parts() -> Vec<Part> {
         part("hand_in", handing && step, hand_in::suites()),
         part("step, drain", step && drain, storing::suites()),
         part("soundness of a state", cache, soundness::suites()),
+        part("states of 60 to 64 writes", cache, columns::suites()),
+        part("rings of needs", cache, rings::suites()),
         part("whole runs", open && cache, runs::suites()),
         part("get", get, getting::suites()),
         part("firmware", open && cache && get, firmware::suites()),

@@ -4,12 +4,14 @@ use reference::cache::{self, STATE};
 use reference::crashes;
 use reference::cyclic::cyclic;
 use reference::damage::{self, Limit};
-use reference::file::File;
+use reference::file::{File, MOST_RULES};
 use reference::generate::{self, Values};
 use reference::random::Random;
 use reference::refusal;
 use reference::states;
+use reference::writes::{rule, Predicate, Rule, PREDICATES};
 
+use super::storing::{lend, STEP};
 use super::OTHER_LENGTHS;
 use crate::answer;
 use crate::around::{file_with, AROUND};
@@ -22,6 +24,9 @@ pub fn suites() -> Vec<Suite> {
     vec![
         suite("open: rules", rules),
         suite("open: 8, cyclic rules", cyclic_rules),
+        suite("open: 8, names equal modulo 64", names_alike),
+        suite("open: 8, = rules round 1 to 32 names", equal_rings),
+        suite("open: 8, > and < round", mixed_rings),
         suite("open: 22, files with tests", files_with_tests),
         suite("open: 22 up to 20 main writes, 6 for 21", around_20),
         suite("open: damaged files", damaged_files),
@@ -59,7 +64,7 @@ fn each(run: &mut Run, cases: u64, make: fn(&mut Random) -> Vec<u8>) -> Outcome 
     Ok(())
 }
 
-fn file_of(rules: Vec<reference::writes::Rule>) -> Vec<u8> {
+fn file_of(rules: Vec<Rule>) -> Vec<u8> {
     let file = File {
         rules,
         tests: vec![],
@@ -94,6 +99,141 @@ fn cyclic_rules(run: &mut Run) -> Outcome {
         "a fifth of either at least",
         refused.to_string(),
     )
+}
+
+/// Rules that are cyclic or not, known by how they are made: opening with them, and a step on a state
+/// that has them.
+fn known_rules(random: &mut Random, rules: &[Rule], is_cyclic: bool) -> Outcome {
+    require(
+        cyclic(rules) == is_cyclic,
+        &format!("cyclic {is_cyclic}"),
+        format!("{rules:?}"),
+    )?;
+    let before = any_state(random);
+    same_opening(random, &before, &file_of(rules.to_vec()))?;
+    let (mut state, mut disk) = lend(random, &states::state_of(rules, &[], &[]));
+    STEP.same(&mut state, &mut disk)?;
+    Ok(())
+}
+
+fn names_alike(run: &mut Run) -> Outcome {
+    let (cases, mut refused) = (run.times(2_000), 0);
+    for _ in 0..cases {
+        let mut random = run.next_case();
+        let count = match random.below(3) {
+            0 => random.between(1, MOST_RULES),
+            _ => MOST_RULES,
+        };
+        let rules = generate::alike_rules(&mut random, count);
+        let is_cyclic = cyclic(&rules);
+        refused += u64::from(is_cyclic);
+        known_rules(&mut random, &rules, is_cyclic)?;
+    }
+    run.note(format!("{refused} refused"));
+    require(
+        refused > cases / 5 && refused < cases / 5 * 4,
+        "a fifth of either at least",
+        refused.to_string(),
+    )
+}
+
+/// Names for rules that lead round, half of the time four after another equal modulo 64.
+fn names_for_rings(random: &mut Random) -> Vec<u8> {
+    let mut names = generate::alike_names(random);
+    if random.one_in(2) {
+        random.shuffle(&mut names);
+    }
+    names
+}
+
+/// The rules as they are, or with others about other names that are not cyclic, in any order.
+fn strewn(random: &mut Random, mut rules: Vec<Rule>) -> Vec<Rule> {
+    if random.one_in(2) {
+        random.shuffle(&mut rules);
+        return rules;
+    }
+    let names = rules.iter().flat_map(|rule| [rule.name, rule.second]);
+    let values = Values {
+        names: names.collect(),
+        ..Values::small(random)
+    };
+    crashes::padded(random, &values, &rules)
+}
+
+/// = rules round so many names; then with one rule that is another one, or none.
+fn equal_rings(run: &mut Run) -> Outcome {
+    for length in 1..=MOST_RULES {
+        for _ in 0..run.times(30) {
+            let mut random = run.next_case();
+            let names = names_for_rings(&mut random);
+            let equal = vec![Predicate::Equal; length];
+            let mut rules = generate::round(&mut random, &names[..length], &equal);
+            let all = strewn(&mut random, rules.clone());
+            known_rules(&mut random, &all, true)?;
+            let one = random.below(length);
+            match random.below(4) {
+                0 => {
+                    rules.remove(one);
+                }
+                1 => rules[one].predicate = random.pick(&[Predicate::Greater, Predicate::Less]),
+                2 => rules[one].name = alike(&mut random, &names[length..], rules[one].name),
+                _ => rules[one].second = alike(&mut random, &names[length..], rules[one].second),
+            }
+            let all = strewn(&mut random, rules);
+            known_rules(&mut random, &all, false)?;
+        }
+    }
+    Ok(())
+}
+
+/// One of the names that is equal to a name modulo 64, or any one if none is.
+fn alike(random: &mut Random, names: &[u8], name: u8) -> u8 {
+    let alike: Vec<u8> = names
+        .iter()
+        .copied()
+        .filter(|other| other % 64 == name % 64)
+        .collect();
+    match alike.is_empty() {
+        true => random.pick(names),
+        false => random.pick(&alike),
+    }
+}
+
+/// Rules round some names, of = and at least one >, and round others, of = and at least one <. They
+/// are cyclic if both lead round one name, or there are rules from either to the other.
+fn mixed_rings(run: &mut Run) -> Outcome {
+    for i in 0..run.times(1_000) {
+        let mut random = run.next_case();
+        let names = names_for_rings(&mut random);
+        let (one, two) = (random.between(1, 15), random.between(1, 15));
+        let (firsts, seconds) = names[..one + two].split_at(one);
+        let mut seconds = seconds.to_vec();
+        let joint = i % 4;
+        if joint == 1 {
+            seconds[0] = random.pick(firsts);
+        }
+        let mut rules = ring_with(&mut random, firsts, Predicate::Greater);
+        rules.extend(ring_with(&mut random, &seconds, Predicate::Less));
+        if joint > 1 {
+            let (from, to) = (random.pick(firsts), random.pick(&seconds));
+            rules.push(rule(from, random.pick(&PREDICATES), to));
+        }
+        if joint > 2 {
+            let (from, to) = (random.pick(&seconds), random.pick(firsts));
+            rules.push(rule(from, random.pick(&PREDICATES), to));
+        }
+        let all = strewn(&mut random, rules);
+        known_rules(&mut random, &all, joint % 2 == 1)?;
+    }
+    Ok(())
+}
+
+/// Rules round these names, of = and of another predicate, this at least once.
+fn ring_with(random: &mut Random, names: &[u8], predicate: Predicate) -> Vec<Rule> {
+    let count = random.between(1, names.len());
+    let mut predicates = vec![Predicate::Equal; names.len()];
+    predicates[..count].fill(predicate);
+    generate::round(random, names, &predicates)
 }
 
 /// Refused by 22 even if the rules are cyclic.

@@ -5,6 +5,7 @@ use reference::generate::{self, Values};
 use reference::random::Random;
 use reference::refusal::NOT_SOUND;
 use reference::states::{self, Source};
+use reference::writes::Write;
 
 use super::hand_in::same_hand_in_on;
 use super::storing::{lend, DRAIN, STEP};
@@ -36,11 +37,16 @@ pub fn suites() -> Vec<Suite> {
     ]
 }
 
-/// All three calls on a state. Gives hand-in's refusal, or 0.
+/// All three calls on a state, with any write. Gives hand-in's refusal, or 0.
 fn same_calls(random: &mut Random, state: &[u8]) -> Result<u32, Failure> {
     let values = Values::small(random);
     let write = generate::write(random, &values);
-    let refused = same_hand_in_on(random, state, &write)?;
+    same_calls_with(random, state, &write)
+}
+
+/// Likewise, with this write.
+pub fn same_calls_with(random: &mut Random, state: &[u8], write: &Write) -> Result<u32, Failure> {
+    let refused = same_hand_in_on(random, state, write)?;
     for storing in [STEP, DRAIN] {
         let (mut state, mut disk) = lend(random, state);
         storing.same(&mut state, &mut disk)?;

@@ -62,6 +62,29 @@ pub fn lend(random: &mut Random, state: &[u8]) -> (Lent, Lent) {
     (Lent::new(random, state), Lent::new(random, &disk))
 }
 
+/// All steps of a state; and a drain, which leaves what they leave. Gives the places in the order in
+/// which they are stored.
+pub fn same_to_the_end(random: &mut Random, state: &[u8]) -> Result<Vec<u64>, Failure> {
+    let (mut state, mut disk) = lend(random, state);
+    let (mut drained, mut drained_disk) = (state.clone(), disk.clone());
+    let mut places = Vec::new();
+    loop {
+        match STEP.same(&mut state, &mut disk)? {
+            0 => break,
+            place => places.push(place),
+        }
+    }
+    let got = calls::drain(&mut drained, &mut drained_disk);
+    let inputs = [
+        ("state", drained.content()),
+        ("disk", drained_disk.content()),
+    ];
+    same_answer_on("drain", &inputs, places.len() as u64, got)?;
+    drained.became("state", state.content())?;
+    drained_disk.became("disk", disk.content())?;
+    Ok(places)
+}
+
 fn steps(run: &mut Run) -> Outcome {
     let mut idle = 0;
     for _ in 0..run.times(2_000) {
