@@ -1,2 +1,2 @@
-pub mod HasLayoutSteps
+pub mod FramedSteps
 pub mod LayoutSteps

@@ -9,10 +9,11 @@ use lib.Dec.{eqb, ltb}
 use lib.ListN.{length, getD, take}
 use lib.Seq.{take-suc}
 use borrow.Author.Tests.{lt-ltb}
-use Rattle.relation.specs.Bits.{maskOf}
+use Rattle.relation.specs.Bits.{bit, maskOf}
 use Rattle.relation.specs.Lists.{tabulate, any}
 use Rattle.relation.specs.Tables.{Filled}
-use Rattle.relation.proofs.BitLaws.{mask-ext}
+use Rattle.relation.proofs.BitLaws.{bit-or, bit-and, mask-ext}
+use Rattle.relation.proofs.UnionLaws.{bits-same}
 use Rattle.relation.proofs.MaskLaws.{mask-none, mask-or, mask-and, mask-short}
 use Rattle.model.specs.declared.Rule.{Rule}
 use Rattle.model.specs.declared.Write.{Write}
@@ -34,6 +35,21 @@ use Rattle.cache_needs.specs.Tables.{earlierAt}
 mask-joined : (b : Bool) (p q s : ℕ → Bool) (n : ℕ) → cond b (bitOr (maskOf p n) (bitAnd (maskOf q n) (maskOf s n))) (maskOf p n) ≡ maskOf (λ j. p j || (b && q j && s j)) n
 mask-joined true p q s n = rw (mask-and q s n) (mask-or p (λ j. q j && s j) n)
 mask-joined false p q s n = mask-ext _ _ n (λ j h. sym (or-false (p j)))
+
+-- what two masks add to a third, if asked for, the first adds, and then the second
+pub added-both : (on : Bool) (x s t m : ℕ)
+    → cond on (bitOr x (bitAnd (bitOr s t) m)) x ≡ cond on (bitOr (cond on (bitOr x (bitAnd s m)) x) (bitAnd t m)) (cond on (bitOr x (bitAnd s m)) x)
+added-both true x s t m =
+    bits-same _ _ (λ j. rw (bit-or x (bitAnd (bitOr s t) m) j, bit-and (bitOr s t) m j, bit-or s t j, bit-or (bitOr x (bitAnd s m)) (bitAnd t m) j, bit-or x (bitAnd s m) j, bit-and s m j, bit-and t m j) (both (bit x j) (bit s j) (bit t j) (bit m j)))
+  where
+    both : (a b c d : Bool) → a || ((b || c) && d) ≡ (a || (b && d)) || (c && d)
+    both true b c d = refl
+    both false true true true = refl
+    both false true true false = refl
+    both false true false true = refl
+    both false true false false = refl
+    both false false c d = refl
+added-both false x s t m = refl
 
 pub filled-take : (f : ℕ → ℕ) (table : List ℕ) (n : ℕ) → n ≤ length table → Filled f n table → take n table ≡ tabulate f n
 unfolding tabulate

@@ -1,4 +1,4 @@
--- The needs of all writes, and of one behind them, rule by rule: one law for each return and each turn of a loop.
+-- The needs of all writes, run by run of the rules, and of one behind them, rule by rule: one law for each return and each turn of a loop.
 use mathlib.Core.Path.{_≡_, sym, ap, _∙_}
 use mathlib.Core.Bool.{Bool, true, false, cond, not, and-true, _&&_}
 use mathlib.Core.List.{List}
@@ -25,13 +25,13 @@ use Rattle.rule_match.specs.Held.{itemAt, rulesOf}
 use Rattle.rule_match.proofs.MatchSteps.{length-mapped}
 use Rattle.cache_masks.specs.Columns.{columned}
 use Rattle.cache_masks.specs.declared.Epochs.{Epochs}
-use Rattle.cache_masks.specs.Masks.{sameMask, sameAt, Compared, standingBy, standingBack}
+use Rattle.cache_masks.specs.Masks.{sameMask, sameAt, epochMask, Compared, standingBy, standingBack}
 use Rattle.cache_masks.specs.Ranks.{rankAt, bounds, Small, belowMask}
 use Rattle.cache_masks.proofs.MaskLaws.{standing-mask, back-mask}
 use Rattle.cache_masks.proofs.RankLaws.{standing-ranks}
 use Rattle.cache_needs.specs.Needed.{needsRow, neededMask, dependentMask}
-use Rattle.cache_needs.specs.Tables.{earlierAt, SmallOf, addedTo, Added, Ready, Adds}
-use Rattle.cache_needs.proofs.NeedLaws.{filled-take, row-none, needed-none, dependents-none, row-next, needed-next, dependents-next}
+use Rattle.cache_needs.specs.Tables.{earlierAt, SmallOf, addedTo, Added, Ready, Joins, Adds}
+use Rattle.cache_needs.proofs.NeedLaws.{added-both, filled-take, row-none, needed-none, dependents-none, row-next, needed-next, dependents-next}
 
 -- ---- with_named
 
@@ -44,7 +44,23 @@ named-on on mask x standing named e q = rw (not-false on e, q)
 
 pub ruleset naming = (needs, named-off, named-on)
 
--- ---- add_rule, add_rules
+-- ---- run_from
+
+module _ (names : List ℕ) (n : ℕ) (rules : Rules) (k : ℕ) (all : length (rules .items) ≡ mostRules) (few : rules .count ≤ mostRules) where
+  pub run-begun : (s : ℕ) → k < rules .count → s ≡ sameMask names (itemAt rules k .second) n → Joins names n rules k (k + 1) s
+  run-begun s h q = rw (add-one k, q) (record { at = λ addresses epochs i l. row-next addresses names epochs n rules k (omega arith) i l })
+
+  pub run-more : (e s t : ℕ) → e < rules .count → itemAt rules e .first ≡ itemAt rules k .first → itemAt rules e .predicate ≡ itemAt rules k .predicate
+      → t ≡ sameMask names (itemAt rules e .second) n → Joins names n rules k e s → Joins names n rules k (e + 1) (bitOr s t)
+  run-more e s t h f p q joins = rw (add-one e) (record {
+    at = λ addresses epochs i l.
+        added-both (eqb (getD names i 0) (itemAt rules k .first)) (needsRow (take k (rules .items)) (columned addresses names epochs n) n i) s t (epochMask epochs (itemAt rules k .predicate) (getD epochs i 0) n)
+        ∙ rw (joins .at addresses epochs i l, q) (rw (f, p) at (row-next addresses names epochs n rules e (omega arith) i l));
+  })
+
+pub ruleset runs = (needs, length-mapped, run-begun, run-more)
+
+-- ---- add_rules
 
 same-bit : (names : List ℕ) (x n i : ℕ) → bit (sameMask names x n) i ≡ ltb i n && eqb (getD names i 0) x
 unfolding sameMask
@@ -57,32 +73,25 @@ module _ (names : List ℕ) (n : ℕ) (alike ranks belows : List ℕ) where
         (ltb-true i n (and-left (ltb i n) (eqb (getD names i 0) x) (sym (same-bit names x n i) ∙ ap (λ (m : ℕ). bit m i) (sym e) ∙ b)));
   }
 
-  pub rule-added : (first second p firsts seconds : ℕ) (old rows : List ℕ) → firsts ≡ sameMask names first n → seconds ≡ sameMask names second n
-      → Added old firsts seconds p ranks belows 0 rows → Added old (sameMask names first n) (sameMask names second n) p ranks belows 0 rows
-  rule-added first second p firsts seconds old rows e f a = rw (e, f) at a
-
   pub tables-ready : length names ≡ mostHeld → length alike ≡ mostHeld → length ranks ≡ mostHeld → length belows ≡ bounds → Filled (sameAt names) n alike → Small n ranks
       → Ready names n alike ranks belows
   tables-ready z a b c d e = record { names-long = z; alike-long = a; ranks-long = b; belows-long = c; alike-filled = d; ranks-small = e }
-
-pub ruleset one-rule = (needs, firsts-small, rule-added)
 
 module _ (names : List ℕ) (n : ℕ) (rules : Rules) (ranks belows old : List ℕ) where
   pub adds-begun : Adds (take 0 (rules .items)) names n ranks belows old old
   adds-begun = record { at = λ addresses epochs ranked table filled. filled }
 
-  pub adds-more : (k : ℕ) (rows next : List ℕ) → length (rules .items) ≡ mostRules → rules .count ≤ mostRules → k < rules .count → n ≤ mostHeld
-      → Adds (take k (rules .items)) names n ranks belows old rows
-      → Added rows (sameMask names (itemAt rules k .first) n) (sameMask names (itemAt rules k .second) n) (itemAt rules k .predicate) ranks belows 0 next
-      → Adds (take (k + 1) (rules .items)) names n ranks belows old next
+  pub adds-more : (k e firsts seconds : ℕ) (rows next : List ℕ) → n ≤ mostHeld → Adds (take k (rules .items)) names n ranks belows old rows
+      → Joins names n rules k e seconds → firsts ≡ sameMask names (itemAt rules k .first) n → Added rows firsts seconds (itemAt rules k .predicate) ranks belows 0 next
+      → Adds (take e (rules .items)) names n ranks belows old next
   unfolding addedTo
-  adds-more k rows next all few h held adds added = rw (add-one k) (record {
+  adds-more k e firsts seconds rows next held adds joins f added = record {
     at = λ addresses epochs ranked table filled. record {
       at = λ i l. added .at i
-          ∙ rw (same-bit names (itemAt rules k .first) n i, lt-ltb i n l, bit-zero i, and-true (eqb (getD names i 0) (itemAt rules k .first)), adds .at addresses epochs ranked table filled .at i l, standing-ranks epochs ranks belows n held ranked table i l (itemAt rules k .predicate))
-          (row-next addresses names epochs n rules k (omega arith) i l);
+          ∙ rw (f, same-bit names (itemAt rules k .first) n i, lt-ltb i n l, bit-zero i, and-true (eqb (getD names i 0) (itemAt rules k .first)), adds .at addresses epochs ranked table filled .at i l, standing-ranks epochs ranks belows n held ranked table i l (itemAt rules k .predicate))
+          (joins .at addresses epochs i l);
     };
-  })
+  }
 
   pub adds-done : (k : ℕ) (rows : List ℕ) → k ≤ rules .count → rules .count ≤ k → Adds (take k (rules .items)) names n ranks belows old rows
       → Adds (rulesOf rules) names n ranks belows old rows
@@ -90,7 +99,7 @@ module _ (names : List ℕ) (n : ℕ) (rules : Rules) (ranks belows old : List �
       let q : k ≡ rules .count = omega arith in
       rw q at adds
 
-pub ruleset all-rules = (needs, length-mapped, adds-begun, adds-more, adds-done)
+pub ruleset all-rules = (needs, length-mapped, firsts-small, adds-begun, adds-more, adds-done)
 
 -- ---- fill_needs
 

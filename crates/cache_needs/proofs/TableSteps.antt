@@ -85,9 +85,9 @@ module _ (addresses rows last : List ℕ) (i n a p : ℕ) (h : i < n) (few : n �
 
 pub ruleset earlier = (needs, lasts-begun, last-fits, earlier-more, lasts-more, filled-none, filled-all)
 
--- ---- add_rule
+-- ---- add_to
 
--- what is left are firsts, and the others of them have what the rule adds
+-- what is left are firsts, and the others of them have what is added
 pub record Adding (old : List ℕ) (firsts seconds p : ℕ) (ranks belows : List ℕ) (left : ℕ) (rows : List ℕ) : Type 0 where
   pub part : (j : ℕ) → bit left j ≡ true → bit firsts j ≡ true
   pub fits : left < 2 ^ 64

@@ -4,12 +4,15 @@ use mathlib.Core.Path.{_≡_}
 use mathlib.Core.Bool.{true, cond, not, _&&_}
 use mathlib.Core.List.{List, []}
 use lib.Bits.{bitAnd, bitOr}
-use lib.ListN.{length, getD}
+use lib.Dec.{eqb}
+use lib.ListN.{length, getD, take}
 use Rattle.relation.specs.Bits.{bit, withBit}
 use Rattle.model.specs.declared.Rule.{Rule}
 use Rattle.model.specs.Limits.{mostHeld, diskBlocks}
 use Rattle.relation.specs.Tables.{Filled}
-use Rattle.cache_masks.specs.Masks.{sameMask, sameAt}
+use Rattle.rule_match.specs.declared.Rules.{Rules}
+use Rattle.rule_match.specs.Held.{itemAt}
+use Rattle.cache_masks.specs.Masks.{sameMask, sameAt, epochMask}
 use Rattle.cache_masks.specs.Ranks.{rankAt, belowMask, standingIn, bounds, Small}
 use Rattle.cache_masks.specs.Columns.{columned}
 use Rattle.cache_needs.specs.Needed.{needsRow}
@@ -27,11 +30,11 @@ earlierAt addresses i = sameMask addresses (getD addresses i 0) i
 pub record SmallOf (mask : ℕ) (ranks : List ℕ) : Type 0 where
   pub at : (i : ℕ) → bit mask i ≡ true → getD ranks i 0 < mostHeld
 
--- what a rule adds to the row of write i
+-- what rules of one predicate add to the row of write i
 unfoldable pub addedTo : ℕ → ℕ → List ℕ → List ℕ → ℕ → ℕ
 addedTo seconds p ranks belows i = bitAnd seconds (standingIn belows (getD ranks i 0) p)
 
--- the rows of firsts, but for those left, have what a rule adds
+-- the rows of firsts, but for those left, have what such rules add
 pub record Added (old : List ℕ) (firsts seconds p : ℕ) (ranks belows : List ℕ) (left : ℕ) (rows : List ℕ) : Type 0 where
   pub at : (i : ℕ) → getD rows i 0 ≡ cond (bit firsts i && not (bit left i)) (bitOr (getD old i 0) (addedTo seconds p ranks belows i)) (getD old i 0)
 
@@ -48,6 +51,12 @@ pub record Ready (names : List ℕ) (n : ℕ) (alike ranks belows : List ℕ) : 
   pub belows-long : length belows ≡ bounds
   pub alike-filled : Filled (sameAt names) n alike
   pub ranks-small : Small n ranks
+
+-- the rules from k to e add to the rows of rule k's first name those of seconds that stand as its predicate says, and nothing else
+pub record Joins (names : List ℕ) (n : ℕ) (rules : Rules) (k e seconds : ℕ) : Type 0 where
+  pub at : (addresses epochs : List ℕ) (i : ℕ) → i < n
+      → cond (eqb (getD names i 0) (itemAt rules k .first)) (bitOr (needsRow (take k (rules .items)) (columned addresses names epochs n) n i) (bitAnd seconds (epochMask epochs (itemAt rules k .predicate) (getD epochs i 0) n))) (needsRow (take k (rules .items)) (columned addresses names epochs n) n i)
+      ≡ needsRow (take e (rules .items)) (columned addresses names epochs n) n i
 
 -- rows of writes that need nothing by rules become rows of what they need, whatever their addresses and epochs are that have these ranks
 pub record Adds (rules : List Rule) (names : List ℕ) (n : ℕ) (ranks belows old rows : List ℕ) : Type 0 where

@@ -1,6 +1,5 @@
 // What writes need, as a table of masks, and what a write behind them needs and what depends on it. Writes are
 // given by their columns.
-use model::Rule;
 use model::Write;
 use rule_match::Rules;
 ghost use mathlib.Core.Path.{_≡_};
@@ -15,10 +14,10 @@ ghost use Rattle.model.specs.Limits.{mostRules, mostHeld};
 ghost use Rattle.model.specs.Needs.{needs};
 ghost use Rattle.rule_match.specs.Held.{rulesOf};
 ghost use Rattle.cache_masks.specs.Columns.{columned};
-ghost use Rattle.cache_masks.specs.Masks.{sameMask};
+ghost use Rattle.cache_masks.specs.Masks.{sameMask, sameAt};
 ghost use Rattle.cache_masks.specs.Ranks.{bounds};
 ghost use Rattle.cache_needs.specs.Needed.{neededMask, dependentMask};
-ghost use Rattle.cache_needs.specs.Tables.{behindOf, earlierAt, Added, SmallOf, Ready, Adds};
+ghost use Rattle.cache_needs.specs.Tables.{behindOf, earlierAt, Added, SmallOf, Ready, Joins, Adds};
 
 // A byte as an index.
 fn wide(x: u8) -> usize
@@ -67,25 +66,36 @@ fn add_to(rows: &mut [u64], firsts: u64, seconds: u64, p: u8, ranks: &[u8], belo
     }
 }
 
-// The rows get what a rule makes their writes depend on. alike has for each write those up to it with its name.
-fn add_rule(
-    rows: &mut [u64],
-    rule: Rule,
-    names: &[u8],
-    n: usize,
-    alike: &[u64],
-    ranks: &[u8],
-    belows: &[u64],
-)
-    requires { ⌜ (length (now rows) ≡ mostHeld) × ((n ≤ mostHeld) × Ready (now names) n (now alike) (now ranks) (now belows)) ⌝ }
-    ensures { λ _. ⌜ (length (now (rows .exit)) ≡ mostHeld) × Added (now (rows .entry)) (sameMask (now (names .entry)) (rule .first) n) (sameMask (now (names .entry)) (rule .second) n) (rule .predicate) (now (ranks .entry)) (now (belows .entry)) 0 (now (rows .exit)) ⌝ }
-{
-    let firsts = cache_masks::last_same(alike, names, rule.first, n);
-    let seconds = cache_masks::last_same(alike, names, rule.second, n);
-    add_to(rows, firsts, seconds, rule.predicate, ranks, belows);
+// Rules that stand one behind the other, with one first name and one predicate: where they end, and the writes
+// that have the second name of one of them.
+struct Run {
+    end: usize,
+    seconds: u64,
 }
 
-// The same of all rules.
+// The rules from k on that go with rule k. alike has for each write those up to it with its name.
+fn run_from(rules: Rules, k: usize, names: &[u8], n: usize, alike: &[u64]) -> Run
+    requires { ⌜ ((k < rules .count) × (rules .count ≤ mostRules)) × ((length (now alike) ≡ mostHeld) × ((length (now names) ≡ mostHeld) × ((n ≤ mostHeld) × Filled (sameAt (now names)) n (now alike)))) ⌝ }
+    ensures { λ r. ⌜ (k < r .end) × ((r .end ≤ rules .count) × Joins (now (names .entry)) n rules k (r .end) (r .seconds)) ⌝ }
+{
+    let head = rules.items[k];
+    let mut seconds = cache_masks::last_same(alike, names, head.second, n);
+    let mut end = k + 1;
+    while end < rules.count {
+        let rule = rules.items[end];
+        if rule.first != head.first {
+            return Run { end, seconds };
+        }
+        if rule.predicate != head.predicate {
+            return Run { end, seconds };
+        }
+        seconds = seconds | cache_masks::last_same(alike, names, rule.second, n);
+        end += 1;
+    }
+    Run { end, seconds }
+}
+
+// The rows get what the rules make their writes depend on. What the rules of a run add to a row is added at once.
 fn add_rules(
     rows: &mut [u64],
     rules: Rules,
@@ -100,13 +110,15 @@ fn add_rules(
 {
     let mut k: usize = 0;
     while k < rules.count {
-        add_rule(rows, rules.items[k], names, n, alike, ranks, belows);
-        k += 1;
+        let head = rules.items[k];
+        let run = run_from(rules, k, names, n, alike);
+        let firsts = cache_masks::last_same(alike, names, head.first, n);
+        add_to(rows, firsts, run.seconds, head.predicate, ranks, belows);
+        k = run.end;
     }
 }
 
-// The needs of the first n writes: the earlier ones to the same address, and rule by rule, by its two names, what
-// a write depends on.
+// The needs of the first n writes: the earlier ones to the same address, and what a write depends on by the rules.
 pub fn fill_needs(
     rows: &mut [u64],
     rules: Rules,

@@ -1,4 +1,4 @@
--- The laws of `examine`: the tables, columns and masks of the code against the definition.
+-- The laws of `is_counted`, `decode` and `needs_hold`: the tables, columns and masks of the code against the definition.
 use mathlib.Core.Path.{_≡_, refl, sym, ap, subst, _∙_}
 use mathlib.Core.Bool.{Bool, true, false, not, false≢true, _&&_, _||_}
 use mathlib.Core.List.{List}

@@ -1,5 +1,5 @@
 -- The bytes of a state that holds given rules and entries: what is read back of them, and what opening, hand-in and step make of them, which is
--- again such bytes. The layout's numbers are used here and in the leaves of the code only.
+-- again such bytes. Proofs above this crate speak of rules and entries.
 use mathlib.Core.Path.{_≡_, refl, sym, ap, _∙_}
 use mathlib.Core.Bool.{Bool, true, false, cond}
 use mathlib.Core.List.{List, [], _∷_, _++_, append-assoc}

@@ -14,7 +14,7 @@ ghost use Rattle.cache_model.specs.State.{stateSize, entryLength, acceptedCount
 ghost use Rattle.cache_model.specs.Calls.{given};
 
 // A number in four bytes, big-endian.
-pub fn put_word(bytes: &mut [u8], at: usize, n: u32)
+fn put_word(bytes: &mut [u8], at: usize, n: u32)
     requires { ⌜ at + 4 ≤ length (now bytes) ⌝ }
     ensures { λ _. ⌜ now (bytes .exit) ≡ sets (now (bytes .entry)) at (bytes4 n) ⌝ }
 {

@@ -22,10 +22,6 @@ use Rattle.relation.proofs.MaskLaws.{mask-member, member-mask}
 use Rattle.relation.proofs.SetLaws.{apart-bit, bits-apart}
 use Rattle.relation.proofs.ReachLaws.{From, reached-from, from-further, from-reached}
 
--- what n is related to itself is a ring
-pub added-itself : (S : ℕ → ℕ → Bool) (n : ℕ) → S n n ≡ true → hasRing S (n + 1) ≡ true
-added-itself S n e = rw (add-one n) (ring-hasRing S (suc n) (n, one (omega arith, omega arith, e)))
-
 -- R is on the numbers below n, S goes on to n; rows has R, needed what n is related to, dependents what is related to n
 module _ (R S : ℕ → ℕ → Bool) (n : ℕ) (rows : List ℕ) (needed dependents : ℕ) (few : n < 64) (table : take n rows ≡ rowsOf R n) (same : Agree n S R)
     (none : hasRing R n ≡ false) (self : S n n ≡ false) (a : needed ≡ maskOf (S n) n) (b : dependents ≡ maskOf (λ i. S i n) n) where

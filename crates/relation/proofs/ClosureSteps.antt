@@ -10,9 +10,7 @@ use lib.Seq.{take-suc, drop-cons, set-at, getD-at, take-all, append-snoc, length
 use lib.Bits.{bitOr}
 use borrow.Author.Needs.{needs}
 use Rattle.relation.specs.Bits.{bit}
-use Rattle.relation.specs.Lists.{anyBelow}
-use Rattle.relation.specs.Finite.{related, joined, round, closed, loops}
-use Rattle.relation.proofs.ListLaws.{anyBelow-intro}
+use Rattle.relation.specs.Finite.{joined, round, closed}
 use Rattle.relation.proofs.BitLaws.{test-bit, set-bit}
 
 -- ---- join
@@ -72,23 +70,4 @@ closed-done l rows k n a b e =
     let q : k ≡ n = omega arith in
     rw q at e
 
--- ---- has_loop
-
-pub loops-begun : (rows : List ℕ) → loops rows 0 ≡ false
-unfolding loops anyBelow
-loops-begun rows = refl
-
-pub loops-found : (rows : List ℕ) (n i : ℕ) (b : Bool) → i < n → b ≡ bit (getD rows i 0) i → b ≡ true → true ≡ loops rows n
-unfolding loops related
-loops-found rows n i b h e t = sym (anyBelow-intro (λ k. bit (getD rows k 0) k) n i h (sym e ∙ t))
-
-pub loops-more : (rows : List ℕ) (i : ℕ) (b : Bool) → loops rows i ≡ false → b ≡ bit (getD rows i 0) i → b ≡ false → loops rows (i + 1) ≡ false
-unfolding loops anyBelow related
-loops-more rows i b none e f = rw (add-one i, none) (sym e ∙ f)
-
-pub loops-done : (rows : List ℕ) (i n : ℕ) → i ≤ n → n ≤ i → loops rows i ≡ false → false ≡ loops rows n
-loops-done rows i n a b none =
-    let q : i ≡ n = omega arith in
-    sym (rw q at none)
-
-pub ruleset steps = (needs, test-bit, set-bit, join-on, join-off, round-more, round-done, closed-none, closed-more, closed-done, loops-begun, loops-found, loops-more, loops-done)
+pub ruleset steps = (needs, test-bit, set-bit, join-on, join-off, round-more, round-done, closed-none, closed-more, closed-done)

@@ -1,17 +1,17 @@
 -- Masks as sets: a mask without the members of another, bit by bit and as a smaller number, and the highest member, by the leading zeros.
 use mathlib.Core.Path.{_≡_, refl, sym, ap, _∙_}
-use mathlib.Core.Bool.{Bool, true, false, cond, not, _&&_, _||_, false≢true}
+use mathlib.Core.Bool.{Bool, true, false, cond, not, _&&_, _||_, false≢true, and-assoc}
 use Prim.Native.Nat.{ℕ, zero, suc, _+_, _-_, _/_, _%_, _^_, _≤_, _<_}
-use native.Mathlib.Nat.{pow-suc, mod-lt, mod-le}
+use native.Mathlib.Nat.{pow-suc, mod-lt, mod-le, lt-of-lt-of-le}
 use native.Mathlib.Omega.{arith}
 use lib.Bits.{bitAnd, bitOr, or-disjoint, and-le-l}
 use lib.Count.{leadingZeros, leading-le, leading-top, trailingZeros, trailing-le, under}
-use lib.Dec.{ltb}
+use lib.Dec.{eqb, ltb}
 use lib.Pow.{pow-mono, pow-pos}
 use borrow.Author.Needs.{needs}
 use borrow.Author.Tests.{lt-ltb, ltb-true, ltb-false, not-true}
-use Rattle.relation.specs.Bits.{bit, withBit, without, Highest, Lowest}
-use Rattle.relation.proofs.BitLaws.{bit-suc, bit-and, bit-or, bit-mask, mask-below, bits-equal, bit-zero, bit-mod, set-bit}
+use Rattle.relation.specs.Bits.{bit, withBit, maskOf, without, Highest, Lowest}
+use Rattle.relation.proofs.BitLaws.{bit-suc, bit-and, bit-or, bit-mask, mask-below, bits-equal, bit-zero, bit-mod, bit-pow, set-bit}
 use Rattle.relation.proofs.ListLaws.{clash, untrue, and-left, and-right, and-intro}
 use Rattle.relation.proofs.UnionLaws.{bits-same, bit-past, bit-top, others-bits}
 use Rattle.relation.proofs.WithoutLaws.{bit-most, odd-bit, even-bit}
@@ -56,6 +56,14 @@ without-member a b j e = go (ltb j 64) refl
 
 pub member-without : (a b j : ℕ) → j < 64 → bit a j ≡ true → bit b j ≡ false → bit (without a b) j ≡ true
 member-without a b j l ea eb = low-without a b j l ∙ rw (ea, eb)
+
+-- a mask without one of its numbers
+pub mask-without : (p : ℕ → Bool) (n i : ℕ) → n ≤ 64 → without (maskOf p n) (2 ^ i) ≡ maskOf (λ j. p j && not (eqb j i)) n
+mask-without p n i h =
+    let q : ℕ → Bool = λ j. p j && not (eqb j i) in
+    let small = lt-of-lt-of-le (mask-below p n) (pow-mono {i = n} {j = 64} h) in
+    bits-equal 64 _ _ (without-below (maskOf p n) (2 ^ i)) (lt-of-lt-of-le (mask-below q n) (pow-mono {i = n} {j = 64} h))
+    (λ j l. bit-without (maskOf p n) (2 ^ i) j small ∙ rw (bit-mask p n j, bit-pow i j, bit-mask q n j) (and-assoc (ltb j n) (p j) (not (eqb j i))))
 
 pub without-is : (a b : ℕ) → a < 2 ^ 64 → b < 2 ^ 64 → bitAnd a (18446744073709551615 - b) ≡ without a b
 without-is a b h k =

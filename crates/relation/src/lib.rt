@@ -5,7 +5,7 @@ ghost use Prim.Native.Nat.{_+_, _-_, _^_, _<_, _≤_};
 ghost use lib.ListN.{length};
 ghost use Rattle.relation.specs.Rank.{smallSets, rank};
 ghost use Rattle.relation.specs.Bits.{bit, withBit, without, Highest, Lowest};
-ghost use Rattle.relation.specs.Finite.{related, joined, round, closed, loops, hasRing};
+ghost use Rattle.relation.specs.Finite.{related, joined, round, closed, hasRing};
 ghost use Rattle.relation.specs.Union.{Unites, Doubled};
 ghost use Rattle.relation.specs.Peel.{peeledOne, peeled, peeledBack};
 ghost use Rattle.relation.specs.Reach.{reached, closesRing};
@@ -108,21 +108,6 @@ pub fn close(rows: &mut [u64; 64], n: usize)
     }
 }
 
-// Whether some number below n reaches itself in the table.
-pub fn has_loop(rows: &[u64; 64], n: usize) -> bool
-    requires { ⌜ n ≤ 64 ⌝ }
-    ensures { λ r. ⌜ r ≡ loops (now (rows .entry)) n ⌝ }
-{
-    let mut i: usize = 0;
-    while i < n {
-        if has_bit(rows[i], i) {
-            return true;
-        }
-        i += 1;
-    }
-    false
-}
-
 // All numbers below n.
 pub fn all_below(n: usize) -> u64
     requires { ⌜ n ≤ 64 ⌝ }
@@ -196,7 +181,7 @@ pub fn has_ring(rows: &[u64], n: usize) -> bool
 
 // A set with all that is reached from its members: the row of each member that is left is looked at, and what
 // is new is left in its turn.
-pub fn reach(rows: &[u64], from: u64) -> u64
+fn reach(rows: &[u64], from: u64) -> u64
     requires { ⌜ length (now rows) ≡ 64 ⌝ }
     ensures { λ r. ⌜ r ≡ reached (now (rows .entry)) from ⌝ }
 {

@@ -1,8 +1,9 @@
 -- The code's steps: one law for each return and each turn of a loop, whose premises are what is known at that place.
 use mathlib.Core.Path.{_≡_, refl, sym, ap, _∙_}
-use mathlib.Core.Bool.{Bool, true, false, cond, not, _&&_}
+use mathlib.Core.Bool.{Bool, true, false, cond, not, _&&_, _||_, and-true}
+use mathlib.Core.Logic.{_⊎_, inl, inr}
 use mathlib.Core.List.{List}
-use Prim.Native.Nat.{ℕ, _+_, _%_, _^_, _≤_, _<_}
+use Prim.Native.Nat.{ℕ, _+_, _*_, _%_, _^_, _≤_, _<_}
 use native.Mathlib.Numerals.{add-one}
 use native.Mathlib.Omega.{arith}
 use lib.Bits.{bitAnd}
@@ -12,16 +13,18 @@ use lib.Pow.{pow-mono}
 use lib.Seq.{take-suc-set, getD-set-same, getD-set-other}
 use borrow.Author.Needs.{needs}
 use borrow.Author.Tests.{eq-eqb, eqb-true, eqb-false, ne-eqb, lt-ltb, not-true, not-false}
-use Rattle.relation.specs.Bits.{bit, withBit, maskOf}
+use Rattle.relation.specs.Bits.{bit, withBit, maskOf, without}
 use Rattle.relation.specs.Tables.{Blank}
 use Rattle.relation.specs.Lists.{anyBelow, tabulate}
-use Rattle.relation.specs.Finite.{related, rowsOf, closed, hasRing, reaches}
-use Rattle.relation.proofs.BitLaws.{bit-zero, with-below, bit-mask, mask-below, mask-ext}
+use Rattle.relation.specs.Transitive.{Ring}
+use Rattle.relation.specs.Finite.{Below, related, rowsOf, closed, hasRing, reaches}
+use Rattle.relation.proofs.BitLaws.{bit-zero, power-is, with-below, bit-mask, mask-below, mask-ext}
 use Rattle.relation.proofs.FiniteLaws.{Agree, table-related, table-ring, related-closed, reaches-plus, hasRing-ext, hasRing-ring, ring-hasRing}
-use Rattle.relation.proofs.ListLaws.{clash, untrue, and-left, and-right, and-intro, anyBelow-true, anyBelow-intro, anyBelow-ext}
+use Rattle.relation.proofs.ListLaws.{clash, untrue, and-left, and-right, and-intro, or-left, or-right, anyBelow-true, anyBelow-intro, anyBelow-ext}
 use Rattle.relation.proofs.MaskLaws.{member-mask, mask-cut, mask-false, mask-begun, mask-more, mask-all}
 use Rattle.relation.proofs.TableLaws.{blank-made}
-use Rattle.relation.proofs.TransitiveLaws.{plus-trans, plus-first, plus-map}
+use Rattle.relation.proofs.SetLaws.{mask-without}
+use Rattle.relation.proofs.TransitiveLaws.{Moves, plus-trans, plus-first, plus-map, plus-moves}
 use Rattle.relation.proofs.UnionLaws.{bit-ones}
 use Rattle.model.specs.Limits.{mostRules}
 use Rattle.model.specs.declared.Rule.{Rule}
@@ -123,13 +126,28 @@ buckets-all rules table k n t a b = let q : k ≡ n = omega arith in rw (← q) 
 
 -- ---- fill_near
 
-pub near-row : (rules : Rules) (buckets : List ℕ) (among i b : ℕ) → i < rules .count → Buckets (rulesOf rules) (rules .count) buckets
-    → b ≡ itemAt rules i .second % 64 → b < 64 → bitAnd (getD buckets b 0) among ≡ maskOf (near among (rulesOf rules) i) (rules .count)
-unfolding near
-near-row rules buckets among i b h t e l =
+module _ (row i predicate : ℕ) where
+  pub apart-equal : predicate ≡ 0 → row ≡ cond (eqb predicate 0) row (without row (2 ^ i))
+  apart-equal e = rw e
+
+  pub apart-other : (r : ℕ) → (predicate ≡ 0 → ⊥) → i < 64 → r ≡ without row (1 * 2 ^ i % 18446744073709551616) → r ≡ cond (eqb predicate 0) row (without row (2 ^ i))
+  apart-other r f h e = rw (ne-eqb predicate 0 f, ← power-is i h) e
+
+pub near-row : (rules : Rules) (buckets : List ℕ) (among i b r : ℕ) → i < rules .count → rules .count ≤ mostRules → Buckets (rulesOf rules) (rules .count) buckets
+    → b ≡ itemAt rules i .second % 64 → b < 64
+    → r ≡ cond (eqb (itemAt rules i .predicate) 0) (bitAnd (getD buckets b 0) among) (without (bitAnd (getD buckets b 0) among) (2 ^ i))
+    → r ≡ maskOf (near among (rulesOf rules) i) (rules .count)
+unfolding near has
+near-row rules buckets among i b r h few t e l q =
     let n = rules .count in
-    let p = inBucket (rulesOf rules) b in
-    rw (t .at b l) (mask-cut p n among ∙ mask-ext _ _ n (λ j k. rw (held-at rules i h, ← e)))
+    let p : ℕ → Bool = λ j. bit among j && inBucket (rulesOf rules) b j in
+    let base : bitAnd (getD buckets b 0) among ≡ maskOf p n = rw (t .at b l) (mask-cut (inBucket (rulesOf rules) b) n among) in
+    let c = eqb (itemAt rules i .predicate) 0 in
+    q ∙ ap (λ (m : ℕ). cond c m (without m (2 ^ i))) base ∙ go p c ∙ mask-ext (λ j. p j && (c || not (eqb j i))) _ n (λ j k. rw (held-at rules i h, ← e))
+  where
+    go : (p : ℕ → Bool) (c : Bool) → cond c (maskOf p (rules .count)) (without (maskOf p (rules .count)) (2 ^ i)) ≡ maskOf (λ j. p j && (c || not (eqb j i))) (rules .count)
+    go p true = mask-ext p _ (rules .count) (λ j k. sym (and-true (p j)))
+    go p false = mask-without p (rules .count) i (omega arith)
 
 -- ---- may_ring
 
@@ -141,22 +159,24 @@ unfolding near
 may-none rules among n z =
     sym (untrue (hasRing (near among rules) n) (λ t.
     let s = plus-first (hasRing-ring (near among rules) n t .1) in
-    clash (bit among (s .0)) (and-left (bit among (s .0)) _ (s .1 .2)) (ap (λ (x : ℕ). bit x (s .0)) z ∙ bit-zero (s .0))))
+    clash (bit among (s .0)) (and-left (bit among (s .0)) _ (and-left (bit among (s .0) && _) _ (s .1 .2))) (ap (λ (x : ℕ). bit x (s .0)) z ∙ bit-zero (s .0))))
 
--- a relation that goes with leading, into the set, has no ring where rules do not seem to lead round
-straight : (rules : List Rule) (among n : ℕ) (b : Bool) (R : ℕ → ℕ → Bool) → b ≡ hasRing (near among rules) n → not b ≡ true
-    → ((i j : ℕ) → i < n → j < n → R i j ≡ true → (bit among j ≡ true) × (leads rules i j ≡ true)) → hasRing R n ≡ false
+-- a relation that goes with leading, into the set, and of a > or < rule to another one, has no ring where rules do not seem to lead round
+straight : (rules : List Rule) (among n : ℕ) (b : Bool) (S : ℕ → ℕ → Type 0) → b ≡ hasRing (near among rules) n → not b ≡ true
+    → ((i j : ℕ) → S i j → (i < n) × (j < n) × (bit among j ≡ true) × (leads rules i j ≡ true) × (has rules 0 i || not (eqb j i) ≡ true)) → Ring S → ⊥
 unfolding near leads inBucket
-straight rules among n b R e f g =
-    untrue (hasRing R n) (λ t.
-    let r = hasRing-ring R n t in
-    clash (hasRing (near among rules) n) (ring-hasRing (near among rules) n (r .0, plus-map (λ x. x) (λ i j s. (s .0, s .1, seems i j (g i j (s .0) (s .1) (s .2)))) (r .1))) (sym e ∙ not-true b f))
+straight rules among n b S e f g r =
+    clash (hasRing (near among rules) n)
+    (ring-hasRing (near among rules) n (r .0, plus-map (λ x. x) (λ i j s. let h = g i j s in (h .0, h .1, seems i j (h .2) (h .3) (h .4))) (r .1)))
+    (sym e ∙ not-true b f)
   where
-    seems : (i j : ℕ) → (bit among j ≡ true) × (eqb (ruleAt rules i .second) (ruleAt rules j .first) ≡ true)
-        → bit among j && eqb (ruleAt rules i .second % 64) (ruleAt rules j .first % 64) ≡ true
-    seems i j s =
-        and-intro (bit among j) _ (s .0)
-        (eq-eqb (ruleAt rules i .second % 64) (ruleAt rules j .first % 64) (ap (λ (x : ℕ). x % 64) (eqb-true (ruleAt rules i .second) (ruleAt rules j .first) (s .1))))
+    seems : (i j : ℕ) → bit among j ≡ true → eqb (ruleAt rules i .second) (ruleAt rules j .first) ≡ true → has rules 0 i || not (eqb j i) ≡ true
+        → bit among j && eqb (ruleAt rules i .second % 64) (ruleAt rules j .first % 64) && (has rules 0 i || not (eqb j i)) ≡ true
+    seems i j t l d =
+        and-intro (bit among j && eqb (ruleAt rules i .second % 64) (ruleAt rules j .first % 64)) _
+        (and-intro (bit among j) _ t
+        (eq-eqb (ruleAt rules i .second % 64) (ruleAt rules j .first % 64) (ap (λ (x : ℕ). x % 64) (eqb-true (ruleAt rules i .second) (ruleAt rules j .first) l))))
+        d
 
 -- ---- meets_at
 
@@ -253,6 +273,13 @@ module _ (rules : Rules) (among : ℕ) (c : among ≡ maskOf (has (rulesOf rules
 
 -- ---- mixed_ring
 
+equal-or-not : (x y : ℕ) → (x ≡ y) ⊎ (x ≡ y → ⊥)
+equal-or-not x y = go (eqb x y) refl
+  where
+    go : (t : Bool) → eqb x y ≡ t → (x ≡ y) ⊎ (x ≡ y → ⊥)
+    go true e = inl (eqb-true x y e)
+    go false e = inr (eqb-false x y e)
+
 -- what two rules that meet are, and that they reach each other
 module _ (rules : List Rule) (rows : List ℕ) where
   meets-by : meets rules rows ≡ true
@@ -279,16 +306,23 @@ module _ (rules : Rules) (all : length (rules .items) ≡ mostRules) (few : rule
   no-less : (mask : ℕ) → mask ≡ maskOf (has (rulesOf rules) 2) (rules .count) → mask ≡ 0 → meets (rulesOf rules) ends ≡ true → ⊥
   no-less mask c z t = let m = meets-by (rulesOf rules) ends t in none-having 2 mask (m .3) c z (m .4) (m .5)
 
-  -- rules that meet are on a ring
-  meets-ring : meets (rulesOf rules) ends ≡ true → hasRing (leads (rulesOf rules)) (rules .count) ≡ true
-  unfolding reaches
-  meets-ring t =
+  -- rules that meet are two, and on a ring that goes from rule to other rule
+  meets-moves : meets (rulesOf rules) ends ≡ true → Ring (Moves (Below (rules .count) (leads (rulesOf rules))))
+  unfolding reaches has
+  meets-moves t =
       let n = rules .count in
       let R = leads (rulesOf rules) in
       let m = meets-by (rulesOf rules) ends t in
       let hi : m .0 < n = rw (held-length rules all few) at (m .1) in
       let hj : m .3 < n = rw (held-length rules all few) at (m .4) in
-      ring-hasRing R n (m .0, plus-trans (reaches-plus R n (m .0) (m .3) hi hj (m .6)) (reaches-plus R n (m .3) (m .0) hj hi (m .7)))
+      let greater = eqb-true (ruleAt (rulesOf rules) (m .0) .predicate) 1 (m .2) in
+      let less = eqb-true (ruleAt (rulesOf rules) (m .3) .predicate) 2 (m .5) in
+      let two : m .0 ≡ m .3 → ⊥ = λ e. let q = sym greater ∙ ap (λ (i : ℕ). ruleAt (rulesOf rules) i .predicate) e ∙ less in omega (arith, q) in
+      (m .0, plus-trans (plus-moves equal-or-not (reaches-plus R n (m .0) (m .3) hi hj (m .6)) two) (plus-moves equal-or-not (reaches-plus R n (m .3) (m .0) hj hi (m .7)) (λ e. two (sym e))))
+
+  -- and so on a ring
+  meets-ring : meets (rulesOf rules) ends ≡ true → hasRing (leads (rulesOf rules)) (rules .count) ≡ true
+  meets-ring t = let r = meets-moves t in ring-hasRing (leads (rulesOf rules)) (rules .count) (r .0, plus-map (λ x. x) (λ i j s. s .0) (r .1))
 
   all-agrees : (rows : List ℕ) → take (rules .count) rows ≡ rowsOf (linked everything (rulesOf rules)) (rules .count)
       → Agree (rules .count) (related rows) (leads (rulesOf rules))
@@ -347,10 +381,18 @@ module _ (rules : Rules) (all : length (rules .items) ≡ mostRules) (few : rule
         let n = rules .count in
         let rs = rulesOf rules in
         cyclic-by
-        (straight rs among n b (equalLeads rs) e f (λ i j hi hj t.
-        let front = and-left (has rs 0 i && has rs 0 j) (leads rs i j) t in
-        (s .equal j hj (and-right (has rs 0 i) (has rs 0 j) front), and-right (has rs 0 i && has rs 0 j) (leads rs i j) t)))
-        (untrue (meets rs ends) (λ t. clash (hasRing (leads rs) n) (meets-ring t) (straight rs among n b (leads rs) e f (λ i j hi hj l. (rw (s .mixed t) (bit-ones 64 j (omega arith)), l)))))
+        (untrue (hasRing (equalLeads rs) n) (λ t.
+        straight rs among n b (Below n (equalLeads rs)) e f
+        (λ i j q.
+        let front = and-left (has rs 0 i && has rs 0 j) (leads rs i j) (q .2) in
+        (q .0, q .1, s .equal j (q .1) (and-right (has rs 0 i) (has rs 0 j) front), and-right (has rs 0 i && has rs 0 j) (leads rs i j) (q .2), or-left (has rs 0 i) _ (and-left (has rs 0 i) (has rs 0 j) front)))
+        (hasRing-ring (equalLeads rs) n t)))
+        (untrue (meets rs ends) (λ t.
+        straight rs among n b (Moves (Below n (leads rs))) e f
+        (λ i j q.
+        let h = q .0 .1 in
+        (q .0 .0, h, rw (s .mixed t) (bit-ones 64 j (omega arith)), q .0 .2, or-right (has rs 0 i) _ (ap not (ne-eqb j i (λ z. q .1 (sym z))))))
+        (meets-moves t)))
 
     pub cyclic-plain : b ≡ hasRing (equalLeads (rulesOf rules)) (rules .count) → b ≡ false → (among ≡ everything → ⊥) → false ≡ cyclic (rulesOf rules)
     cyclic-plain e f d = cyclic-by (sym e ∙ f) (untrue (meets (rulesOf rules) ends) (λ t. d (s .mixed t)))
@@ -366,4 +408,4 @@ module _ (rules : Rules) (b : Bool) where
   unfolding cyclic
   cyclic-mixed d all few e n f = rw (held-length rules all few, ← e, n) f
 
-pub ruleset steps = (needs, length-mapped, blank-made, mask-begun, mask-all, having-more, starting-more, row-out, row-in, fill-begun, fill-more, fill-done, buckets-none, buckets-more, bucket-small, bucket-small-yet, bucket-fits, buckets-all, near-row, may-ring, may-none, at-other, at-both, at-none, none-begun, from-other, from-more, from-found, from-done, meet-more, meet-found, meet-done, equal-ring, mixed-none, mixed-ring, suspects-all, suspects-no-greater, suspects-no-less, cyclic-straight, cyclic-equal, cyclic-plain, cyclic-mixed)
+pub ruleset steps = (needs, length-mapped, blank-made, mask-begun, mask-all, having-more, starting-more, row-out, row-in, fill-begun, fill-more, fill-done, buckets-none, buckets-more, bucket-small, bucket-small-yet, bucket-fits, buckets-all, near-row, may-ring, may-none, apart-equal, apart-other, at-other, at-both, at-none, none-begun, from-other, from-more, from-found, from-done, meet-more, meet-found, meet-done, equal-ring, mixed-none, mixed-ring, suspects-all, suspects-no-greater, suspects-no-less, cyclic-straight, cyclic-equal, cyclic-plain, cyclic-mixed)

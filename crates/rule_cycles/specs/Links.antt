@@ -1,7 +1,7 @@
 -- What the parts of the search for a ring compute.
 use Prim.Native.Nat.{ℕ, _%_, _<_}
 use mathlib.Core.Path.{_≡_}
-use mathlib.Core.Bool.{Bool, true, _&&_}
+use mathlib.Core.Bool.{Bool, true, not, _&&_, _||_}
 use mathlib.Core.List.{List}
 use lib.Dec.{eqb}
 use lib.ListN.{length, getD}
@@ -27,9 +27,9 @@ inBucket rules b j = eqb b (ruleAt rules j .first % 64)
 pub record Buckets (rules : List Rule) (k : ℕ) (table : List ℕ) : Type 0 where
   pub at : (b : ℕ) → b < 64 → getD table b 0 ≡ maskOf (inBucket rules b) k
 
--- rule i may lead to rule j, by the lowest six bits of the names, and rule j is in a set
+-- rule i may lead to rule j, by the lowest six bits of the names, and rule j is in a set; to itself only if it is a = rule
 unfoldable pub near : ℕ → List Rule → ℕ → ℕ → Bool
-near among rules i j = bit among j && inBucket rules (ruleAt rules i .second % 64) j
+near among rules i j = bit among j && inBucket rules (ruleAt rules i .second % 64) j && (has rules 0 i || not (eqb j i))
 
 -- all numbers below 64, and so all rules
 abbrev pub everything : ℕ

@@ -2,9 +2,11 @@
 use model::Rule;
 use rule_match::Rules;
 ghost use mathlib.Core.Path.{_≡_};
-ghost use Prim.Native.Nat.{_%_, _<_, _≤_};
+ghost use mathlib.Core.Bool.{cond};
+ghost use Prim.Native.Nat.{_%_, _^_, _<_, _≤_};
+ghost use lib.Dec.{eqb};
 ghost use lib.ListN.{length, take};
-ghost use Rattle.relation.specs.Bits.{maskOf};
+ghost use Rattle.relation.specs.Bits.{maskOf, without};
 ghost use Rattle.relation.specs.Tables.{Blank};
 ghost use Rattle.relation.specs.Finite.{rowsOf, closed, hasRing};
 ghost use Rattle.model.specs.Limits.{mostRules};
@@ -86,6 +88,17 @@ fn fill_buckets(buckets: &mut [u32], rules: Rules)
     }
 }
 
+// A row of i, without i itself but where i is a = rule: a > or a < rule makes no ring by itself.
+fn apart(row: u64, i: usize, predicate: u8) -> u64
+    requires { ⌜ i < 64 ⌝ }
+    ensures { λ r. ⌜ r ≡ cond (eqb predicate 0) row (without row (2 ^ i)) ⌝ }
+{
+    if predicate == 0 {
+        return row;
+    }
+    relation::without(row, 1 << i)
+}
+
 // The table of which rule may lead to which of a set, by buckets.
 fn fill_near(rows: &mut [u64], buckets: &[u32], rules: Rules, among: u64)
     requires { ⌜ ((rules .count ≤ mostRules) × (length (now rows) ≡ 64)) × ((length (now buckets) ≡ 64) × Buckets (rulesOf rules) (rules .count) (now buckets)) ⌝ }
@@ -93,13 +106,14 @@ fn fill_near(rows: &mut [u64], buckets: &[u32], rules: Rules, among: u64)
 {
     let mut i: usize = 0;
     while i < rules.count {
-        rows[i] = buckets[bucket(rules.items[i].second)] as u64 & among;
+        let row = buckets[bucket(rules.items[i].second)] as u64 & among;
+        rows[i] = apart(row, i, rules.items[i].predicate);
         i += 1;
     }
 }
 
-// Whether rules of a set may lead round. Told in one pass over the rules and one over the table; where it is
-// so, the names themselves have to be compared, each with each.
+// Whether rules of a set may lead round, told by the lowest bits of their names. Where they may not, there is
+// no ring of = rules, nor one of a > and a < rule; where they may, names have to be compared, each with each.
 fn may_ring(rules: Rules, among: u64) -> bool
     requires { ⌜ rules .count ≤ mostRules ⌝ }
     ensures { λ r. ⌜ r ≡ hasRing (near among (rulesOf rules)) (rules .count) ⌝ }

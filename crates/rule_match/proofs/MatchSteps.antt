@@ -1,9 +1,8 @@
--- Rules that are held, matches and dependencies: one law for each return and each turn of a loop.
+-- Rules that are held and matches: one law for each return; and a dependency by one rule more.
 use mathlib.Core.Path.{_≡_, refl, sym, ap, _∙_}
-use mathlib.Core.Bool.{Bool, true, false, and-false, or-false, _||_}
+use mathlib.Core.Bool.{Bool, false, and-false, or-false, _||_}
 use mathlib.Core.List.{List, [], _∷_, map}
-use Prim.Native.Nat.{ℕ, zero, suc, _+_, _≤_, _<_}
-use native.Mathlib.Numerals.{add-one}
+use Prim.Native.Nat.{ℕ, zero, suc, _≤_, _<_}
 use native.Mathlib.Omega.{arith}
 use lib.Dec.{eqb, ltb}
 use lib.ListN.{length, length-map, take}
@@ -11,7 +10,7 @@ use lib.Seq.{length-take-le, getD-take, take-suc}
 use borrow.Author.Needs.{needs}
 use borrow.Author.Tests.{eq-eqb, ne-eqb}
 use Rattle.relation.specs.Lists.{any}
-use Rattle.relation.proofs.ListLaws.{any-append, any-intro, index-mem}
+use Rattle.relation.proofs.ListLaws.{any-append}
 use Rattle.model.specs.Limits.{mostRules}
 use Rattle.model.specs.declared.Rule.{Rule}
 use Rattle.model.specs.Rules.{Label, stands, matches, dependsOn}
@@ -70,13 +69,9 @@ module _ (r : Rule) (l m : Label) where
   unfolding matches
   matches-stands b p q e = rw (eq-eqb (l .name) (r .first) p, eq-eqb (m .name) (r .second) q) e
 
--- ---- depends
+-- ---- dependencies
 
 module _ (rules : Rules) (l m : Label) where
-  pub depends-begun : dependsOn (take 0 (rules .items)) l m ≡ false
-  unfolding dependsOn any
-  depends-begun = refl
-
   -- one rule more
   pub depends-next : (i : ℕ) → i < length (rules .items)
       → dependsOn (take (suc i) (rules .items)) l m ≡ dependsOn (take i (rules .items)) l m || matches (itemAt rules i) l m
@@ -86,22 +81,4 @@ module _ (rules : Rules) (l m : Label) where
       ∙ any-append (λ r. matches r l m) (take i (rules .items)) (itemAt rules i ∷ [])
       ∙ ap (λ (b : Bool). dependsOn (take i (rules .items)) l m || b) (or-false (matches (itemAt rules i) l m))
 
-  pub depends-more : (i : ℕ) (b : Bool) → length (rules .items) ≡ mostRules → rules .count ≤ mostRules → i < rules .count
-      → dependsOn (take i (rules .items)) l m ≡ false → b ≡ matches (itemAt rules i) l m → b ≡ false
-      → dependsOn (take (i + 1) (rules .items)) l m ≡ false
-  depends-more i b all few h none e f = rw (add-one i, depends-next i (omega arith), none) (sym e ∙ f)
-
-  pub depends-found : (i : ℕ) (b : Bool) → length (rules .items) ≡ mostRules → rules .count ≤ mostRules → i < rules .count
-      → b ≡ matches (itemAt rules i) l m → b ≡ true → true ≡ dependsOn (rulesOf rules) l m
-  unfolding dependsOn
-  depends-found i b all few h e t =
-      let there = index-mem (rulesOf rules) i noRule (rw (held-length rules all few) h) (held-at rules i h) in
-      sym (any-intro (λ r. matches r l m) there (sym e ∙ t))
-
-  pub depends-done : (i : ℕ) → i ≤ rules .count → rules .count ≤ i → dependsOn (take i (rules .items)) l m ≡ false
-      → false ≡ dependsOn (rulesOf rules) l m
-  depends-done i a b none =
-      let q : i ≡ rules .count = omega arith in
-      sym (rw q at none)
-
-pub ruleset matching = (needs, length-mapped, stands-equal, stands-greater, stands-less, stands-other, matches-first, matches-second, matches-stands, depends-begun, depends-more, depends-found, depends-done)
+pub ruleset matching = (needs, length-mapped, stands-equal, stands-greater, stands-less, stands-other, matches-first, matches-second, matches-stands)

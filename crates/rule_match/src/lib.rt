@@ -1,10 +1,10 @@
-// Rule sets: which labels a rule pairs, and what a label depends on.
+// Rule sets, and which labels a rule pairs.
 use model::Rule;
 ghost use mathlib.Core.Path.{_≡_};
 ghost use mathlib.Core.List.{[]};
 ghost use Prim.Native.Nat.{_≤_};
 ghost use Rattle.model.specs.Limits.{mostRules};
-ghost use Rattle.model.specs.Rules.{label, stands, matches, dependsOn};
+ghost use Rattle.model.specs.Rules.{label, stands, matches};
 ghost use Rattle.rule_match.specs.Held.{rulesOf};
 
 // Rules, as many as a file can have.
@@ -52,19 +52,4 @@ pub fn matches(rule: Rule, n: u8, t: u32, m: u8, u: u32) -> bool
         return false;
     }
     epochs_stand(rule.predicate, t, u)
-}
-
-// Whether some rule pairs the label (n, t) with the label (m, u).
-pub fn depends(rules: Rules, n: u8, t: u32, m: u8, u: u32) -> bool
-    requires { ⌜ rules .count ≤ mostRules ⌝ }
-    ensures { λ r. ⌜ r ≡ dependsOn (rulesOf rules) (label n t) (label m u) ⌝ }
-{
-    let mut k: usize = 0;
-    while k < rules.count {
-        if matches(rules.items[k], n, t, m, u) {
-            return true;
-        }
-        k += 1;
-    }
-    false
 }

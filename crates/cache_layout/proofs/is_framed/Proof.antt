@@ -1,5 +1,5 @@
 -- `cache_layout::is_framed` meets its contract: one law for each of its returns.
-use Rattle.cache_layout.proofs.HasLayoutSteps.{framing}
+use Rattle.cache_layout.proofs.FramedSteps.{framing}
 use Rattle.cache_layout.proofs.is_framed.Statement.{statement}
 use Rattle.cache_layout.proofs.is_framed.Tie as tie
 

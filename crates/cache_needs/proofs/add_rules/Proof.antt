@@ -17,17 +17,20 @@ abbrev μ-loop : tie.MeasureT-loop
 loop-holds : tie.Need-loop-holds Inv-loop μ-loop
 loop-holds c = search all-rules
 
-mul-add-rule : tie.Need-mul-add-rule Inv-loop μ-loop
-mul-add-rule c = search all-rules
+mul-head : tie.Need-mul-head Inv-loop μ-loop
+mul-head c = search all-rules
 
-element-copy-out-add-rule : tie.Need-element-copy-out-add-rule Inv-loop μ-loop
-element-copy-out-add-rule c = search all-rules
+element-copy-out-head : tie.Need-element-copy-out-head Inv-loop μ-loop
+element-copy-out-head c = search all-rules
 
-add-rule-requires : tie.Need-add-rule-requires Inv-loop μ-loop
-add-rule-requires c κs = search all-rules
+run-from-requires : tie.Need-run-from-requires Inv-loop μ-loop
+run-from-requires c κs = search all-rules
 
-add-k : tie.Need-add-k Inv-loop μ-loop
-add-k c = search all-rules
+last-same-requires : tie.Need-last-same-requires Inv-loop μ-loop
+last-same-requires c κs = search all-rules
+
+add-to-requires : tie.Need-add-to-requires Inv-loop μ-loop
+add-to-requires c κs = search all-rules
 
 loop-less : tie.Need-loop-less Inv-loop μ-loop
 loop-less c = search all-rules
@@ -48,10 +51,11 @@ add-rules-spec =
     Inv-loop
     μ-loop
     loop-holds
-    mul-add-rule
-    element-copy-out-add-rule
-    add-rule-requires
-    add-k
+    mul-head
+    element-copy-out-head
+    run-from-requires
+    last-same-requires
+    add-to-requires
     loop-less
     loop-again
     same-length

@@ -1,4 +1,4 @@
--- `cache_needs::add_to` meets its contract. The invariant: the rows of firsts have what the rule adds, but for those left.
+-- `cache_needs::add_to` meets its contract. The invariant: the rows of firsts have what is added, but for those left.
 use mathlib.Core.Path.{_≡_}
 use lib.ListN.{length}
 use Rattle.model.specs.Limits.{mostHeld}

@@ -26,17 +26,26 @@ element-copy-out-bucket c = search steps
 bucket-requires : tie.Need-bucket-requires Inv-loop μ-loop
 bucket-requires c κs = search steps
 
+mul-row : tie.Need-mul-row Inv-loop μ-loop
+mul-row c = search steps
+
+shared-slice-read-row : tie.Need-shared-slice-read-row Inv-loop μ-loop
+shared-slice-read-row c = search steps
+
+cast-row : tie.Need-cast-row Inv-loop μ-loop
+cast-row c = search steps
+
+mul-apart : tie.Need-mul-apart Inv-loop μ-loop
+mul-apart c = search steps
+
+element-copy-out-apart : tie.Need-element-copy-out-apart Inv-loop μ-loop
+element-copy-out-apart c = search steps
+
+apart-requires : tie.Need-apart-requires Inv-loop μ-loop
+apart-requires c κs = search steps
+
 mul-rows : tie.Need-mul-rows Inv-loop μ-loop
 mul-rows c = search steps
-
-shared-slice-read-rows : tie.Need-shared-slice-read-rows Inv-loop μ-loop
-shared-slice-read-rows c = search steps
-
-cast-rows : tie.Need-cast-rows Inv-loop μ-loop
-cast-rows c = search steps
-
-mul-rows-2 : tie.Need-mul-rows-2 Inv-loop μ-loop
-mul-rows-2 c = search steps
 
 slice-write-rows : tie.Need-slice-write-rows Inv-loop μ-loop
 slice-write-rows c = search steps
@@ -66,10 +75,13 @@ fill-near-spec =
     mul-bucket
     element-copy-out-bucket
     bucket-requires
+    mul-row
+    shared-slice-read-row
+    cast-row
+    mul-apart
+    element-copy-out-apart
+    apart-requires
     mul-rows
-    shared-slice-read-rows
-    cast-rows
-    mul-rows-2
     slice-write-rows
     add-i
     loop-less
