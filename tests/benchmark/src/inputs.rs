@@ -427,20 +427,27 @@ pub fn log_load() -> Load {
 /// Eight names, each of which depends on the lower ones of its epoch and some on their own earlier
 /// ones: 32 rules.
 pub fn dense_load() -> Load {
-    load_of(|i| (i / 8) as u32)
+    load_of([Predicate::Greater; 4], |i| (i / 8) as u32)
 }
 
 /// The same with an epoch that changes from write to write.
 pub fn changing_load() -> Load {
-    load_of(|i| ((i + i / 8) % 8) as u32)
+    load_of([Predicate::Greater; 4], |i| ((i + i / 8) % 8) as u32)
 }
 
-fn load_of(epoch: fn(u8) -> u32) -> Load {
+/// The same as the first, but that some depend on their own later ones: there are both > and < rules
+/// that lead from a name to itself.
+pub fn both_ways_load() -> Load {
+    let [greater, less] = [Predicate::Greater, Predicate::Less];
+    load_of([greater, greater, less, less], |i| (i / 8) as u32)
+}
+
+fn load_of(on_itself: [Predicate; 4], epoch: fn(u8) -> u32) -> Load {
     let mut rules = Vec::new();
     for name in 0..8 {
         rules.extend((0..name).map(|second| rule(name, Predicate::Equal, second)));
     }
-    rules.extend((4..8).map(|name| rule(name, Predicate::Greater, name)));
+    rules.extend((4..8).zip(on_itself).map(|(name, p)| rule(name, p, name)));
     Load {
         rules,
         writes: (0..64)
@@ -534,6 +541,7 @@ mod tests {
             log_load(),
             dense_load(),
             changing_load(),
+            both_ways_load(),
             names_load(),
             one_name_load(),
         ] {

@@ -255,6 +255,10 @@ fn step(proved: OnState) -> Vec<Row> {
             half(&inputs::changing_load()),
         ),
         (
+            "64 writes, half stored, 32 rules with > and <",
+            half(&inputs::both_ways_load()),
+        ),
+        (
             "64 writes of different names, half stored, 32 rules",
             half(&inputs::names_load()),
         ),
@@ -340,6 +344,10 @@ fn hand_in(proved: HandIn) -> Vec<Row> {
         row(
             "the 64th write, 32 rules, epochs in no order",
             &inputs::changing_load(),
+        ),
+        row(
+            "the 64th write, 32 rules with > and <",
+            &inputs::both_ways_load(),
         ),
         row(
             "the 64th write, all of different names, 32 rules",

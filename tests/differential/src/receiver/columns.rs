@@ -28,7 +28,7 @@ pub fn suites() -> Vec<Suite> {
 }
 
 /// A state of 60 to 64 writes, and what it is drawn from.
-fn drawn(random: &mut Random) -> (Source, Vec<u8>) {
+pub fn drawn(random: &mut Random) -> (Source, Vec<u8>) {
     let count = random.between(60, MOST_WRITES);
     let (source, writes) = Source::by_columns(random);
     let state = source.after_all(random, &writes[..count]);
@@ -37,7 +37,7 @@ fn drawn(random: &mut Random) -> (Source, Vec<u8>) {
 
 /// A write that has to do with those of a state: its address is mostly one of theirs, its name one of
 /// theirs or of a rule's, its epoch one of theirs, or next to one.
-fn near_write(random: &mut Random, source: &Source, state: &[u8]) -> Write {
+pub fn near_write(random: &mut Random, source: &Source, state: &[u8]) -> Write {
     let accepted = cache::accepted(state);
     let mut name = random.pick(&accepted).name;
     if random.one_in(2) && !source.rules.is_empty() {
@@ -194,7 +194,11 @@ fn one_need_is_not_stored(run: &mut Run) -> Outcome {
         }
         for _ in 0..3 {
             run.next_case();
-            let i = random.pick(&needing);
+            let i = match random.below(4) {
+                0 => needing[needing.len() - 1],
+                1 => needing[0],
+                _ => random.pick(&needing),
+            };
             let mut stored = vec![false; writes.len()];
             store_with_needs(&needs, i, &mut stored);
             let needed_elsewhere =

@@ -4,10 +4,13 @@ use std::process::Command;
 
 use reference::cache::{self, DISK, STATE};
 use reference::damage::{self, Limit};
+use reference::file::MOST_RULES;
+use reference::generate;
 use reference::random::Random;
 use reference::states::{self, Source};
-use reference::writes::Write;
 
+use super::columns;
+use super::opening::file_of;
 use crate::answer;
 use crate::harness::{require, Outcome, Run, Suite};
 use crate::lent::Lent;
@@ -59,9 +62,11 @@ fn stack_of_open(run: &mut Run) -> Outcome {
     let mut deepest = Deepest::new(MOST_STACK);
     for i in 0..run.times(300) {
         let mut random = run.next_case();
-        let file = match i % 4 {
+        let file = match i % 6 {
             0 => damage::at_limit(&mut random, Limit::Rules),
             1 => damage::any(&mut random).bytes,
+            2 => file_of(generate::nearly_cyclic_rules(&mut random)),
+            3 | 4 => file_of(generate::alike_rules(&mut random, MOST_RULES)),
             _ => Source::new(&mut random).file(),
         };
         let expected = cache::open(&file, &mut vec![0; STATE]).map(|()| 0);
@@ -90,12 +95,23 @@ fn any_state(random: &mut Random) -> Vec<u8> {
     }
 }
 
+/// States and writes of every kind; every other time a full or nearly full state, and a write that
+/// has to do with those of the state, so that all that a hand-in looks at is looked at.
 fn stack_of_hand_in(run: &mut Run) -> Outcome {
     let mut deepest = Deepest::new(MOST_STACK);
-    for _ in 0..run.times(400) {
+    for i in 0..run.times(400) {
         let mut random = run.next_case();
-        let state = any_state(&mut random);
-        let write: Write = Source::new(&mut random).write(&mut random);
+        let (state, write) = match i % 2 {
+            0 => {
+                let write = Source::new(&mut random).write(&mut random);
+                (any_state(&mut random), write)
+            }
+            _ => {
+                let (source, state) = columns::drawn(&mut random);
+                let write = columns::near_write(&mut random, &source, &state);
+                (state, write)
+            }
+        };
         let mut after = state.clone();
         let expected = cache::hand_in(&mut after, &write).map(|()| after[1] as u64);
         let mut state = Lent::new(&mut random, &state);

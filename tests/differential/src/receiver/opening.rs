@@ -64,7 +64,7 @@ fn each(run: &mut Run, cases: u64, make: fn(&mut Random) -> Vec<u8>) -> Outcome 
     Ok(())
 }
 
-fn file_of(rules: Vec<Rule>) -> Vec<u8> {
+pub fn file_of(rules: Vec<Rule>) -> Vec<u8> {
     let file = File {
         rules,
         tests: vec![],

@@ -214,6 +214,9 @@ impl Made {
         let others = supply.clone().others(random, count - writes.len());
         let mut order = [writes, &others].concat();
         random.shuffle(&mut order);
+        if random.one_in(2) {
+            to_an_end(random, &mut order, writes);
+        }
         for ring in rings {
             for &(after, before) in &ring.meeting {
                 let place = |i: usize| order.iter().position(|w| w.name == ring.writes[i].name);
@@ -264,6 +267,19 @@ impl Made {
         let clause = cache::broken_clause(&state);
         require(clause.is_none(), "a sound state", format!("{clause:?}"))?;
         Ok(state)
+    }
+}
+
+/// The last of these writes, or any one, becomes the last or the first of all.
+fn to_an_end(random: &mut Random, order: &mut [Write], writes: &[Write]) {
+    let (last, any) = match writes {
+        [] => return,
+        [.., last] => (*last, random.pick(writes)),
+    };
+    let one = random.pick(&[last, any]);
+    let end = random.pick(&[0, order.len() - 1]);
+    if let Some(place) = order.iter().position(|write| *write == one) {
+        order.swap(place, end);
     }
 }
 
@@ -478,18 +494,18 @@ fn chains_by_epochs(run: &mut Run) -> Outcome {
             rules.push(rule(ends.0, random.pick(&PREDICATES), ends.1));
             let mut writes = chain(&mut random, one, count);
             let mut stored = vec![false; count];
-            // The end of the chain.
-            let mut by_epoch: Vec<usize> = (0..count).collect();
-            by_epoch.sort_unstable_by_key(|&i| writes[i].epoch);
-            if predicate == Predicate::Less {
-                by_epoch.reverse();
+            if count > 0 && random.one_in(2) {
+                let end = from_the_end(predicate, &writes)[0];
+                writes.swap(end, count - 1);
             }
             let some = match random.below(4) {
                 0 => random.between(0, count),
                 1 => 1,
                 _ => 0,
             };
-            by_epoch.iter().take(some).for_each(|&i| stored[i] = true);
+            for i in from_the_end(predicate, &writes).into_iter().take(some) {
+                stored[i] = true;
+            }
             let state = state_of(&rules, &writes, &stored);
             if count == 0 {
                 writes = chain(&mut random, one, 3);
@@ -524,6 +540,16 @@ fn chains_by_epochs(run: &mut Run) -> Outcome {
         "each of the refusals often",
         format!("{answers:?}"),
     )
+}
+
+/// The places of a chain's writes, each of which depends on the ones before it.
+fn from_the_end(predicate: Predicate, writes: &[Write]) -> Vec<usize> {
+    let mut places: Vec<usize> = (0..writes.len()).collect();
+    places.sort_unstable_by_key(|&i| writes[i].epoch);
+    if predicate == Predicate::Less {
+        places.reverse();
+    }
+    places
 }
 
 /// So many writes of a name to different addresses with different epochs, neighbours or not, in no
