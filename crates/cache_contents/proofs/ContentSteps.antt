@@ -17,7 +17,7 @@ use Rattle.file_format.specs.Bytes.{byte, half, word}
 use Rattle.file_format.specs.File.{ruleLength, writeLength, ruleOf, writeOf}
 use Rattle.rule_match.proofs.MatchSteps.{length-mapped}
 use Rattle.cache_model.specs.State.{ruleCount, acceptedCount, ruleBase, writeBase, ruleIn, writeIn, rulesIn}
-use Rattle.cache_contents.specs.Columns.{Columned}
+use Rattle.cache_contents.specs.Columns.{InColumns}
 
 -- ---- state_rules, write_in
 
@@ -75,8 +75,8 @@ module _ (s : List ℕ) (i : ℕ) where
   ]
 
   pub columns-more : (at z n : ℕ) (addresses names epochs : List ℕ) → at ≡ writeBase i → i < n → n ≡ acceptedCount s → acceptedCount s ≤ mostHeld
-      → length addresses ≡ mostHeld → length names ≡ mostHeld → length epochs ≡ mostHeld → z ≡ word s (at + 2) → Columned s i addresses names epochs
-      → Columned s (i + 1) (set addresses i (byte s at)) (set names i (byte s (at + 1))) (set epochs i z)
+      → length addresses ≡ mostHeld → length names ≡ mostHeld → length epochs ≡ mostHeld → z ≡ word s (at + 2) → InColumns s i addresses names epochs
+      → InColumns s (i + 1) (set addresses i (byte s at)) (set names i (byte s (at + 1))) (set epochs i z)
   columns-more at z n addresses names epochs p h m few la ln le ez c =
       record {
         address = grown (λ j. writeIn s j .address) addresses (byte s at) (omega arith) (c .address) (ap (byte s) p ∙ address-in);
@@ -84,11 +84,11 @@ module _ (s : List ℕ) (i : ℕ) where
         epoch = grown (λ j. writeIn s j .epoch) epochs z (omega arith) (c .epoch) (ez ∙ ap (λ (k : ℕ). word s (k + 2)) p ∙ epoch-in);
       }
 
-pub columns-begun : (s addresses names epochs : List ℕ) → Columned s 0 addresses names epochs
+pub columns-begun : (s addresses names epochs : List ℕ) → InColumns s 0 addresses names epochs
 columns-begun s addresses names epochs =
     record { address = λ i h. absurd (omega arith); name = λ i h. absurd (omega arith); epoch = λ i h. absurd (omega arith) }
 
-pub columns-done : (s addresses names epochs : List ℕ) (i n : ℕ) → n ≡ acceptedCount s → i ≤ n → n ≤ i → Columned s i addresses names epochs → Columned s (acceptedCount s) addresses names epochs
-columns-done s addresses names epochs i n c a b h = let z : i ≡ acceptedCount s = omega arith in subst (λ (k : ℕ). Columned s k addresses names epochs) z h
+pub columns-done : (s addresses names epochs : List ℕ) (i n : ℕ) → n ≡ acceptedCount s → i ≤ n → n ≤ i → InColumns s i addresses names epochs → InColumns s (acceptedCount s) addresses names epochs
+columns-done s addresses names epochs i n c a b h = let z : i ≡ acceptedCount s = omega arith in subst (λ (k : ℕ). InColumns s k addresses names epochs) z h
 
 pub ruleset reading = (needs, length-mapped, rules-begun, rules-more, rules-done, write-read, columns-begun, columns-more, columns-done)

@@ -8,7 +8,7 @@ ghost use lib.ListN.{length};
 ghost use Rattle.model.specs.Limits.{mostRules, mostHeld};
 ghost use Rattle.rule_match.specs.Held.{rulesOf};
 ghost use Rattle.cache_model.specs.State.{stateSize, flagPlace, ruleCount, acceptedCount, ruleBase, writeBase, writeIn, rulesIn};
-ghost use Rattle.cache_contents.specs.Columns.{Columned};
+ghost use Rattle.cache_contents.specs.Columns.{InColumns};
 
 // A byte as an index.
 pub fn wide(x: u8) -> usize
@@ -75,7 +75,7 @@ pub fn write_in(state: &[u8], i: usize) -> Write
 // The addresses, the names and the epochs of the accepted writes, each in a column.
 pub fn fill_columns(addresses: &mut [u8], names: &mut [u8], epochs: &mut [u32], state: &[u8])
     requires { ⌜ (length (now addresses) ≡ mostHeld) × ((length (now names) ≡ mostHeld) × ((length (now epochs) ≡ mostHeld) × ((length (now state) ≡ stateSize) × (acceptedCount (now state) ≤ mostHeld)))) ⌝ }
-    ensures { λ _. ⌜ Columned (now (state .entry)) (acceptedCount (now (state .entry))) (now (addresses .exit)) (now (names .exit)) (now (epochs .exit)) ⌝ }
+    ensures { λ _. ⌜ InColumns (now (state .entry)) (acceptedCount (now (state .entry))) (now (addresses .exit)) (now (names .exit)) (now (epochs .exit)) ⌝ }
 {
     let n = wide(state[1]);
     let mut i: usize = 0;

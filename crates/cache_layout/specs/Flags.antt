@@ -16,7 +16,7 @@ zeros s from n = allBelow (λ k. eqb (byte s (from + k)) 0) n
 unfoldable pub flagFits : List ℕ → ℕ → Bool
 flagFits s i = leb (flagIn s i) 1 && eqb (byte s (writeBase i + flagPlace + 1)) 0
 
--- all of the layout but that byte 2 counts the flags
+-- of 1,024 bytes: all of the layout within the limits, but that byte 2 counts the flags
 unfoldable pub framed : List ℕ → Bool
 framed s =
     leb (ruleCount s) mostRules && leb (acceptedCount s) mostHeld && eqb (byte s 3) 0

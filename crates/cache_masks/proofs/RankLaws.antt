@@ -17,7 +17,7 @@ use Rattle.relation.proofs.TableLaws.{filled-all}
 use Rattle.model.specs.Limits.{mostHeld}
 use Rattle.model.specs.Rules.{stands}
 use Rattle.cache_masks.specs.Masks.{epochMask}
-use Rattle.cache_masks.specs.Ranks.{smaller, rankOf, rankAt, bounds, Small, belowMask, standingIn}
+use Rattle.cache_masks.specs.Ranks.{smaller, rankOf, rankAt, bounds, SmallRanks, belowMask, standingIn}
 use Rattle.cache_masks.proofs.RankSteps.{smaller-begun, smaller-suc}
 
 -- ---- a mask without another
@@ -107,11 +107,11 @@ module _ (epochs : List ℕ) where
       go true q = lt-ltb (rankAt epochs j) (rankAt epochs i) (rank-below i j h (ltb-true (getD epochs j 0) (getD epochs i 0) q))
       go false q = le-ltb (rankAt epochs j) (rankAt epochs i) (rank-most i j (ltb-false (getD epochs j 0) (getD epochs i 0) q))
 
-  pub ranks-small : (n : ℕ) (ranks : List ℕ) → n ≤ mostHeld → Filled (rankAt epochs) n ranks → Small n ranks
+  pub ranks-small : (n : ℕ) (ranks : List ℕ) → n ≤ mostHeld → Filled (rankAt epochs) n ranks → SmallRanks n ranks
   ranks-small n ranks few filled = record { at = λ i h. rw (filled .at i h) (rank-small i (omega arith)) }
 
 -- the same at the end of a loop
-pub ranks-done : (epochs ranks : List ℕ) (i n : ℕ) → Filled (rankAt epochs) i ranks → i ≤ n → n ≤ i → n ≤ mostHeld → Small n ranks
+pub ranks-done : (epochs ranks : List ℕ) (i n : ℕ) → Filled (rankAt epochs) i ranks → i ≤ n → n ≤ i → n ≤ mostHeld → SmallRanks n ranks
 ranks-done epochs ranks i n filled a b few = ranks-small epochs n ranks few (filled-all (rankAt epochs) i n ranks filled a b)
 
 -- ---- how epochs stand, by ranks

@@ -19,7 +19,7 @@ use Rattle.relation.proofs.MaskLaws.{mask-or}
 use Rattle.relation.proofs.ListLaws.{bool-equal, or-cases, or-left, or-right, below-suc}
 use Rattle.relation.proofs.TableLaws.{filled-none, filled-more, filled-all}
 use Rattle.model.specs.Limits.{mostHeld}
-use Rattle.cache_masks.specs.Ranks.{smaller, rankOf, rankAt, bounds, Small, nextMask, belowMask, unionTo, standingIn}
+use Rattle.cache_masks.specs.Ranks.{smaller, rankOf, rankAt, bounds, SmallRanks, nextMask, belowMask, unionTo, standingIn}
 
 -- ---- one_more, rank, next_rank, fill_ranks
 
@@ -88,7 +88,7 @@ module _ (ranks : List ℕ) where
   unfolding nextMask maskOf
   next-suc i r = refl
 
-  module _ (n i : ℕ) (h : i < n) (small : Small n ranks) where
+  module _ (n i : ℕ) (h : i < n) (small : SmallRanks n ranks) where
     pub mark-fits : getD ranks i 0 < mostHeld
     mark-fits = small .at i h
 

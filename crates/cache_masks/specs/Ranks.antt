@@ -25,7 +25,7 @@ abbrev pub bounds : ℕ
 bounds = mostHeld + 1
 
 -- the first n ranks are below 64
-pub record Small (n : ℕ) (ranks : List ℕ) : Type 0 where
+pub record SmallRanks (n : ℕ) (ranks : List ℕ) : Type 0 where
   pub at : (i : ℕ) → i < n → getD ranks i 0 < mostHeld
 
 -- which of the first n ranks are one below r; and which are below r
@@ -40,7 +40,7 @@ unfoldable pub unionTo : List ℕ → ℕ → ℕ
 unionTo table zero = getD table 0 0
 unionTo table (suc r) = bitOr (getD table (suc r) 0) (unionTo table r)
 
--- the writes whose epochs stand as a predicate says to one of rank r, where entry r of a table has those of lower ranks
+-- the writes to whose epochs one of rank r stands as a predicate says, where entry r of a table has those of lower ranks
 unfoldable pub standingIn : List ℕ → ℕ → ℕ → ℕ
 standingIn belows r zero = without (getD belows (r + 1) 0) (getD belows r 0)
 standingIn belows r (suc zero) = getD belows r 0

@@ -6,7 +6,7 @@ ghost use lib.ListN.{length};
 ghost use Rattle.relation.specs.Tables.{Filled, Blank};
 ghost use Rattle.model.specs.Limits.{mostHeld};
 ghost use Rattle.cache_masks.specs.Masks.{sameMask, sameAt, Compared, standingBy, standingBack};
-ghost use Rattle.cache_masks.specs.Ranks.{rankOf, rankAt, nextMask, belowMask, unionTo, standingIn, bounds, Small};
+ghost use Rattle.cache_masks.specs.Ranks.{rankOf, rankAt, nextMask, belowMask, unionTo, standingIn, bounds, SmallRanks};
 
 // Which of the first n entries of a column are x.
 pub fn same(column: &[u8], x: u8, n: usize) -> u64
@@ -151,7 +151,7 @@ fn next_rank(epochs: &[u32], t: u32, r: u32, u: u32) -> u32
 // The ranks of the first n epochs. They are counted anew only where the epoch changes.
 pub fn fill_ranks(ranks: &mut [u8], epochs: &[u32], n: usize)
     requires { ⌜ (length (now ranks) ≡ mostHeld) × ((length (now epochs) ≡ mostHeld) × (n ≤ mostHeld)) ⌝ }
-    ensures { λ _. ⌜ (length (now (ranks .exit)) ≡ mostHeld) × (Filled (rankAt (now (epochs .entry))) n (now (ranks .exit)) × Small n (now (ranks .exit))) ⌝ }
+    ensures { λ _. ⌜ (length (now (ranks .exit)) ≡ mostHeld) × (Filled (rankAt (now (epochs .entry))) n (now (ranks .exit)) × SmallRanks n (now (ranks .exit))) ⌝ }
 {
     let mut t: u32 = 0;
     let mut r: u32 = 0;
@@ -169,7 +169,7 @@ pub const BOUNDS: usize = model::MOST_HELD + 1;
 
 // Entry r is the writes whose rank is one below r.
 fn mark_ranks(belows: &mut [u64], ranks: &[u8], n: usize)
-    requires { ⌜ ((length (now belows) ≡ bounds) × Blank bounds (now belows)) × ((length (now ranks) ≡ mostHeld) × ((n ≤ mostHeld) × Small n (now ranks))) ⌝ }
+    requires { ⌜ ((length (now belows) ≡ bounds) × Blank bounds (now belows)) × ((length (now ranks) ≡ mostHeld) × ((n ≤ mostHeld) × SmallRanks n (now ranks))) ⌝ }
     ensures { λ _. ⌜ (length (now (belows .exit)) ≡ bounds) × Filled (nextMask (now (ranks .entry)) n) bounds (now (belows .exit)) ⌝ }
 {
     let mut i: usize = 0;
@@ -194,7 +194,7 @@ fn join_up(table: &mut [u64])
 
 // Entry r is the writes whose ranks are below r.
 pub fn fill_belows(belows: &mut [u64], ranks: &[u8], n: usize)
-    requires { ⌜ ((length (now belows) ≡ bounds) × Blank bounds (now belows)) × ((length (now ranks) ≡ mostHeld) × ((n ≤ mostHeld) × Small n (now ranks))) ⌝ }
+    requires { ⌜ ((length (now belows) ≡ bounds) × Blank bounds (now belows)) × ((length (now ranks) ≡ mostHeld) × ((n ≤ mostHeld) × SmallRanks n (now ranks))) ⌝ }
     ensures { λ _. ⌜ (length (now (belows .exit)) ≡ bounds) × Filled (belowMask (now (ranks .entry)) n) bounds (now (belows .exit)) ⌝ }
 {
     mark_ranks(belows, ranks, n);

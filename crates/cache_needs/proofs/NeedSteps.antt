@@ -26,11 +26,11 @@ use Rattle.rule_match.proofs.MatchSteps.{length-mapped}
 use Rattle.cache_masks.specs.Columns.{columned}
 use Rattle.cache_masks.specs.declared.Epochs.{Epochs}
 use Rattle.cache_masks.specs.Masks.{sameMask, sameAt, epochMask, Compared, standingBy, standingBack}
-use Rattle.cache_masks.specs.Ranks.{rankAt, bounds, Small, belowMask}
+use Rattle.cache_masks.specs.Ranks.{rankAt, bounds, SmallRanks, belowMask}
 use Rattle.cache_masks.proofs.MaskLaws.{standing-mask, back-mask}
 use Rattle.cache_masks.proofs.RankLaws.{standing-ranks}
 use Rattle.cache_needs.specs.Needed.{needsRow, neededMask, dependentMask}
-use Rattle.cache_needs.specs.Tables.{earlierAt, SmallOf, addedTo, Added, Ready, Joins, Adds}
+use Rattle.cache_needs.specs.Tables.{earlierAt, SmallOf, addedTo, Added, Prepared, Joins, Adds}
 use Rattle.cache_needs.proofs.NeedLaws.{added-both, filled-take, row-none, needed-none, dependents-none, row-next, needed-next, dependents-next}
 
 -- ---- with_named
@@ -67,14 +67,14 @@ unfolding sameMask
 same-bit names x n i = bit-mask (λ j. eqb (getD names j 0) x) n i
 
 module _ (names : List ℕ) (n : ℕ) (alike ranks belows : List ℕ) where
-  pub firsts-small : (x firsts : ℕ) → Ready names n alike ranks belows → firsts ≡ sameMask names x n → SmallOf firsts ranks
+  pub firsts-small : (x firsts : ℕ) → Prepared names n alike ranks belows → firsts ≡ sameMask names x n → SmallOf firsts ranks
   firsts-small x firsts ready e = record {
     at = λ i b. ready .ranks-small .at i
         (ltb-true i n (and-left (ltb i n) (eqb (getD names i 0) x) (sym (same-bit names x n i) ∙ ap (λ (m : ℕ). bit m i) (sym e) ∙ b)));
   }
 
-  pub tables-ready : length names ≡ mostHeld → length alike ≡ mostHeld → length ranks ≡ mostHeld → length belows ≡ bounds → Filled (sameAt names) n alike → Small n ranks
-      → Ready names n alike ranks belows
+  pub tables-ready : length names ≡ mostHeld → length alike ≡ mostHeld → length ranks ≡ mostHeld → length belows ≡ bounds → Filled (sameAt names) n alike → SmallRanks n ranks
+      → Prepared names n alike ranks belows
   tables-ready z a b c d e = record { names-long = z; alike-long = a; ranks-long = b; belows-long = c; alike-filled = d; ranks-small = e }
 
 module _ (names : List ℕ) (n : ℕ) (rules : Rules) (ranks belows old : List ℕ) where

@@ -13,7 +13,7 @@ use Rattle.relation.specs.Tables.{Filled}
 use Rattle.rule_match.specs.declared.Rules.{Rules}
 use Rattle.rule_match.specs.Held.{itemAt}
 use Rattle.cache_masks.specs.Masks.{sameMask, sameAt, epochMask}
-use Rattle.cache_masks.specs.Ranks.{rankAt, belowMask, standingIn, bounds, Small}
+use Rattle.cache_masks.specs.Ranks.{rankAt, belowMask, standingIn, bounds, SmallRanks}
 use Rattle.cache_masks.specs.Columns.{columned}
 use Rattle.cache_needs.specs.Needed.{needsRow}
 
@@ -43,16 +43,18 @@ pub record Lasts (addresses : List ℕ) (i : ℕ) (rows last : List ℕ) : Type 
   pub place : (a : ℕ) → a < diskBlocks → getD last a 0 ≤ i
   pub tells : (a : ℕ) → a < diskBlocks → sameMask addresses a i ≡ behindOf rows (getD last a 0)
 
--- the tables that serve every rule: for each write those up to it with its name, its rank, and for each rank the writes below it
-pub record Ready (names : List ℕ) (n : ℕ) (alike ranks belows : List ℕ) : Type 0 where
+-- the tables that serve every rule: for each write those up to it with its name, a rank below 64, and a table by ranks. (That these two are
+-- those of the epochs is asked in `Adds`)
+pub record Prepared (names : List ℕ) (n : ℕ) (alike ranks belows : List ℕ) : Type 0 where
   pub names-long : length names ≡ mostHeld
   pub alike-long : length alike ≡ mostHeld
   pub ranks-long : length ranks ≡ mostHeld
   pub belows-long : length belows ≡ bounds
   pub alike-filled : Filled (sameAt names) n alike
-  pub ranks-small : Small n ranks
+  pub ranks-small : SmallRanks n ranks
 
--- the rules from k to e add to the rows of rule k's first name those of seconds that stand as its predicate says, and nothing else
+-- the rules from k up to, but not with, e add to the rows of rule k's first name those of seconds to whose epochs the row's own stands as
+-- rule k's predicate says, and nothing else
 pub record Joins (names : List ℕ) (n : ℕ) (rules : Rules) (k e seconds : ℕ) : Type 0 where
   pub at : (addresses epochs : List ℕ) (i : ℕ) → i < n
       → cond (eqb (getD names i 0) (itemAt rules k .first)) (bitOr (needsRow (take k (rules .items)) (columned addresses names epochs n) n i) (bitAnd seconds (epochMask epochs (itemAt rules k .predicate) (getD epochs i 0) n))) (needsRow (take k (rules .items)) (columned addresses names epochs n) n i)

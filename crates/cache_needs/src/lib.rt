@@ -17,7 +17,7 @@ ghost use Rattle.cache_masks.specs.Columns.{columned};
 ghost use Rattle.cache_masks.specs.Masks.{sameMask, sameAt};
 ghost use Rattle.cache_masks.specs.Ranks.{bounds};
 ghost use Rattle.cache_needs.specs.Needed.{neededMask, dependentMask};
-ghost use Rattle.cache_needs.specs.Tables.{behindOf, earlierAt, Added, SmallOf, Ready, Joins, Adds};
+ghost use Rattle.cache_needs.specs.Tables.{behindOf, earlierAt, Added, SmallOf, Prepared, Joins, Adds};
 
 // A byte as an index.
 fn wide(x: u8) -> usize
@@ -105,7 +105,7 @@ fn add_rules(
     ranks: &[u8],
     belows: &[u64],
 )
-    requires { ⌜ (length (now rows) ≡ mostHeld) × ((rules .count ≤ mostRules) × ((n ≤ mostHeld) × Ready (now names) n (now alike) (now ranks) (now belows))) ⌝ }
+    requires { ⌜ (length (now rows) ≡ mostHeld) × ((rules .count ≤ mostRules) × ((n ≤ mostHeld) × Prepared (now names) n (now alike) (now ranks) (now belows))) ⌝ }
     ensures { λ _. ⌜ (length (now (rows .exit)) ≡ mostHeld) × Adds (rulesOf rules) (now (names .entry)) n (now (ranks .entry)) (now (belows .entry)) (now (rows .entry)) (now (rows .exit)) ⌝ }
 {
     let mut k: usize = 0;

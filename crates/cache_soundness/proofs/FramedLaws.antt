@@ -1,4 +1,4 @@
--- A list of bytes has the layout exactly if it passes the code's tests, and byte 2 counts its flags.
+-- 1,024 bytes have the layout exactly if they pass the code's tests, and byte 2 counts their flags.
 use mathlib.Core.Path.{_≡_}
 use mathlib.Core.Bool.{Bool, true, _&&_}
 use mathlib.Core.List.{List}

@@ -31,7 +31,7 @@ use Rattle.rule_match.specs.declared.Rules.{Rules}
 use Rattle.rule_match.specs.Held.{rulesOf}
 use Rattle.cache_model.specs.State.{stateSize, ruleCount, acceptedCount, storedCount, rulesIn, writesIn, storedIn}
 use Rattle.cache_model.specs.Sound.{layout, ruled, needsHold, sound}
-use Rattle.cache_contents.specs.Columns.{Columned}
+use Rattle.cache_contents.specs.Columns.{InColumns}
 use Rattle.cache_statelaws.proofs.LayoutLaws.{writes-length, write-at}
 use Rattle.cache_masks.specs.Columns.{columned}
 use Rattle.cache_masks.proofs.ColumnLaws.{columned-length, columned-alike}
@@ -42,7 +42,7 @@ use Rattle.cache_soundness.proofs.FramedLaws.{counted, layout-tests, to
 
 -- ---- the writes of the columns are the state's, but for their blocks
 
-module _ (s addresses names epochs : List ℕ) (h : Columned s (acceptedCount s) addresses names epochs) where
+module _ (s addresses names epochs : List ℕ) (h : InColumns s (acceptedCount s) addresses names epochs) where
   pub columns-alike : Alike (columned addresses names epochs (acceptedCount s)) (writesIn s)
   columns-alike =
       columned-alike addresses names epochs (acceptedCount s) (writesIn s) (sym (writes-length s))
@@ -176,7 +176,7 @@ module _ (s : List ℕ) (r : Examined) (h : Decoded s r) where
   pub decoded-few : r .rules .count ≤ mostRules
   decoded-few = h .few
 
-  module _ (rows addresses names epochs : List ℕ) (n : ℕ) (c : n ≡ acceptedCount s) (l : Columned s (acceptedCount s) addresses names epochs)
+  module _ (rows addresses names epochs : List ℕ) (n : ℕ) (c : n ≡ acceptedCount s) (l : InColumns s (acceptedCount s) addresses names epochs)
       (t : take n rows ≡ rowsOf (cache.needs (rulesOf (r .rules)) (columned addresses names epochs n)) n) where
     tab : Tabled s rows
     tab = tabled-columns s addresses names epochs l rows (r .rules) (h .rules) (subst (λ (k : ℕ). take k rows ≡ rowsOf (cache.needs (rulesOf (r .rules)) (columned addresses names epochs k)) k) c t)

@@ -15,7 +15,7 @@ use Rattle.model.specs.Needs.{needs, needsRing, met}
 use Rattle.rule_match.specs.Held.{rulesOf}
 use Rattle.cache_model.specs.State.{acceptedCount, rulesIn, writesIn, storedIn}
 use Rattle.cache_model.specs.Sound.{layout}
-use Rattle.cache_contents.specs.Columns.{Columned}
+use Rattle.cache_contents.specs.Columns.{InColumns}
 use Rattle.cache_soundness.specs.declared.Examined.{Examined}
 
 -- a table's first rows are what a state's writes need
@@ -44,4 +44,4 @@ pub record Seen (s rows addresses names epochs : List ℕ) (r : Examined) : Type
   pub decoded : Decoded s r
   pub wide : length rows ≡ mostHeld
   pub tabled : Tabled s rows
-  pub columns : Columned s (acceptedCount s) addresses names epochs
+  pub columns : InColumns s (acceptedCount s) addresses names epochs

@@ -2,13 +2,13 @@
 // the count.
 use model::Write;
 ghost use mathlib.Core.Path.{_≡_};
+ghost use mathlib.Core.Bool.{false};
 ghost use mathlib.Core.List.{[], _∷_};
 ghost use Prim.Native.Nat.{_+_, _<_, _≤_};
 ghost use lib.ListN.{length};
 ghost use lib.Seq.{sets};
 ghost use Rattle.model.specs.Limits.{mostHeld};
 ghost use Rattle.file_format.specs.Bytes.{bytes4, diskLength};
-ghost use mathlib.Core.Bool.{false};
 ghost use Rattle.cache_model.specs.Entries.{entry};
 ghost use Rattle.cache_model.specs.State.{stateSize, entryLength, acceptedCount, storedCount, marked, storedOn, entryBytes, handed};
 ghost use Rattle.cache_model.specs.Calls.{given};

@@ -1,4 +1,4 @@
--- Masks as sets: a mask without the members of another, bit by bit and as a smaller number, and the highest member, by the leading zeros.
+-- Masks as sets: a mask without the members of another, bit by bit and as a smaller number, and the highest and the lowest member, by the leading and the trailing zeros.
 use mathlib.Core.Path.{_≡_, refl, sym, ap, _∙_}
 use mathlib.Core.Bool.{Bool, true, false, cond, not, _&&_, _||_, false≢true, and-assoc}
 use Prim.Native.Nat.{ℕ, zero, suc, _+_, _-_, _/_, _%_, _^_, _≤_, _<_}

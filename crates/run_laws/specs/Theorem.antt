@@ -45,8 +45,9 @@ pub record Safe (rules : List Rule) (disk : List ℕ) (m : Moment) : Type 0 wher
 
 -- ---- what is claimed of every call
 
--- a call gives what the conditions say, and the book allows no other outcome; if refused it changes nothing, and neither does a get; a step stores the one write whose
--- place it answers, none if it answers 0; a call leaves what those leave that it counts as; and after a drain of the run's own nothing waits
+-- a call gives what the conditions say, and the book allows no other outcome; if refused it changes nothing, and neither does a get; a step
+-- stores the one write whose place it answers, none if it answers 0; a call leaves what those leave that it counts as; and after a drain of the
+-- run's own nothing waits
 pub record Answers (rules : List Rule) (disk : List ℕ) (c : Call) (m : Moment) : Type 0 where
   pub gives : GivenBy rules disk (m .book) c (called c (m .held) .outcome)
   pub only : (o : Outcome ℕ) → GivenBy rules disk (m .book) c o → o ≡ called c (m .held) .outcome

@@ -729,8 +729,8 @@ const OF_OTHER_RULES: [&str; 1] = ["find_choice::better_of"];
 const OF_OTHERS: [&str; 3] = ["libc::read(", "cache_stores::mark(", "= suspects(rules)"];
 
 /// What is against it that a file is scanned, its rules loaded and asked for rings, a test loaded and
-/// prepared, and a state decoded once: a caller that is not known to, one that does it twice, or in a loop, or one that is
-/// not called once itself, for all that is known.
+/// prepared, and a state decoded once: a caller that is not known to, one that does it twice, or in a
+/// loop, or one that is not called once itself, for all that is known.
 fn done_again(sources: &Sources) -> Vec<String> {
     let mut faults = Vec::new();
     let mut found = BTreeSet::new();

@@ -3,13 +3,13 @@ use Prim.Native.Nat.{_-_, _≤_}
 use mathlib.Core.Path.{_≡_}
 use lib.ListN.{length}
 use Rattle.model.specs.Limits.{mostHeld}
-use Rattle.cache_contents.specs.Columns.{Columned}
+use Rattle.cache_contents.specs.Columns.{InColumns}
 use Rattle.cache_contents.proofs.ContentSteps.{reading}
 use Rattle.cache_contents.proofs.fill_columns.Statement.{statement}
 use Rattle.cache_contents.proofs.fill_columns.Tie as tie
 
 abbrev Inv-loop : tie.InvT-loop
-Inv-loop addresses₀ names₀ epochs₀ state n i₀ addresses names epochs i = (i ≤ n) × (length addresses ≡ mostHeld) × (length names ≡ mostHeld) × (length epochs ≡ mostHeld) × Columned state i addresses names epochs
+Inv-loop addresses₀ names₀ epochs₀ state n i₀ addresses names epochs i = (i ≤ n) × (length addresses ≡ mostHeld) × (length names ≡ mostHeld) × (length epochs ≡ mostHeld) × InColumns state i addresses names epochs
 
 abbrev μ-loop : tie.MeasureT-loop
 μ-loop addresses₀ names₀ epochs₀ state n i₀ addresses names epochs i = n - i

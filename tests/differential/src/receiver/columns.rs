@@ -213,6 +213,8 @@ fn one_need_is_not_stored(run: &mut Run) -> Outcome {
             *reasons.entry(reason).or_insert(0) += 1;
             let write = near_write(&mut random, &source, &state);
             let sound = states::state_of(&source.rules, &writes, &stored);
+            let clause = cache::broken_clause(&sound);
+            require(clause.is_none(), "a sound state", format!("{clause:?}"))?;
             same_hand_in_on(&mut random, &sound, &write)?;
             stored[j] = false;
             let state = states::state_of(&source.rules, &writes, &stored);

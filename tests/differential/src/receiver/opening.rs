@@ -101,14 +101,18 @@ fn cyclic_rules(run: &mut Run) -> Outcome {
     )
 }
 
-/// Rules that are cyclic or not, known by how they are made: opening with them, and a step on a state
-/// that has them.
+/// Rules that are cyclic or not, known by how they are made.
 fn known_rules(random: &mut Random, rules: &[Rule], is_cyclic: bool) -> Outcome {
     require(
         cyclic(rules) == is_cyclic,
         &format!("cyclic {is_cyclic}"),
         format!("{rules:?}"),
     )?;
+    same_rules(random, rules)
+}
+
+/// Opening with these rules, and a step on a state that has them.
+fn same_rules(random: &mut Random, rules: &[Rule]) -> Outcome {
     let before = any_state(random);
     same_opening(random, &before, &file_of(rules.to_vec()))?;
     let (mut state, mut disk) = lend(random, &states::state_of(rules, &[], &[]));
@@ -125,9 +129,8 @@ fn names_alike(run: &mut Run) -> Outcome {
             _ => MOST_RULES,
         };
         let rules = generate::alike_rules(&mut random, count);
-        let is_cyclic = cyclic(&rules);
-        refused += u64::from(is_cyclic);
-        known_rules(&mut random, &rules, is_cyclic)?;
+        refused += u64::from(cyclic(&rules));
+        same_rules(&mut random, &rules)?;
     }
     run.note(format!("{refused} refused"));
     require(
