@@ -10,7 +10,7 @@ use Rattle.relation.proofs.BitLaws.{mask-ext}
 use Rattle.relation.proofs.MaskLaws.{mask-none}
 use Rattle.model.specs.Rules.{stands}
 use Rattle.cache_masks.specs.declared.Epochs.{Epochs}
-use Rattle.cache_masks.specs.Masks.{epochMask, backMask, Compared, standingBy, standingBack}
+use Rattle.cache_masks.specs.Masks.{epochMask, backMask, Compared, standingBy, turnedRound}
 
 eqb-turned : (a b : ℕ) → eqb a b ≡ eqb b a
 eqb-turned a b = go (eqb b a) refl
@@ -27,8 +27,8 @@ module _ (epochs : List ℕ) (t n : ℕ) (e : Epochs) (compared : Compared epoch
   standing-mask (suc (suc zero)) = compared .2
   standing-mask (suc (suc (suc p))) = mask-none n
 
-  pub back-mask : (p : ℕ) → standingBack e p ≡ backMask epochs p t n
-  unfolding Compared standingBack epochMask backMask stands
+  pub back-mask : (p : ℕ) → standingBy (turnedRound e) p ≡ backMask epochs p t n
+  unfolding Compared standingBy epochMask backMask stands
   back-mask zero = compared .0 ∙ mask-ext _ _ n (λ j h. eqb-turned t (getD epochs j 0))
   back-mask (suc zero) = compared .2
   back-mask (suc (suc zero)) = compared .1

@@ -15,7 +15,7 @@ use Rattle.relation.proofs.TableLaws.{filled-none, filled-more, filled-all}
 use Rattle.model.specs.Limits.{mostHeld}
 use Rattle.model.specs.Rules.{stands}
 use Rattle.cache_masks.specs.declared.Epochs.{Epochs}
-use Rattle.cache_masks.specs.Masks.{sameMask, sameAt, epochMask, Compared, standingBy, standingBack}
+use Rattle.cache_masks.specs.Masks.{sameMask, sameAt, epochMask, Compared, standingBy}
 
 -- ---- same
 
@@ -99,7 +99,7 @@ module _ (epochs : List ℕ) (t : ℕ) where
 
 pub ruleset comparing = (needs, epoch-begun, equal-more, less-more, greater-more, epochs-compared)
 
--- ---- standing, standing_back
+-- ---- standing
 
 module _ (e : Epochs) (p : ℕ) where
   pub standing-equal : p ≡ 0 → e .equal ≡ standingBy e p
@@ -114,18 +114,6 @@ module _ (e : Epochs) (p : ℕ) where
   unfolding standingBy
   standing-greater h = rw h
 
-  pub back-equal : p ≡ 0 → e .equal ≡ standingBack e p
-  unfolding standingBack
-  back-equal h = rw h
-
-  pub back-greater : p ≡ 1 → e .greater ≡ standingBack e p
-  unfolding standingBack
-  back-greater h = rw h
-
-  pub back-less : p ≡ 2 → e .less ≡ standingBack e p
-  unfolding standingBack
-  back-less h = rw h
-
 pub standing-other : (e : Epochs) (p : ℕ) → (p ≡ 0 → ⊥) → (p ≡ 1 → ⊥) → (p ≡ 2 → ⊥) → 0 ≡ standingBy e p
 unfolding standingBy
 standing-other e zero a b c = absurd (a refl)
@@ -133,11 +121,4 @@ standing-other e (suc zero) a b c = absurd (b refl)
 standing-other e (suc (suc zero)) a b c = absurd (c refl)
 standing-other e (suc (suc (suc p))) a b c = refl
 
-pub back-other : (e : Epochs) (p : ℕ) → (p ≡ 0 → ⊥) → (p ≡ 1 → ⊥) → (p ≡ 2 → ⊥) → 0 ≡ standingBack e p
-unfolding standingBack
-back-other e zero a b c = absurd (a refl)
-back-other e (suc zero) a b c = absurd (b refl)
-back-other e (suc (suc zero)) a b c = absurd (c refl)
-back-other e (suc (suc (suc p))) a b c = refl
-
-pub ruleset standings = (needs, standing-equal, standing-less, standing-greater, standing-other, back-equal, back-greater, back-less, back-other)
+pub ruleset standings = (needs, standing-equal, standing-less, standing-greater, standing-other)

@@ -27,15 +27,13 @@ backMask epochs p t n = maskOf (λ j. stands p (getD epochs j 0) t) n
 unfoldable pub Compared : List ℕ → ℕ → ℕ → Epochs → Type 0
 Compared epochs t n e = (e .equal ≡ epochMask epochs 0 t n) × (e .less ≡ epochMask epochs 1 t n) × (e .greater ≡ epochMask epochs 2 t n)
 
--- the mask of a predicate, which is empty where it is none of the three; and of the predicate turned round
+-- the mask of a predicate, which is empty where it is none of the three
 unfoldable pub standingBy : Epochs → ℕ → ℕ
 standingBy e zero = e .equal
 standingBy e (suc zero) = e .less
 standingBy e (suc (suc zero)) = e .greater
 standingBy e (suc (suc (suc p))) = 0
 
-unfoldable pub standingBack : Epochs → ℕ → ℕ
-standingBack e zero = e .equal
-standingBack e (suc zero) = e .greater
-standingBack e (suc (suc zero)) = e .less
-standingBack e (suc (suc (suc p))) = 0
+-- the same turned round: the mask of a predicate is then of those that stand so to t
+abbrev pub turnedRound : Epochs → Epochs
+turnedRound e = record { equal = e .equal; less = e .greater; greater = e .less }

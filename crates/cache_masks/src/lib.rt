@@ -5,7 +5,7 @@ ghost use Prim.Native.Nat.{_+_, _<_, _≤_};
 ghost use lib.ListN.{length};
 ghost use Rattle.relation.specs.Tables.{Filled, Blank};
 ghost use Rattle.model.specs.Limits.{mostHeld};
-ghost use Rattle.cache_masks.specs.Masks.{sameMask, sameAt, Compared, standingBy, standingBack};
+ghost use Rattle.cache_masks.specs.Masks.{sameMask, sameAt, Compared, standingBy, turnedRound};
 ghost use Rattle.cache_masks.specs.Ranks.{rankOf, rankAt, nextMask, belowMask, unionTo, standingIn, bounds, SmallRanks};
 
 // Which of the first n entries of a column are x.
@@ -95,20 +95,15 @@ pub fn standing(epochs: Epochs, p: u8) -> u64
     0
 }
 
-// Those that stand so to it.
-pub fn standing_back(epochs: Epochs, p: u8) -> u64
-    ensures { λ r. ⌜ r ≡ standingBack epochs p ⌝ }
+// The same turned round: what standing gives of it are those that stand so to the epoch.
+pub fn turned(epochs: Epochs) -> Epochs
+    ensures { λ r. ⌜ r ≡ turnedRound epochs ⌝ }
 {
-    if p == 0 {
-        return epochs.equal;
+    Epochs {
+        equal: epochs.equal,
+        less: epochs.greater,
+        greater: epochs.less,
     }
-    if p == 1 {
-        return epochs.greater;
-    }
-    if p == 2 {
-        return epochs.less;
-    }
-    0
 }
 
 // One more, if asked for. A function of its own, so that the loop that counts has no branch.

@@ -25,7 +25,7 @@ use Rattle.rule_match.specs.Held.{itemAt, rulesOf}
 use Rattle.rule_match.proofs.MatchSteps.{length-mapped}
 use Rattle.cache_masks.specs.Columns.{columned}
 use Rattle.cache_masks.specs.declared.Epochs.{Epochs}
-use Rattle.cache_masks.specs.Masks.{sameMask, sameAt, epochMask, Compared, standingBy, standingBack}
+use Rattle.cache_masks.specs.Masks.{sameMask, sameAt, epochMask, Compared, standingBy, turnedRound}
 use Rattle.cache_masks.specs.Ranks.{rankAt, bounds, SmallRanks, belowMask}
 use Rattle.cache_masks.proofs.MaskLaws.{standing-mask, back-mask}
 use Rattle.cache_masks.proofs.RankLaws.{standing-ranks}
@@ -143,11 +143,11 @@ module _ (addresses names epochs : List ℕ) (n : ℕ) (rules : Rules) (w : Writ
         f ∙ rw (add-one k, p, q, standing-mask epochs (w .epoch) n e compared (itemAt rules k .predicate))
         (needed-next addresses names epochs n rules k (omega arith) w)
 
-    pub dependents-more : mask ≡ dependentMask (take k (rules .items)) (columned addresses names epochs n) w n → s ≡ standingBack e (itemAt rules k .predicate)
+    pub dependents-more : (b : Epochs) → b ≡ turnedRound e → mask ≡ dependentMask (take k (rules .items)) (columned addresses names epochs n) w n → s ≡ standingBy b (itemAt rules k .predicate)
         → next ≡ cond (eqb (w .name) (itemAt rules k .second)) (bitOr mask (bitAnd (sameMask names (itemAt rules k .first) n) s)) mask
         → next ≡ dependentMask (take (k + 1) (rules .items)) (columned addresses names epochs n) w n
-    dependents-more p q f =
-        f ∙ rw (add-one k, p, q, back-mask epochs (w .epoch) n e compared (itemAt rules k .predicate))
+    dependents-more b t p q f =
+        f ∙ rw (add-one k, p, q, t, back-mask epochs (w .epoch) n e compared (itemAt rules k .predicate))
         (dependents-next addresses names epochs n rules k (omega arith) w)
 
 pub ruleset needing = (needs, length-mapped, needed-begun, needed-more, needed-done, dependents-begun, dependents-more, dependents-done)

@@ -180,12 +180,12 @@ pub fn dependents(rules: Rules, names: &[u8], epochs: &[u32], n: usize, w: Write
     requires { ⌜ ((length (now names) ≡ mostHeld) × (length (now epochs) ≡ mostHeld)) × ((rules .count ≤ mostRules) × (n ≤ mostHeld)) ⌝ }
     ensures { λ r. ⌜ r ≡ dependentMask (rulesOf rules) (columned [] (now (names .entry)) (now (epochs .entry)) n) w n ⌝ }
 {
-    let compared = cache_masks::compare_epochs(epochs, w.epoch, n);
+    let compared = cache_masks::turned(cache_masks::compare_epochs(epochs, w.epoch, n));
     let mut mask: u64 = 0;
     let mut k: usize = 0;
     while k < rules.count {
         let rule = rules.items[k];
-        let standing = cache_masks::standing_back(compared, rule.predicate);
+        let standing = cache_masks::standing(compared, rule.predicate);
         mask = with_named(mask, w.name == rule.second, names, rule.first, n, standing);
         k += 1;
     }

@@ -18,6 +18,9 @@ abbrev μ-loop : tie.MeasureT-loop
 compare-epochs-requires : tie.Need-compare-epochs-requires Inv-loop μ-loop
 compare-epochs-requires c κs = search needing
 
+turned-requires : tie.Need-turned-requires Inv-loop μ-loop
+turned-requires c κs = search needing
+
 loop-holds : tie.Need-loop-holds Inv-loop μ-loop
 loop-holds c = search needing
 
@@ -27,8 +30,8 @@ mul-rule c = search needing
 element-copy-out-rule : tie.Need-element-copy-out-rule Inv-loop μ-loop
 element-copy-out-rule c = search needing
 
-standing-back-requires : tie.Need-standing-back-requires Inv-loop μ-loop
-standing-back-requires c κs = search needing
+standing-requires : tie.Need-standing-requires Inv-loop μ-loop
+standing-requires c κs = search needing
 
 with-named-requires : tie.Need-with-named-requires Inv-loop μ-loop
 with-named-requires c κs = search needing
@@ -52,10 +55,11 @@ dependents-spec =
     Inv-loop
     μ-loop
     compare-epochs-requires
+    turned-requires
     loop-holds
     mul-rule
     element-copy-out-rule
-    standing-back-requires
+    standing-requires
     with-named-requires
     add-k
     loop-less

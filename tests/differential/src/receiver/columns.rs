@@ -12,7 +12,7 @@ use reference::refusal::{LATE, NOT_SOUND, RING_OF_NEEDS, STATE_FULL};
 use reference::states::{self, Source};
 use reference::writes::{Rule, Write, PREDICATES};
 
-use super::hand_in::{same_hand_in, same_hand_in_on};
+use super::hand_in::{each_often, same_hand_in, same_hand_in_on};
 use super::soundness::same_calls_with;
 use super::storing::{lend, same_to_the_end, STEP};
 use crate::harness::{require, Outcome, Run, Suite};
@@ -81,13 +81,7 @@ fn hand_ins_and_steps(run: &mut Run) -> Outcome {
             *answers.entry(refused).or_insert(0) += 1;
         }
     }
-    run.note(format!("by refusal {answers:?}"));
-    let often = |number| answers.get(&number).map_or(false, |&count| count > 30);
-    require(
-        [0, STATE_FULL, LATE, RING_OF_NEEDS].into_iter().all(often),
-        "each of the refusals often",
-        format!("{answers:?}"),
-    )
+    each_often(run, &answers, &[0, STATE_FULL, LATE, RING_OF_NEEDS], 30)
 }
 
 fn all_steps(run: &mut Run) -> Outcome {

@@ -45,6 +45,22 @@ pub fn same_hand_in_on(random: &mut Random, state: &[u8], write: &Write) -> Resu
     same_hand_in(&mut Lent::new(random, state), write)
 }
 
+/// Answers by refusal, 0 for none: each of these came more often than so many times.
+pub fn each_often(
+    run: &mut Run,
+    answers: &BTreeMap<u32, u64>,
+    refusals: &[u32],
+    times: u64,
+) -> Outcome {
+    run.note(format!("by refusal {answers:?}"));
+    let often = |number| answers.get(number).map_or(false, |&count| count > times);
+    require(
+        refusals.iter().all(often),
+        "each of the refusals often",
+        format!("{answers:?}"),
+    )
+}
+
 /// K8 and K10: the second of two writes is refused, in K8 after a step. K9 and K11 are among the runs.
 fn bench_sheet(run: &mut Run) -> Outcome {
     let write = |address, name, epoch| Write {
@@ -94,13 +110,7 @@ fn sound_states(run: &mut Run) -> Outcome {
                 .or_insert(0) += 1;
         }
     }
-    run.note(format!("by refusal {answers:?}"));
-    let often = |number| answers.get(&number).map_or(false, |&count| count > 30);
-    require(
-        [0, STATE_FULL, LATE, RING_OF_NEEDS].into_iter().all(often),
-        "each of the refusals often",
-        format!("{answers:?}"),
-    )
+    each_often(run, &answers, &[0, STATE_FULL, LATE, RING_OF_NEEDS], 30)
 }
 
 /// With (1,<,1) and (2,=,1): a stored 2 and a waiting 1 of a lower epoch at the new one's address.

@@ -11,7 +11,7 @@ use reference::refusal::{LATE, NOT_SOUND, RING_OF_NEEDS, STATE_FULL};
 use reference::states::state_of;
 use reference::writes::{block, rule, write, Predicate, Rule, Write, PREDICATES};
 
-use super::hand_in::{same_hand_in, same_hand_in_on};
+use super::hand_in::{each_often, same_hand_in, same_hand_in_on};
 use super::soundness::same_calls_with;
 use super::storing::{lend, same_to_the_end, STEP};
 use crate::harness::{require, Failure, Outcome, Run, Suite};
@@ -202,6 +202,17 @@ struct Made {
 }
 
 impl Made {
+    /// These writes of one ring, with others.
+    fn of(
+        random: &mut Random,
+        supply: &Supply,
+        ring: &Ring,
+        writes: &[Write],
+        count: usize,
+    ) -> Made {
+        Made::new(random, supply, std::slice::from_ref(ring), writes, count)
+    }
+
     /// These writes of rings, and so many others that there is this count of them, in any order that
     /// the rings allow, none stored, under their rules, or as many as there can be.
     fn new(
@@ -320,8 +331,7 @@ fn in_a_state(run: &mut Run) -> Outcome {
             let mut supply = Supply::new(&mut random);
             let count = random.between(length.max(60), MOST_WRITES);
             let mut ring = Ring::new(&mut random, &mut supply, length);
-            let rings = std::slice::from_ref(&ring);
-            let mut made = Made::new(&mut random, &supply, rings, &ring.writes, count);
+            let mut made = Made::of(&mut random, &supply, &ring, &ring.writes, count);
             let stored = match random.below(2) {
                 0 => &[],
                 _ => &ring.writes[..],
@@ -333,8 +343,7 @@ fn in_a_state(run: &mut Run) -> Outcome {
             };
             refused_for(&mut random, &made, clause)?;
             ring.cut(&mut random, &mut supply);
-            let rings = std::slice::from_ref(&ring);
-            let mut made = Made::new(&mut random, &supply, rings, &ring.writes, count);
+            let mut made = Made::of(&mut random, &supply, &ring, &ring.writes, count);
             made.store(&mut random, &[]);
             not_refused(&mut random, &made)?;
         }
@@ -385,8 +394,7 @@ fn steps_of_chains(run: &mut Run) -> Outcome {
         };
         let mut ring = Ring::new(&mut random, &mut supply, length);
         ring.cut(&mut random, &mut supply);
-        let rings = std::slice::from_ref(&ring);
-        let mut made = Made::new(&mut random, &supply, rings, &ring.writes, count);
+        let mut made = Made::of(&mut random, &supply, &ring, &ring.writes, count);
         made.store(&mut random, &[]);
         let waiting = made.stored.iter().filter(|&&stored| !stored).count();
         let places = same_to_the_end(&mut random, &made.sound_state()?)?;
@@ -410,8 +418,7 @@ fn closed(run: &mut Run) -> Outcome {
             let counts = [least, random.between(least, 63), 62.max(least), 63];
             let count = random.pick(&counts);
             let mut ring = Ring::new(&mut random, &mut supply, length);
-            let rings = std::slice::from_ref(&ring);
-            let mut made = Made::new(&mut random, &supply, rings, &ring.writes[1..], count);
+            let mut made = Made::of(&mut random, &supply, &ring, &ring.writes[1..], count);
             made.store(&mut random, &[]);
             let (mut state, mut disk) = lend(&mut random, &made.sound_state()?);
             let answer = same_hand_in(&mut state, &ring.writes[0])?;
@@ -423,13 +430,12 @@ fn closed(run: &mut Run) -> Outcome {
             made.store(&mut random, &ring.writes[from..]);
             let answer = same_hand_in_on(&mut random, &made.sound_state()?, &ring.writes[0])?;
             require(answer == LATE, "17", answer.to_string())?;
-            let mut full = Made::new(&mut random, &supply, rings, &ring.writes[1..], 64);
+            let mut full = Made::of(&mut random, &supply, &ring, &ring.writes[1..], 64);
             full.store(&mut random, &ring.writes[from..]);
             let answer = same_hand_in_on(&mut random, &full.sound_state()?, &ring.writes[0])?;
             require(answer == STATE_FULL, "16", answer.to_string())?;
             ring.cut(&mut random, &mut supply);
-            let rings = std::slice::from_ref(&ring);
-            let made = Made::new(&mut random, &supply, rings, &ring.writes[1..], count);
+            let made = Made::of(&mut random, &supply, &ring, &ring.writes[1..], count);
             let answer = same_hand_in_on(&mut random, &made.sound_state()?, &ring.writes[0])?;
             require(answer == 0, "accepted", answer.to_string())?;
         }
@@ -611,11 +617,5 @@ fn at_one_address(run: &mut Run) -> Outcome {
             same_to_the_end(&mut random, &state)?;
         }
     }
-    run.note(format!("by refusal {answers:?}"));
-    let often = |number| answers.get(&number).map_or(false, |&count| count > 50);
-    require(
-        [0, LATE, RING_OF_NEEDS].into_iter().all(often),
-        "each of the refusals often",
-        format!("{answers:?}"),
-    )
+    each_often(run, &answers, &[0, LATE, RING_OF_NEEDS], 50)
 }
