@@ -27,7 +27,7 @@
 enum {
     /* Of reading a file; the place is the offset of the field that is at fault. */
     PELZHONDY_CUT = 1,               /* one or two bytes are left, or a body is cut */
-    PELZHONDY_UNKNOWN_TAG = 2,       /* a tag is not one of 1 to 7 */
+    PELZHONDY_UNKNOWN_TAG = 2,       /* a tag is not one of 1 to 10 */
     PELZHONDY_WRONG_LENGTH = 3,      /* a field's length is not that of its tag */
     PELZHONDY_OUT_OF_ORDER = 4,      /* a field comes after one that it must precede */
     PELZHONDY_UNKNOWN_PREDICATE = 5, /* a rule's predicate is above 2 */

@@ -6,13 +6,22 @@
  * pelzhondy_answer.h for answers, refusals and buffers.
  *
  * THE STATE. A cache lives in 1,024 bytes of RAM that the caller lends, its state: byte 0 is the
- * count of rules, 1 of accepted writes, 2 of stored ones; rules stand from byte 4 on, three bytes
- * each; writes from byte 100 on, twelve bytes each: address 1, name 1, epoch 4, block 4, whether it
- * is stored 1, and a zero. No caller need count: pelzhondy_address_at and pelzhondy_offset_at do so.
+ * count of rules, 1 of accepted writes, 2 of stored ones; rules stand from byte 4 on, five bytes each:
+ * name 2, predicate 1, name 2; writes from byte 164 on, twelve bytes each: address 1, name 2, epoch 4,
+ * block 4, whether it is stored 1. Numbers are big-endian, and every byte that is not used is zero, up
+ * to byte 1,023. No caller need count: pelzhondy_address_at and pelzhondy_offset_at do so.
  * Nobody else writes to the state. One that is not sound is refused (15) and left as it is; damage that
  * leaves the state sound cannot be seen. A state is sound if it has that layout within the limits,
  * known predicates, acyclic rules, a stored count that equals its flags, stored writes that need only
  * stored ones, and no ring of needs.
+ *
+ * A STATE OUTLIVES NEITHER A RESET NOR A NEW VERSION OF THIS LIBRARY. Earlier versions had rules of
+ * three bytes, and writes from byte 100 on. Some of their states are sound in this layout, too, so that
+ * no call refuses them, and they mean other rules: one that was opened with (2,=,1) is here one with
+ * (512,>,0), and one with the log's two rules one with (512,>,513) and (512,=,0): neither keeps a rule
+ * that it was opened with. After an update do as after a reset: open anew. And compile anew all that
+ * includes this header: pelzhondy_offset_at and pelzhondy_address_at are inline, so that an object built
+ * with an earlier header would look for the stored block in the wrong place, and hand in names of 8 bits.
  *
  * LOOK AT WHAT OPEN ANSWERS. A refused opening leaves the state as it was, and 1,024 zero bytes that
  * were never opened are a sound state without rules. Hand-ins and steps on it are carried out, and
@@ -71,8 +80,11 @@
  * flash, and open a cache anew on it. The waiting writes are lost. What is said here of cuts holds
  * from that opening on.
  *
- * VALUES. C converts silently: an address or a name of 256 becomes 0, an epoch is cut to 32 bits, a
- * number of a block to 16. Check before the call; the compiler's -Wconversion shows where.
+ * VALUES. C converts silently: an address of 256 becomes 0, a name is cut to 16 bits, an epoch to 32, a
+ * number of a block to 16. Check before the call; the compiler's -Wconversion shows where. Names are
+ * numbers from 0 to 65,535, and two are the same only if all 16 bits are: a name of 257 that the
+ * firmware has kept in a uint8_t on its way is handed in as 1, for which other rules are kept, and no
+ * call can notice.
  *
  * INTERRUPTS. A routine has no memory of its own but the stack, so an interrupt may call in while
  * another call is under way, on other buffers, and with up to 4 KiB of stack more. There is no
@@ -96,7 +108,7 @@ extern "C" {
 
 /* The length of a block; where a state has its writes, and the length of one, its address first. */
 #define PELZHONDY_BLOCK_BYTES 4
-#define PELZHONDY_WRITES_AT 100
+#define PELZHONDY_WRITES_AT 164
 #define PELZHONDY_WRITE_BYTES 12
 
 /* What get answers where the log has no such key. Values are below it. */
@@ -119,8 +131,12 @@ static inline size_t pelzhondy_offset_at(const uint8_t *state, uint64_t place)
 
 /*
  * Opens a cache: `state`, whatever it held, then holds the rules of the file, in their order, and no
- * writes. The file is a test file without tests: of a rule a field of six bytes, 03 00 03, name,
- * predicate (0 is =, 1 is >, 2 is <), name. An empty file is one without rules.
+ * writes. The file is a test file without tests: for each rule a field of six bytes, hexadecimal
+ * 03 00 03, name 1, predicate 1 (0 is =, 1 is >, 2 is <), name 1, or one of eight, 0A 00 05, name 2,
+ * predicate 1, name 2, big-endian. Both may stand in one file, in any order, 32 of them together at
+ * most. A name up to 255 may stand in either, and is the same name: 03 00 03 02 00 01 and
+ * 0A 00 05 00 02 00 00 01 are one rule, (2,=,1), and leave the same state. An empty file is one
+ * without rules.
  *
  * Answers 0. Refused, in this order: 14 if `state_length` is not 1,024; by reading, 1 to 7; 22 if the
  * file has tests; 8 if its rules are cyclic.
@@ -138,7 +154,7 @@ uint64_t pelzhondy_open(uint8_t *state, size_t state_length,
  * depends on this one is stored; 18 if this one and others would need each other in a ring.
  */
 uint64_t pelzhondy_hand_in(uint8_t *state, size_t state_length,
-                           uint8_t address, uint8_t name, uint32_t epoch,
+                           uint8_t address, uint16_t name, uint32_t epoch,
                            uint16_t first, uint16_t second);
 
 /*

@@ -5,9 +5,16 @@
  * 64 initial writes, 20 main writes and 16 checks. Find alone takes no more than 12 main writes of a
  * test. `file` is only read.
  *
+ * NAMES. An initial write, a main write and a rule have two tags each: 01, 02 and 03 with names of one
+ * byte, 08, 09 and 0A (hexadecimal) with names of two, big-endian, and bodies of 11, 11 and 5 bytes in
+ * the same order. Either may stand wherever the other may, and a limit counts both together. A name is
+ * a number from 0 to 65,535 in whichever tag: 1 in an 01 is 1 in an 08, and not 257. A program that goes
+ * through a file steps by each field's own length, not by that of the first of its kind.
+ *
  * "By reading" stands for the refusals 1 to 6, at the offset of the field at fault, and 7, at the
- * file's length. A file may have any length: one of over 21,040 bytes is refused, by what stands in
- * it.
+ * file's length. Of the first field at fault this comes first: 1, one or two bytes are left; 2; 4; 6;
+ * 3; 1, its body is cut; 5. A file may have any length: one of over 22,448 bytes is refused, by what
+ * stands in it.
  *
  * Nothing here uses the heap. On the stack judge keeps a few disks of 1,024 bytes, two tables of
  * 2,048 and several of 512, and calls itself once more for each main write that it decides on; verdict
@@ -27,7 +34,7 @@ extern "C" {
 
 /* The least buffers of judge_lines and of find. */
 #define PELZHONDY_LINES_BYTES 400
-#define PELZHONDY_RULES_BYTES 96
+#define PELZHONDY_RULES_BYTES 128
 
 /* The most main writes of a test: of a file that is read, and of one that find takes. */
 #define PELZHONDY_MAIN_WRITES 20
@@ -113,14 +120,18 @@ uint64_t pelzhondy_judge_lines(const uint8_t *file, size_t file_length,
  * candidates are the rules that match an ordered pair of two different main writes of one test,
  * sorted by first name, second name and predicate; no other rules could make a smaller set. A set's
  * number has bit i set if candidate i, from 0, is in it, and among the smallest sets the one with the
- * largest number is taken. Writes a field of six bytes for each rule (03 00 03, name, predicate,
- * name), in the candidates' order, and leaves the rest of the buffer. Answers the number of rules, at
- * most 16. Refused, in this order: by reading; 10 if the file has rules; 24 if a test of it,
- * whichever, has over 12 main writes; 12 if the buffer has fewer than 96 bytes; 11 if there are over
- * 16 candidates; 13 if no acyclic set of any rules does it.
+ * largest number is taken. Writes a field for each rule, in the candidates' order, and leaves the rest
+ * of the buffer. Answers the number of rules, at most 16. Refused, in this order: by reading; 10 if the
+ * file has rules; 24 if a test of it, whichever, has over 12 main writes; 12 if the buffer has fewer
+ * than 128 bytes, even if all names are small; 11 if there are over 16 candidates; 13 if no acyclic set
+ * of any rules does it.
  *
- * So a file that judge and verdict answer for may be refused here, and 24 says nothing of whether
- * there are such rules. Rules that are found on shorter tests, for instance on a log of fewer puts,
+ * A field that it writes has six bytes, 03 00 03, name 1, predicate 1, name 1; only where one of its
+ * rule's names exceeds 255 it has eight, 0A 00 05, name 2, predicate 1, name 2, whichever tags the file
+ * has. Both may stand in one answer: a field has 3 bytes and as many as its third byte says.
+ *
+ * A file that judge and verdict answer for may be refused here, and 24 says nothing of whether there
+ * are such rules. Rules that are found on shorter tests, for instance on a log of fewer puts,
  * need not do for the longer one: put them in front of its file and ask judge or verdict.
  */
 uint64_t pelzhondy_find(const uint8_t *file, size_t file_length,
@@ -128,11 +139,11 @@ uint64_t pelzhondy_find(const uint8_t *file, size_t file_length,
 
 /*
  * Writes the test of a reading log, after the initial puts and during the main ones, with a range
- * check at 0. A program of puts is a row of keys and values, two bytes each, big-endian. Answers the
- * length written, 26 for each put and 7, and leaves the rest of the buffer. Refused, in this order:
- * 19 if a program's length is not a multiple of 4; 6, at place 0, if there are over 32 initial or 10
- * main puts; 20 if one is of (0,0); 12 if the buffer is too short. Of over 6 main puts the test has
- * over 12 main writes: judge takes it, find does not (24).
+ * check at 0, in tags 01 and 02: the log's names are 1 and 2. A program of puts is a row of keys and
+ * values, two bytes each, big-endian. Answers the length written, 26 for each put and 7, and leaves the
+ * rest of the buffer. Refused, in this order: 19 if a program's length is not a multiple of 4; 6, at
+ * place 0, if there are over 32 initial or 10 main puts; 20 if one is of (0,0); 12 if the buffer is too
+ * short. Of over 6 main puts the test has over 12 main writes: judge takes it, find does not (24).
  */
 uint64_t pelzhondy_trace(const uint8_t *initial_puts, size_t initial_length,
                          const uint8_t *main_puts, size_t main_length,

@@ -3,7 +3,8 @@
  * stored to flash; the supply is cut after every one of these in turn, and each time the host starts
  * again from what the flash holds and reads the log back as the fitter would find it. Then it begins a
  * log on an empty flash, reads superblocks as a damaged flash could give them back, and shows what goes
- * wrong in another order of calls. From the repository's root, after 'rt staticlib receiver':
+ * wrong in another order of calls, and with a name that is cut to a byte. From the repository's root,
+ * after 'rt staticlib receiver':
  *
  *     cc -std=c99 -Iinclude examples/receiver/host.c target/staticlib/libreceiver.a -o target/host
  *     target/host
@@ -82,7 +83,7 @@ static void start(void)
     open_on_disk();
 }
 
-static uint64_t hand_in(uint8_t address, uint8_t name, uint32_t epoch, uint16_t first, uint16_t second)
+static uint64_t hand_in(uint8_t address, uint16_t name, uint32_t epoch, uint16_t first, uint16_t second)
 {
     return pelzhondy_hand_in(state, sizeof state, address, name, epoch, first, second);
 }
@@ -223,6 +224,40 @@ static void superblock_too_early(void)
            memcmp(disk + 8, empty, sizeof empty) == 0 ? "empty" : "there");
 }
 
+/* The places in the order in which steps store them. */
+static void print_order(const char *what)
+{
+    uint64_t place;
+    printf("%s:", what);
+    while ((place = store_one()) != 0) {
+        printf(" %u", (unsigned)place);
+    }
+    printf("\n");
+}
+
+/*
+ * A trailer's mark, 258, waits for its record, 257; the lorry's record has name 1, which is 257 with its
+ * high byte lost. The rule's field has tag 0A, since its names are above 255. `name` is what the
+ * trailer's record is handed in by. The mark comes first, and no step before all three are there.
+ */
+static void hand_in_trailer(uint16_t name)
+{
+    static const uint8_t rule[] = {0x0A, 0, 5, 258 >> 8, 258 & 0xFF, 0, 257 >> 8, 257 & 0xFF};
+    accepted("open", pelzhondy_open(state, sizeof state, rule, sizeof rule));
+    accepted("hand-in", hand_in(22, 258, 1, 0, 1));
+    accepted("hand-in", hand_in(20, 1, 1, 0, 830));
+    accepted("hand-in", hand_in(21, name, 1, 0, 640));
+}
+
+static void trailer(void)
+{
+    hand_in_trailer(257);
+    print_order("a mark 258, a record 1, its own record 257, stored as places");
+    /* WRONG: a name of two bytes that was kept in one. No call can notice: 1 is a name, too. */
+    hand_in_trailer((uint8_t)257);
+    print_order("the same with 257 cut to a byte");
+}
+
 /* The first ignition of a receiver whose flash is empty. */
 static void first_ignition(void)
 {
@@ -270,6 +305,7 @@ int main(void)
     read_superblocks();
     whole_ignition();
     superblock_too_early();
+    trailer();
 
     /* A state that was not opened after the reset. Were it still sound, nobody would notice. */
     cut();

@@ -12,11 +12,11 @@
 
 #include "pelzhondy_workbench.h"
 
-/* A file that is accepted has at most 21,040 bytes; a longer one is refused by what stands before. */
-static uint8_t file[21504];
+/* A file that is accepted has at most 22,448 bytes; a longer one is refused by what stands before. */
+static uint8_t file[22528];
 
-/* Fields: tag 1, length 2, body. A rule's field has 6 bytes in all, a write's 13. Tags of checks. */
-enum { BODY = 3, RULE_FIELD = 6, WRITE_FIELD = 13, RANGE = 4, PAIR = 5, POINTER = 6 };
+/* Fields: tag 1, length 2, body. Tags of checks; from 8 on the tags of what has names of two bytes. */
+enum { BODY = 3, RANGE = 4, PAIR = 5, POINTER = 6, FIRST_WIDE = 8 };
 
 enum { BLOCKS = 256 };
 
@@ -50,7 +50,7 @@ struct block {
     unsigned first, second;
 };
 
-/* The fields of a test. Its checks are of different lengths. */
+/* The fields of a test, which are of different lengths. */
 struct test {
     const uint8_t *initial_writes, *main_writes, *checks;
     unsigned initial_count, main_count, check_count;
@@ -89,15 +89,56 @@ static int is_same(struct block block, struct block other)
     return block.first == other.first && block.second == other.second;
 }
 
-/* A write's field: tag, length, address 1, name 1, epoch 4, block 4. */
+static const uint8_t *next_field(const uint8_t *field)
+{
+    return field + BODY + half_in(field + 1);
+}
+
+/* The field behind so many others. */
+static const uint8_t *field_after(const uint8_t *field, size_t count)
+{
+    while (count-- > 0) {
+        field = next_field(field);
+    }
+    return field;
+}
+
+/* How many bytes each name of a write's or a rule's field has. */
+static size_t name_bytes(const uint8_t *field)
+{
+    return field[0] < FIRST_WIDE ? 1 : 2;
+}
+
+static unsigned name_in(const uint8_t *bytes, size_t length)
+{
+    return length == 1 ? bytes[0] : half_in(bytes);
+}
+
+/* A write's field: tag, length, address 1, name 1 or 2, epoch 4, block 4. */
 static unsigned address_of(const uint8_t *field)
 {
     return field[BODY];
 }
 
+static unsigned name_of(const uint8_t *field)
+{
+    return name_in(field + BODY + 1, name_bytes(field));
+}
+
+static const uint8_t *behind_name(const uint8_t *field)
+{
+    return field + BODY + 1 + name_bytes(field);
+}
+
+static unsigned long epoch_of(const uint8_t *field)
+{
+    const uint8_t *epoch = behind_name(field);
+    return (unsigned long)half_in(epoch) << 16 | half_in(epoch + 2);
+}
+
 static struct block block_of(const uint8_t *field)
 {
-    return block_in(field + BODY + 6);
+    return block_in(behind_name(field) + 4);
 }
 
 /* The test of that number, from 1, which the file has. */
@@ -109,19 +150,14 @@ static struct test test_in(size_t length, uint64_t number)
     test.main_count = (unsigned)(where >> 24 & 0xFF);
     test.check_count = (unsigned)(where >> 32);
     test.initial_writes = file + (where & 0xFFFF);
-    test.main_writes = test.initial_writes + WRITE_FIELD * (size_t)test.initial_count;
-    test.checks = test.main_writes + WRITE_FIELD * (size_t)test.main_count;
+    test.main_writes = field_after(test.initial_writes, test.initial_count);
+    test.checks = field_after(test.main_writes, test.main_count);
     return test;
 }
 
 static const uint8_t *main_write(const struct test *test, unsigned i)
 {
-    return test->main_writes + WRITE_FIELD * (size_t)i;
-}
-
-static const uint8_t *next_check(const uint8_t *field)
-{
-    return field + BODY + half_in(field + 1);
+    return field_after(test->main_writes, i);
 }
 
 /* Whether write i, from 0, is in a set of writes. */
@@ -141,21 +177,21 @@ static void make_disk(struct cut *cut)
 {
     static const struct block empty = {0, 0};
     const struct test *test = &cut->test;
+    const uint8_t *field = test->initial_writes;
     unsigned i;
     for (i = 0; i < BLOCKS; i++) {
         cut->disk[i] = empty;
         cut->writer[i] = 0;
     }
-    for (i = 0; i < test->initial_count; i++) {
-        const uint8_t *field = test->initial_writes + WRITE_FIELD * (size_t)i;
+    for (; field != test->main_writes; field = next_field(field)) {
         cut->disk[address_of(field)] = block_of(field);
     }
     for (i = 0; i < test->main_count; i++) {
-        const uint8_t *field = main_write(test, i);
         if (has(cut->schedule, i)) {
             cut->disk[address_of(field)] = block_of(field);
             cut->writer[address_of(field)] = i + 1;
         }
+        field = next_field(field);
     }
 }
 
@@ -217,10 +253,9 @@ static void print_block(struct block block)
 
 static void print_write(unsigned number, const uint8_t *field)
 {
-    unsigned long epoch = (unsigned long)half_in(field + BODY + 2) << 16 | half_in(field + BODY + 4);
     struct block block = block_of(field);
     printf("    write %u: address %u, name %u, epoch %lu, block (%u, %u)\n", number, address_of(field),
-           field[BODY + 1], epoch, block.first, block.second);
+           name_of(field), epoch_of(field), block.first, block.second);
 }
 
 /* The main writes that are on the disk, one by one, and the numbers of those that are not. */
@@ -336,7 +371,7 @@ static void print_checks(const struct cut *cut)
                 number = i + 1;
             }
         }
-        check = next_check(check);
+        check = next_field(check);
     }
     if (first == NULL) {
         return; /* of a bad schedule some check fails */
@@ -373,12 +408,21 @@ static int explain(size_t length, uint64_t number)
     return 1;
 }
 
+/* A rule's field: tag, length, name 1 or 2, predicate 1, name as the first. */
+static void print_rule(const uint8_t *field)
+{
+    static const char predicates[] = "=><";
+    const uint8_t *body = field + BODY;
+    size_t length = name_bytes(field);
+    printf(" (%u,%c,%u)", name_in(body, length), predicates[body[length]], name_in(body + length + 1, length));
+}
+
 /* The rules that would do, found on the file's tests without its rules. */
 static void advise(size_t length, size_t rules)
 {
-    static const char predicates[] = "=><";
     uint8_t found[PELZHONDY_RULES_BYTES];
-    size_t start = RULE_FIELD * rules, i;
+    const uint8_t *field = found;
+    size_t start = (size_t)(field_after(file, rules) - file);
     uint64_t count = pelzhondy_find(file + start, length - start, found, sizeof found);
     if (pelzhondy_is_refused(count)) {
         if (pelzhondy_refusal_number(count) == PELZHONDY_NO_SET_DOES) {
@@ -393,9 +437,9 @@ static void advise(size_t length, size_t rules)
         return;
     }
     printf("the fewest rules that do:%s", count == 0 ? " none" : "");
-    for (i = 0; i < count; i++) {
-        const uint8_t *body = found + RULE_FIELD * i + BODY;
-        printf(" (%u,%c,%u)", body[0], predicates[body[1]], body[2]);
+    for (; count > 0; count--) {
+        print_rule(field);
+        field = next_field(field);
     }
     printf("\n");
 }

@@ -1,8 +1,8 @@
 /*
  * Calls every routine of the tester's library: makes test K of the bench sheet by trace, asks all that
  * can be asked of it with and without rules, asks the same, but for rules, of a log with as many puts
- * as a test can have, and then shows each refusal. From the repository's root, after
- * 'rt staticlib workbench':
+ * as a test can have, finds rules for names of one byte and of two, and then shows each refusal. From
+ * the repository's root, after 'rt staticlib workbench':
  *
  *     cc -std=c99 -Iinclude examples/workbench/tour.c target/staticlib/libworkbench.a -o target/tour
  *     target/tour
@@ -13,8 +13,12 @@
 
 #include "pelzhondy_workbench.h"
 
-/* A field is a tag, a length of two bytes and a body; a rule's has six bytes in all. */
-enum { RULE_FIELD = 6, WRITE_FIELD = 13, MOST_RULES = 32, TEST_K = 85 };
+/*
+ * A field is a tag, a length of two bytes and a body. A rule's has six bytes in all, with tag 03 and names
+ * of one byte, or eight, with tag 0A and names of two.
+ */
+enum { BODY = 3, RULE_FIELD = 6, WIDE_RULE_FIELD = 8, WRITE_FIELD = 13 };
+enum { WIDE_RULE = 0x0A, MOST_RULES = 32, TEST_K = 85 };
 
 /* Test K: before it a put of (0,42); in it puts of (1,81) and (2,37). */
 static const uint8_t initial_puts[] = {0, 0, 0, 42};
@@ -24,6 +28,19 @@ static const uint8_t main_puts[] = {0, 1, 0, 81, 0, 2, 0, 37};
 static const uint8_t rig_puts[] = {0, 0,  3, 62,  0, 1,  3, 57,  0, 2,  3, 142, 0, 3,  3, 137,
                                    0, 10, 3, 131, 0, 20, 3, 116, 0, 30, 2, 128, 0, 40, 3, 134,
                                    0, 50, 3, 103, 0, 60, 3, 125};
+
+/*
+ * Two tests, each of two writes of one name, epochs 0 and 1, to blocks 1 and 2; with the second there the
+ * first has to be. The name is 1, in tag 02, and then 300, in tag 09.
+ */
+static const uint8_t two_names[] = {2, 0, 10, 1, 1, 0, 0, 0, 0, 0, 0, 0, 1,      /* (1,0) to block 1 */
+                                    2, 0, 10, 2, 1, 0, 0, 0, 1, 0, 0, 0, 1,      /* (1,1) to block 2 */
+                                    5, 0, 10, 2, 0, 0, 0, 1, 1, 0, 0, 0, 1,      /* if 2 is there, 1 is */
+                                    7, 0, 0,                                     /* the end */
+                                    9, 0, 11, 1, 1, 44, 0, 0, 0, 0, 0, 0, 0, 1,  /* (300,0) to block 1 */
+                                    9, 0, 11, 2, 1, 44, 0, 0, 0, 1, 0, 0, 0, 1,  /* (300,1) to block 2 */
+                                    5, 0, 10, 2, 0, 0, 0, 1, 1, 0, 0, 0, 1,      /* if 2 is there, 1 is */
+                                    7, 0, 0};                                    /* the end */
 
 /* The log's rules (2,=,1) and (2,>,2): a superblock after its log block, and after earlier ones. */
 static const uint8_t log_rules[] = {3, 0, 3, 2, 0, 1, 3, 0, 3, 2, 1, 2};
@@ -95,18 +112,57 @@ static void print_all(const char *what, size_t length)
     printf("    judge_lines: %.*s", (int)printed, (const char *)lines);
 }
 
-/* The fewest rules under which the tests of the file hold. */
-static void print_found(size_t length)
+static unsigned half_in(const uint8_t *bytes)
+{
+    return (unsigned)bytes[0] << 8 | bytes[1];
+}
+
+/* The length of a whole field. */
+static size_t field_length(const uint8_t *field)
+{
+    return BODY + half_in(field + 1);
+}
+
+static void print_rule(const uint8_t *field)
 {
     static const char predicates[] = "=><";
-    uint8_t found[PELZHONDY_RULES_BYTES];
-    size_t i, count = (size_t)accepted("find", pelzhondy_find(file, length, found, sizeof found));
-    printf("    find: %u rules", (unsigned)count);
-    for (i = 0; i < count; i++) {
-        const uint8_t *body = found + RULE_FIELD * i + 3;
+    const uint8_t *body = field + BODY;
+    if (field[0] == WIDE_RULE) {
+        printf(" (%u,%c,%u)", half_in(body), predicates[body[2]], half_in(body + 3));
+    } else {
         printf(" (%u,%c,%u)", body[0], predicates[body[1]], body[2]);
     }
+}
+
+static void print_field(const uint8_t *field)
+{
+    size_t i;
+    printf("       ");
+    for (i = 0; i < field_length(field); i++) {
+        printf(" %02x", field[i]);
+    }
     printf("\n");
+}
+
+/*
+ * The fewest rules under which the tests of a file hold, and the fields in which they are written: of tag
+ * 0A only where one of a rule's names exceeds 255. So one goes from field to field by their lengths.
+ */
+static void print_found(const uint8_t *tests, size_t length)
+{
+    uint8_t found[PELZHONDY_RULES_BYTES];
+    size_t i, count = (size_t)accepted("find", pelzhondy_find(tests, length, found, sizeof found));
+    const uint8_t *field = found;
+    printf("    find: %u rules", (unsigned)count);
+    for (i = 0; i < count; i++) {
+        print_rule(field);
+        field += field_length(field);
+    }
+    printf("\n");
+    for (i = 0, field = found; i < count; i++) {
+        print_field(field);
+        field += field_length(field);
+    }
 }
 
 /* ---- refusals */
@@ -163,14 +219,21 @@ static void print_refusals_of_reading(void)
     static const uint8_t body_cut[] = {7, 0, 0, 2, 0, 10, 8, 1};
     static const uint8_t unknown_tag[] = {255, 0, 0};
     static const uint8_t wrong_length[] = {3, 0, 2, 2, 0};
+    static const uint8_t narrow_length[] = {WIDE_RULE, 0, 3, 2, 0, 1};
     static const uint8_t out_of_order[] = {7, 0, 0, 3, 0, 3, 2, 0, 1};
     static const uint8_t unknown_predicate[] = {3, 0, 3, 2, 3, 1};
     static const uint8_t not_ended[] = {4, 0, 1, 0};
     static const uint8_t main_write[WRITE_FIELD] = {2, 0, 10, 1, 1, 0, 0, 0, 0, 0, 0, 0, 1};
+    static const uint8_t wide_rule[WIDE_RULE_FIELD] = {WIDE_RULE, 0, 5, 1, 2, 0, 1, 1};
     uint8_t over_rules[RULE_FIELD * (MOST_RULES + 1)], over_main[WRITE_FIELD * (PELZHONDY_MAIN_WRITES + 1)];
+    uint8_t over_both[RULE_FIELD * (MOST_RULES / 2) + WIDE_RULE_FIELD * (MOST_RULES / 2 + 1)];
     size_t i;
     for (i = 0; i < sizeof over_rules; i += RULE_FIELD) {
         memcpy(over_rules + i, log_rules, RULE_FIELD);
+    }
+    memcpy(over_both, over_rules, RULE_FIELD * (MOST_RULES / 2));
+    for (i = RULE_FIELD * (MOST_RULES / 2); i < sizeof over_both; i += WIDE_RULE_FIELD) {
+        memcpy(over_both + i, wide_rule, WIDE_RULE_FIELD);
     }
     for (i = 0; i < sizeof over_main; i += WRITE_FIELD) {
         memcpy(over_main + i, main_write, WRITE_FIELD);
@@ -179,9 +242,11 @@ static void print_refusals_of_reading(void)
     print_unread("a body is cut", body_cut, sizeof body_cut);
     print_unread("an unknown tag", unknown_tag, sizeof unknown_tag);
     print_unread("a rule of two bytes", wrong_length, sizeof wrong_length);
+    print_unread("an 0A with the length of an 03", narrow_length, sizeof narrow_length);
     print_unread("a rule after a test", out_of_order, sizeof out_of_order);
     print_unread("a rule with predicate 3", unknown_predicate, sizeof unknown_predicate);
     print_unread("a 33rd rule", over_rules, sizeof over_rules);
+    print_unread("a 33rd rule, 16 are 03s, 17 are 0As", over_both, sizeof over_both);
     print_unread("a 21st main write", over_main, sizeof over_main);
     print_unread("a test without its end", not_ended, sizeof not_ended);
 }
@@ -220,10 +285,10 @@ static void print_refusals_of_find(void)
     /* What judge, verdict and judge_lines take need not be short enough for find. */
     length = make_rig(log_rules, 0);
     print_refusal("20 main writes", "find", pelzhondy_find(file, length, buffer, sizeof buffer));
-    print_refusal("20 main writes, 95 bytes", "find",
+    print_refusal("20 main writes, 127 bytes", "find",
                   pelzhondy_find(file, length, buffer, PELZHONDY_RULES_BYTES - 1));
     make_file(log_rules, sizeof log_rules);
-    print_refusal("95 bytes", "find",
+    print_refusal("127 bytes", "find",
                   pelzhondy_find(file + sizeof log_rules, TEST_K, buffer, PELZHONDY_RULES_BYTES - 1));
     for (i = 0; i < 6; i++) {
         uint8_t field[WRITE_FIELD] = {2, 0, 10, 0, 0, 0, 0, 0, 0, 0, 0, 0, 1};
@@ -264,10 +329,12 @@ int main(void)
     print_all("test K with (2,=,1)", make_file(log_rules, RULE_FIELD));
     length = make_file(log_rules, 0);
     print_all("test K with no rules", length);
-    print_found(length);
+    print_found(file, length);
     print_all("six trailers with (2,=,1) (2,>,2)", make_rig(log_rules, sizeof log_rules));
     print_all("six trailers with (2,=,1)", make_rig(log_rules, RULE_FIELD));
     print_all("six trailers with no rules", make_rig(log_rules, 0));
+    printf("a test of name 1 and one of name 300, %u bytes\n", (unsigned)sizeof two_names);
+    print_found(two_names, sizeof two_names);
     print_refusals_of_reading();
     print_refusals_of_judging();
     print_refusals_of_find();

@@ -42,9 +42,12 @@ enum {
     ACCEPTED_COUNT = 1,
     STORED_COUNT = 2,
     ALWAYS_ZERO = 3,
-    BLOCK_OF_WRITE = 6,
-    FLAG = 10,
+    BLOCK_OF_WRITE = 7,
+    FLAG = 11,
     MOST_RULES = 8,
+    /* The length of a rule's field: with names of one byte, and of two. */
+    RULE_FIELD = 6,
+    WIDE_RULE_FIELD = 8,
     MOST_STORES = 4096,
     TRAP_FLAG = 0x100,
     RUNS = 120,
@@ -254,11 +257,14 @@ static uint32_t below(uint32_t most)
 /* ---- the plain model of a cache: its rules and writes as they were handed in */
 
 struct rule {
-    uint8_t first, predicate, second;
+    uint16_t first;
+    uint8_t predicate;
+    uint16_t second;
 };
 
 struct write {
-    uint8_t address, name;
+    uint8_t address;
+    uint16_t name;
     uint32_t epoch;
     uint8_t block[BLOCK];
     int stored;
@@ -269,6 +275,22 @@ static size_t rule_count;
 static struct write writes[MOST];
 static size_t write_count;
 
+/* All names: of the last two one byte is that of the first two. */
+static const uint16_t names[] = {1, 2, 257, 258};
+
+static uint16_t any_name(void)
+{
+    return names[below(sizeof names / sizeof *names)];
+}
+
+/* Which bits of names are compared: all, but for a routine that is wrong on purpose. */
+static uint16_t compared = UINT16_MAX;
+
+static int is_same_name(uint16_t one, uint16_t other)
+{
+    return ((one ^ other) & compared) == 0;
+}
+
 /* Whether write i depends on write j. */
 static int depends_on(size_t i, size_t j)
 {
@@ -276,7 +298,8 @@ static int depends_on(size_t i, size_t j)
     for (r = 0; r < rule_count; r++) {
         uint32_t a = writes[i].epoch, b = writes[j].epoch;
         int related = rules[r].predicate == 0 ? a == b : rules[r].predicate == 1 ? a > b : a < b;
-        if (rules[r].first == writes[i].name && rules[r].second == writes[j].name && related) {
+        if (is_same_name(rules[r].first, writes[i].name) && is_same_name(rules[r].second, writes[j].name) &&
+            related) {
             return 1;
         }
     }
@@ -306,7 +329,8 @@ static uint64_t earliest(void)
 
 static const struct rule the_logs[] = {{2, 0, 1}, {2, 1, 2}};
 static const struct rule falling[] = {{1, 2, 1}};
-static const struct rule several[] = {{2, 0, 1}, {3, 0, 1}, {3, 0, 2}, {3, 1, 3}, {4, 1, 3}, {4, 1, 2}};
+static const struct rule several[] = {{2, 0, 1},     {257, 0, 1},   {257, 0, 2},
+                                      {257, 1, 257}, {258, 1, 257}, {258, 1, 2}};
 
 static void take_rules(const struct rule *from, size_t count)
 {
@@ -334,25 +358,39 @@ static void choose_rules(void)
     default:
         rule_count = 1 + below(MOST_RULES);
         for (r = 0; r < rule_count; r++) {
-            rules[r].first = (uint8_t)(1 + below(4));
+            rules[r].first = any_name();
             rules[r].predicate = (uint8_t)below(3);
-            rules[r].second = (uint8_t)(1 + below(4));
+            rules[r].second = any_name();
         }
     }
+}
+
+/* Writes a rule's field, of tag 0A where a name needs it, or by chance. Answers its length. */
+static size_t put_rule(const struct rule *rule, uint8_t *at)
+{
+    uint8_t first = (uint8_t)(rule->first & 0xFF), second = (uint8_t)(rule->second & 0xFF);
+    uint8_t narrow[RULE_FIELD] = {3, 0, 3, first, rule->predicate, second};
+    uint8_t wide[WIDE_RULE_FIELD] = {10, 0, 5, (uint8_t)(rule->first >> 8), first, rule->predicate,
+                                     (uint8_t)(rule->second >> 8), second};
+    if (rule->first > 255 || rule->second > 255 || below(2) == 0) {
+        memcpy(at, wide, sizeof wide);
+        return sizeof wide;
+    }
+    memcpy(at, narrow, sizeof narrow);
+    return sizeof narrow;
 }
 
 /* A watched opening with the rules. Whether it was accepted. */
 static int open_cache(void)
 {
-    uint8_t file[6 * MOST_RULES + 1];
-    size_t r;
+    uint8_t file[WIDE_RULE_FIELD * MOST_RULES + 1];
+    size_t r, length = 0;
     uint64_t answer;
     for (r = 0; r < rule_count; r++) {
-        uint8_t field[6] = {3, 0, 3, rules[r].first, rules[r].predicate, rules[r].second};
-        memcpy(file + 6 * r, field, sizeof field);
+        length += put_rule(&rules[r], file + length);
     }
     watch();
-    answer = pelzhondy_open(state, STATE, file, 6 * rule_count);
+    answer = pelzhondy_open(state, STATE, file, length);
     watch_no_more();
     ask(NO_STORES, stores_to_disk() == 0);
     if (pelzhondy_is_refused(answer)) {
@@ -373,7 +411,7 @@ static void hand_in_one(int telling)
     uint64_t answer;
     size_t i, k;
     w.address = addresses[below(sizeof addresses)];
-    w.name = (uint8_t)(1 + below(4));
+    w.name = any_name();
     w.epoch = below(8) == 0 ? UINT32_MAX - below(2) : below(6);
     w.stored = 0;
     replaced = disk + BLOCK * (size_t)w.address;
@@ -599,7 +637,7 @@ static void run(const struct routines *of, unsigned runs)
     }
 }
 
-/* ---- routines that are wrong on purpose. All but the last leave what the right ones leave */
+/* ---- routines that are wrong on purpose. All but the last two leave what the right ones leave */
 
 static void store_write(uint8_t *s, uint8_t *d, size_t i)
 {
@@ -737,6 +775,23 @@ static uint64_t step_latest(uint8_t *s, size_t s_length, uint8_t *d, size_t d_le
     return 0;
 }
 
+/* Takes names for the same that have the same low byte. */
+static uint64_t step_low_bytes(uint8_t *s, size_t s_length, uint8_t *d, size_t d_length)
+{
+    uint64_t place;
+    if (s_length != STATE || d_length != DISK || s[ALWAYS_ZERO] != 0) {
+        return pelzhondy_step(s, s_length, d, d_length);
+    }
+    compared = 0xFF;
+    place = earliest();
+    compared = UINT16_MAX;
+    if (place != 0) {
+        store_write(s, d, (size_t)place - 1);
+        mark_write(s, (size_t)place - 1);
+    }
+    return place;
+}
+
 static const struct routines library = {"the library", pelzhondy_step, pelzhondy_drain, pelzhondy_get, KINDS};
 
 static const struct routines wrong_ones[] = {
@@ -747,6 +802,7 @@ static const struct routines wrong_ones[] = {
     {"a drain that stores and then refuses", pelzhondy_step, drain_then_refuse, pelzhondy_get, REFUSED},
     {"a get that writes back", pelzhondy_step, pelzhondy_drain, get_and_write_back, NO_STORES},
     {"a step of the latest write", step_latest, pelzhondy_drain, pelzhondy_get, ORDER},
+    {"a step by the low bytes of names", step_low_bytes, pelzhondy_drain, pelzhondy_get, ORDER},
 };
 
 int main(void)

@@ -4,7 +4,7 @@ use mathlib.Core.Bool.{Bool, true, false, cond, not, _||_}
 use mathlib.Core.List.{List, [], _∷_, _++_, append-nil}
 use mathlib.Core.Option.{Option}
 use Prim.{tt}
-use Prim.Native.Nat.{ℕ, _^_}
+use Prim.Native.Nat.{ℕ, _^_, _<_}
 use native.Mathlib.Omega.{arith}
 use lib.Count.{ones, onesIn}
 use lib.Dec.{eqb, ltb, lit<}
@@ -29,9 +29,9 @@ use Rattle.model.specs.Test.{Test, File, file, initialDisk, Bad, bad, testHolds
 use Rattle.model.specs.Find.{before, picked, pairing, inserted, fromWrite, fromTrace, candidatesOf, suffices, preferred, chosen}
 use Rattle.model.proofs.CountLaws.{count-all}
 use Rattle.model.proofs.TestLaws.{bad-true, true-bad, bad-fails, count-holds, computed-smallest}
-use Rattle.file_format.specs.Bytes.{half, word, blockIn, writeBytes, ruleBytes}
-use Rattle.file_format.specs.Encode.{fieldBytes, ruleFields, writeFields, checkFieldBytes, checkFields, testBytes, testsBytes, fileBytes}
-use Rattle.file_format.specs.File.{isTag, isCheck, bodyLength, ruleOf, writeOf, checkOf, countsOf, outOfOrder, overTest, overLimit, ruleFault, bodyFault, faultOf, grown, finished, readFrom, nothing, readOf}
+use Rattle.file_format.specs.Bytes.{half, word, blockIn, narrowWriteBytes, wideWriteBytes, narrowRuleBytes, wideRuleBytes}
+use Rattle.file_format.specs.Encode.{fieldBytes, ruleFieldBytes, ruleFields, writeFieldBytes, writeFields, checkFieldBytes, checkFields, testBytes, testsBytes, fileBytes}
+use Rattle.file_format.specs.File.{isTag, isWide, kindOf, isRule, isCheck, bodyLength, narrowRule, wideRule, ruleOf, narrowWrite, wideWrite, writeOf, checkOf, countsOf, outOfOrder, overTest, overLimit, ruleFault, bodyFault, faultOf, grown, finished, readFrom, nothing, readOf}
 use Rattle.rule_cyclelaws.proofs.Examples.{K5-not-cyclic, K6-cyclic}
 use Rattle.judge_search.specs.Verdict.{verdictBy}
 use Rattle.judge_cases.specs.Judge.{Case, caseOf, caseIn, judgementOf, verdictOf}
@@ -44,13 +44,13 @@ use Rattle.log_get.proofs.DamageLaws.{filled-meets, damage-exactly}
 use Rattle.judge_text.specs.Decimal.{decimalWith, decimal}
 use Rattle.judge_text.specs.Lines.{refusedLine, testLine, lines, textOf, programText}
 use Rattle.find_candidates.specs.Tests.{tooLong}
-use Rattle.find_call.specs.Finder.{Found, over, wrote, findAmong, findIn, findOf}
+use Rattle.find_call.specs.Finder.{Found, found, foundLength, over, wrote, findAmong, findIn, findOf}
 use Rattle.model.specs.Needs.{needs, needsRing, met, readyFrom, ready, late}
 use Rattle.cache_model.specs.Entries.{flagAt, flagCount}
 use Rattle.cache_model.specs.State.{ruleIn, writeIn, rulesIn, writesIn, storedIn, entriesIn, bytesEach, entryBytes, front, back, stateOf, opened, handed, marked, storedOn}
 use Rattle.cache_model.specs.Sound.{same, layout, ruled, needsHold, sound}
 use Rattle.cache_model.specs.Calls.{openWith, openOf, handInOf, storing, checked, stepped, stepOf}
-use Rattle.bench.specs.Sheet.{put, K, K3-rules, together, Finding, RangeAt, Call, call, Gave, gave, calls, blank, Calling, Sheet, K-initial, K-main, Unstarred, trimmed, long, puts, Requested}
+use Rattle.bench.specs.Sheet.{FindingAll, logged, mixed-K, sixteen, waits, put, K, K3-rules, together, Finding, RangeAt, Call, call, Gave, gave, calls, blank, Calling, Sheet, K-initial, K-main, Unstarred, trimmed, long, puts, Requested}
 
 -- ---- what the lines are computed by: to unfold one of these is to unfold all that it unfolds
 
@@ -71,7 +71,7 @@ ringed rules = cyclic rules
 
 -- files
 fileRead : File → Outcome File
-unfolding fileBytes testsBytes testBytes checkFields checkFieldBytes writeFields ruleFields fieldBytes writeBytes ruleBytes readOf readFrom nothing finished grown faultOf bodyFault ruleFault overLimit overTest outOfOrder countsOf checkOf writeOf ruleOf bodyLength isCheck isTag word half
+unfolding fileBytes testsBytes testBytes checkFields checkFieldBytes writeFields writeFieldBytes ruleFields ruleFieldBytes fieldBytes narrowWriteBytes wideWriteBytes narrowRuleBytes wideRuleBytes readOf readFrom nothing finished grown faultOf bodyFault ruleFault overLimit overTest outOfOrder countsOf checkOf writeOf wideWrite narrowWrite ruleOf wideRule narrowRule bodyLength isCheck isRule kindOf isWide isTag word half
 fileRead f = readOf (fileBytes f)
 
 -- the test that a judge is given
@@ -106,10 +106,14 @@ only : (rules : List Rule) (t : Test) (n : ℕ) → allBelow (λ s. not (bad rul
 unfolding Bad
 only rules t n e s b = eqb-true s n (implies (bad rules t s) (eqb s n) (allBelow-true _ (schedules t) e s (b .0)) (true-bad rules t s b))
 
+finding-all : (ts : List Test) (left : List ℕ → Found) → readOf (fileBytes (file [] ts)) ≡ answer (file [] ts) → tooLong ts ≡ false
+    → ((buffer : List ℕ) → findAmong ts buffer ≡ left buffer) → FindingAll ts left
+unfolding findOf findIn
+finding-all ts left e short h buffer l = rw (e, short, le-ltb (length buffer) foundLength l) (h buffer)
+
 finding : (t : Test) (left : List ℕ → Found) → readOf (fileBytes (file [] (t ∷ []))) ≡ answer (file [] (t ∷ [])) → tooLong (t ∷ []) ≡ false
     → ((buffer : List ℕ) → findAmong (t ∷ []) buffer ≡ left buffer) → Finding t left
-unfolding findOf findIn
-finding t left e short h buffer l = rw (e, short, le-ltb (length buffer) 96 l) (h buffer)
+finding t left = finding-all (t ∷ []) left
 
 calling : (cs : List Call) (outcomes : List (Outcome ℕ)) (disk : List ℕ) → called cs ≡ gave outcomes disk → Calling cs outcomes disk
 unfolding called
@@ -227,6 +231,22 @@ shows : Case → ℕ
 unfolding caseRead four-not-three nothing-stored judgeAnswer verdictAnswer judgementCode verdictCode judgementOf verdictOf verdictBy shownOf
 shows c = judgeAnswer (answer c)
 
+-- files byte by byte
+spelt : List ℕ → Outcome File
+unfolding fileRead counted mixed-K sixteen
+spelt s = readOf s
+
+-- names above 255
+named : Test → List ℕ → Found
+unfolding searched spelt logged waits
+named t buffer = findAmong (t ∷ []) buffer
+
+-- a buffer one byte too short
+finding-short : (t : Test) (buffer : List ℕ) → readOf (fileBytes (file [] (t ∷ []))) ≡ answer (file [] (t ∷ [])) → tooLong (t ∷ []) ≡ false → length buffer < foundLength
+    → findOf (fileBytes (file [] (t ∷ []))) buffer ≡ found (refused 12 0) buffer
+unfolding findOf findIn
+finding-short t buffer e short l = rw (e, short, lt-ltb (length buffer) foundLength l)
+
 pub requested : Requested
 requested =
     record {
@@ -250,4 +270,14 @@ requested =
       twelve-taken = (finding _ _ (unfold twelve in refl) (unfold twelve in refl) (λ buffer. unfold twelve in refl), unfold asked in refl);
       ten-traced = λ buffer l. rw (ten-room buffer, le-ltb (length buffer) 267 l);
       eleven-refused = λ buffer. unfold put-traces in refl;
+      wide-rule-read = unfold spelt in refl;
+      wide-fault = (unfold spelt in refl, unfold spelt in refl, unfold spelt in refl);
+      thirty-three = unfold spelt in refl;
+      wide-order = (unfold spelt in refl, unfold spelt in refl);
+      K-mixed = unfold spelt in refl;
+      apart = (unfold named in refl, unfold named in refl, unfold named in refl, unfold named in refl);
+      both-written = finding-all _ _ (unfold named in refl) (unfold named in refl) (λ buffer. unfold named in refl);
+      K-300 = finding _ _ (unfold named in refl) (unfold named in refl) (λ buffer. unfold named in refl);
+      longest-file = (refl, refl);
+      buffer-127 = (λ buffer e. finding-short _ _ (unfold named in refl) (unfold named in refl) (omega arith), refl);
     }

@@ -20,6 +20,7 @@ use Rattle.model.specs.Test.{Test, test, file, schedules, TestHolds, Bad, Small
 use Rattle.rule_cyclelaws.specs.Examples.{rule}
 use Rattle.file_format.specs.Encode.{ruleFields, testBytes, fileBytes}
 use Rattle.file_format.specs.File.{readOf}
+use Rattle.file_reader.specs.Limits.{longest, longestField}
 use Rattle.judge_cases.specs.Judge.{Case, caseIn}
 use Rattle.judge_cases.specs.Examples.{four-not-three, nothing-stored}
 use Rattle.judge_answers.specs.Judged.{judgeAnswer, verdictAnswer}
@@ -86,9 +87,13 @@ Judged rules valid bad =
     × (validCount rules K ≡ valid)
     × (badCount rules K ≡ bad)
 
--- finding on the file of one test, with any buffer that is long enough
+-- finding on the file of these tests, with any buffer that is long enough
+abbrev pub FindingAll : List Test → (List ℕ → Found) → Type 0
+FindingAll ts left = (buffer : List ℕ) → foundLength ≤ length buffer → findOf (fileBytes (file [] ts)) buffer ≡ left buffer
+
+-- .., of one test
 abbrev pub Finding : Test → (List ℕ → Found) → Type 0
-Finding t left = (buffer : List ℕ) → foundLength ≤ length buffer → findOf (fileBytes (file [] (t ∷ []))) buffer ≡ left buffer
+Finding t left = FindingAll (t ∷ []) left
 
 -- the range check at any block (head, tail) of any disk
 abbrev pub RangeAt : ℕ → ℕ → Bool → Type 0
@@ -221,6 +226,37 @@ abbrev pub Shows : Case → ℕ → ℕ → Type 0
 Shows c judged decided =
     (caseIn (fileBytes (file (c .rules) (c .test ∷ []))) 1 ≡ answer c) × (judgeAnswer (answer c) ≡ judged) × (verdictAnswer (answer c) ≡ decided)
 
+-- test K, whose log blocks have this name
+unfoldable pub logged : ℕ → Test
+logged name =
+    test (given 1 name 0 0 42 ∷ given 0 2 0 1 2 ∷ [])
+    (given 2 name 1 1 81 ∷ given 0 2 1 1 3 ∷ given 3 name 2 2 37 ∷ given 0 2 2 1 4 ∷ [])
+    (Range 0 ∷ [])
+
+-- the bytes of the file of K1's rules and test K, with names of two bytes in four of the eight fields that have names
+unfoldable pub mixed-K : List ℕ
+mixed-K =
+    3 ∷ 0 ∷ 3 ∷ 2 ∷ 0 ∷ 1 ∷ 10 ∷ 0 ∷ 5 ∷ 0 ∷ 2 ∷ 1 ∷ 0 ∷ 2
+    ∷ 1 ∷ 0 ∷ 10 ∷ 1 ∷ 1 ∷ 0 ∷ 0 ∷ 0 ∷ 0 ∷ 0 ∷ 0 ∷ 0 ∷ 42
+    ∷ 8 ∷ 0 ∷ 11 ∷ 0 ∷ 0 ∷ 2 ∷ 0 ∷ 0 ∷ 0 ∷ 0 ∷ 0 ∷ 1 ∷ 0 ∷ 2
+    ∷ 9 ∷ 0 ∷ 11 ∷ 2 ∷ 0 ∷ 1 ∷ 0 ∷ 0 ∷ 0 ∷ 1 ∷ 0 ∷ 1 ∷ 0 ∷ 81
+    ∷ 2 ∷ 0 ∷ 10 ∷ 0 ∷ 2 ∷ 0 ∷ 0 ∷ 0 ∷ 1 ∷ 0 ∷ 1 ∷ 0 ∷ 3
+    ∷ 9 ∷ 0 ∷ 11 ∷ 3 ∷ 0 ∷ 1 ∷ 0 ∷ 0 ∷ 0 ∷ 2 ∷ 0 ∷ 2 ∷ 0 ∷ 37
+    ∷ 2 ∷ 0 ∷ 10 ∷ 0 ∷ 2 ∷ 0 ∷ 0 ∷ 0 ∷ 2 ∷ 0 ∷ 1 ∷ 0 ∷ 4
+    ∷ 4 ∷ 0 ∷ 1 ∷ 0 ∷ 7 ∷ 0 ∷ 0 ∷ []
+
+-- sixteen times these bytes
+unfoldable pub sixteen : List ℕ → List ℕ
+sixteen s =
+    let two = s ++ s in
+    let four = two ++ two in
+    let eight = four ++ four in
+    eight ++ eight
+
+-- two writes of one name, at 1 and 2; the later one is not to be there without the earlier
+unfoldable pub waits : ℕ → Test
+waits name = test [] (given 1 name 0 0 1 ∷ given 2 name 1 0 1 ∷ []) (Pair 2 (block 0 1) 1 (block 0 1) ∷ [])
+
 pub record Requested : Type 0 where
   -- [4] of three writes {1,2} is bad and {3} is: 8 valid, 5 bad, schedule 4 and not 3, which has more flags
   pub four-shown : Shows four-not-three (8 + 2 ^ 21 * 5 + 2 ^ 42 * 4) 5
@@ -257,3 +293,27 @@ pub record Requested : Type 0 where
   -- 10 main puts are traced, a test of 267 bytes; 11 are 6
   pub ten-traced : (buffer : List ℕ) → 267 ≤ length buffer → traceOf [] (puts 10) buffer .outcome ≡ answer 267
   pub eleven-refused : (buffer : List ℕ) → traceOf [] (puts 11) buffer ≡ traced (refused 6 0) buffer
+  -- [2] an 0A's body is name 2, predicate 1, name 2: this is (256,=,1)
+  pub wide-rule-read : readOf (10 ∷ 0 ∷ 5 ∷ 1 ∷ 0 ∷ 0 ∷ 0 ∷ 1 ∷ []) ≡ answer (file (rule 256 0 1 ∷ []) [])
+  -- its predicate is the third byte; cut behind it, it is 1; the first unknown tag is 0B
+  pub wide-fault : (readOf (10 ∷ 0 ∷ 5 ∷ 1 ∷ 0 ∷ 3 ∷ 0 ∷ 1 ∷ []) ≡ refused 5 0) × (readOf (10 ∷ 0 ∷ 5 ∷ 1 ∷ 0 ∷ 3 ∷ []) ≡ refused 1 0) × (readOf (11 ∷ 0 ∷ 0 ∷ []) ≡ refused 2 0)
+  -- 16 rules of either tag are 32; one more is 6, whatever its length is
+  pub thirty-three : readOf (sixteen (3 ∷ 0 ∷ 3 ∷ 2 ∷ 0 ∷ 1 ∷ 10 ∷ 0 ∷ 5 ∷ 1 ∷ 0 ∷ 0 ∷ 0 ∷ 1 ∷ []) ++ (10 ∷ 0 ∷ 0 ∷ [])) ≡ refused 6 224
+  -- an 01 behind its test's 09, and an 0A behind an 07, are out of order
+  pub wide-order : (readOf (9 ∷ 0 ∷ 11 ∷ 0 ∷ 0 ∷ 0 ∷ 0 ∷ 0 ∷ 0 ∷ 0 ∷ 0 ∷ 0 ∷ 0 ∷ 0 ∷ 1 ∷ 0 ∷ 0 ∷ []) ≡ refused 4 14)
+      × (readOf (7 ∷ 0 ∷ 0 ∷ 10 ∷ 0 ∷ 0 ∷ []) ≡ refused 4 3)
+  -- names of one byte and of two may stand in one file: K1's file, with half of those fields spelled in the new way, is K1's file
+  pub K-mixed : readOf mixed-K ≡ answer (file K1-rules (K ∷ []))
+  -- names 1 and 257 are two names: with log blocks named 257 the rule (2,=,1) ties nothing to them, and (2,=,257) does what it did; (1,=,257) is not cyclic
+  pub apart : (badCount K1-rules (logged 1) ≡ 0) × (badCount K1-rules (logged 257) ≡ 5) × (badCount (rule 2 0 257 ∷ rule 2 1 2 ∷ []) (logged 257) ≡ 0)
+      × (cyclic (rule 1 0 257 ∷ []) ≡ false)
+  -- the finder writes 0A only where a name exceeds 255: 03 00 03 01 01 01, 0A 00 05 01 2C 01 01 2C
+  pub both-written : FindingAll (waits 1 ∷ waits 300 ∷ [])
+      (λ buffer. found (answer 2) (3 ∷ 0 ∷ 3 ∷ 1 ∷ 1 ∷ 1 ∷ 10 ∷ 0 ∷ 5 ∷ 1 ∷ 44 ∷ 1 ∷ 1 ∷ 44 ∷ drop 14 buffer))
+  -- the order of candidates goes by the numbers: K with log name 300 gives (2,=,300), (300,>,300), and not (2,>,2)
+  pub K-300 : Finding (logged 300)
+      (λ buffer. found (answer 2) (10 ∷ 0 ∷ 5 ∷ 0 ∷ 2 ∷ 0 ∷ 1 ∷ 44 ∷ 10 ∷ 0 ∷ 5 ∷ 1 ∷ 44 ∷ 1 ∷ 1 ∷ 44 ∷ drop 16 buffer))
+  -- the longest file that is accepted, and how much of any file is enough to read
+  pub longest-file : (longest ≡ 22448) × (longest + longestField ≡ 22462)
+  -- the buffer of find must have 128 bytes, also where all names are small
+  pub buffer-127 : ((buffer : List ℕ) → length buffer ≡ 127 → findOf (fileBytes (file [] (K ∷ []))) buffer ≡ found (refused 12 0) buffer) × (foundLength ≡ 128)

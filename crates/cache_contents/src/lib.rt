@@ -22,7 +22,7 @@ pub fn rule_place(i: usize) -> usize
     requires { ⌜ i ≤ mostRules ⌝ }
     ensures { λ r. ⌜ r ≡ ruleBase i ⌝ }
 {
-    cache_model::RULES_START + file_format::RULE_LENGTH * i
+    cache_model::RULES_START + file_format::WIDE_RULE_LENGTH * i
 }
 
 // Where write i stands.
@@ -41,7 +41,7 @@ pub fn flag_place(i: usize) -> usize
     write_place(i) + cache_model::FLAG_PLACE
 }
 
-// The state's rules. A rule stands as the body of a rule's field.
+// The state's rules. A rule stands as the body of a rule's field with names of two bytes.
 pub fn state_rules(state: &[u8]) -> Rules
     requires { ⌜ (length (now state) ≡ stateSize) × (ruleCount (now state) ≤ mostRules) ⌝ }
     ensures { λ r. ⌜ (rulesOf r ≡ rulesIn (now (state .entry))) × (r .count ≡ ruleCount (now (state .entry))) ⌝ }
@@ -55,25 +55,25 @@ pub fn state_rules(state: &[u8]) -> Rules
     let mut i: usize = 0;
     while i < n {
         let b = rule_place(i);
-        let e = b + file_format::RULE_LENGTH;
-        items[i] = file_fields::read_rule(&state[b..e]);
+        let e = b + file_format::WIDE_RULE_LENGTH;
+        items[i] = file_fields::read_wide_rule(&state[b..e]);
         i += 1;
     }
     Rules { items, count: n }
 }
 
-// Write i. It stands as the body of a write's field.
+// Write i. It stands as the body of a write's field with a name of two bytes.
 pub fn write_in(state: &[u8], i: usize) -> Write
     requires { ⌜ (length (now state) ≡ stateSize) × (i < mostHeld) ⌝ }
     ensures { λ r. ⌜ r ≡ writeIn (now (state .entry)) i ⌝ }
 {
     let b = write_place(i);
-    let e = b + file_format::WRITE_LENGTH;
-    file_fields::read_write(&state[b..e])
+    let e = b + file_format::WIDE_WRITE_LENGTH;
+    file_fields::read_wide_write(&state[b..e])
 }
 
 // The addresses, the names and the epochs of the accepted writes, each in a column.
-pub fn fill_columns(addresses: &mut [u8], names: &mut [u8], epochs: &mut [u32], state: &[u8])
+pub fn fill_columns(addresses: &mut [u8], names: &mut [u16], epochs: &mut [u32], state: &[u8])
     requires { ⌜ (length (now addresses) ≡ mostHeld) × ((length (now names) ≡ mostHeld) × ((length (now epochs) ≡ mostHeld) × ((length (now state) ≡ stateSize) × (acceptedCount (now state) ≤ mostHeld)))) ⌝ }
     ensures { λ _. ⌜ InColumns (now (state .entry)) (acceptedCount (now (state .entry))) (now (addresses .exit)) (now (names .exit)) (now (epochs .exit)) ⌝ }
 {
@@ -82,8 +82,8 @@ pub fn fill_columns(addresses: &mut [u8], names: &mut [u8], epochs: &mut [u32], 
     while i < n {
         let at = write_place(i);
         addresses[i] = state[at];
-        names[i] = state[at + 1];
-        epochs[i] = file_format::word_at(state, at + 2);
+        names[i] = file_format::half_at(state, at + 1) as u16;
+        epochs[i] = file_format::word_at(state, at + 3);
         i += 1;
     }
 }

@@ -22,7 +22,7 @@ fn closes_ring(
     rows: &[u64],
     rules: Rules,
     addresses: &[u8],
-    names: &[u8],
+    names: &[u16],
     epochs: &[u32],
     n: usize,
     w: Write,
@@ -43,7 +43,7 @@ fn fault_behind(
     rows: &[u64],
     rules: Rules,
     addresses: &[u8],
-    names: &[u8],
+    names: &[u16],
     epochs: &[u32],
     n: usize,
     w: Write,
@@ -75,7 +75,7 @@ pub fn hand_fault(state: &[u8], w: Write) -> u64
     }
     let mut rows = [0u64; model::MOST_HELD];
     let mut addresses = [0u8; model::MOST_HELD];
-    let mut names = [0u8; model::MOST_HELD];
+    let mut names = [0u16; model::MOST_HELD];
     let mut epochs = [0u32; model::MOST_HELD];
     if !cache_soundness::needs_hold(
         &mut rows,

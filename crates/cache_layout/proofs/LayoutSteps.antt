@@ -1,13 +1,13 @@
 -- The steps of the layout and the flags, in the terms of the code.
 use mathlib.Core.Path.{_≡_, refl, sym, _∙_}
-use mathlib.Core.Bool.{Bool, true, false, cond, not, _&&_}
+use mathlib.Core.Bool.{Bool, true, false, cond, not}
 use mathlib.Core.List.{List}
 use Prim.Native.Nat.{ℕ, suc, _+_, _-_, _≤_, _<_}
 use native.Mathlib.Numerals.{add-one}
 use native.Mathlib.Omega.{arith}
-use lib.Dec.{eqb, leb}
+use lib.Dec.{eqb}
 use borrow.Author.Needs.{needs}
-use borrow.Author.Tests.{eq-eqb, ne-eqb, not-true, not-false}
+use borrow.Author.Tests.{eq-eqb, ne-eqb, le-leb, lt-leb, not-true, not-false}
 use Rattle.relation.specs.Bits.{withBit, maskOf}
 use Rattle.relation.specs.Lists.{allBelow}
 use Rattle.relation.proofs.ListLaws.{allBelow-not, and-intro}
@@ -85,16 +85,14 @@ pub ruleset zeroes = (needs, zero-begun, zero-stop, zero-more, zero-done)
 
 -- ---- flags_fit
 
-module _ (s : List ℕ) (i at : ℕ) (b : Bool) (p : at ≡ writeBase i + flagPlace) (e : b ≡ leb (byte s at) 1 && eqb (byte s (at + 1)) 0) where
-  flag-fits : b ≡ flagFits s i
+module _ (s : List ℕ) (i at : ℕ) (p : at ≡ writeBase i + flagPlace) where
+  pub flags-more : byte s at ≤ 1 → allBelow (flagFits s) i ≡ true → allBelow (flagFits s) (i + 1) ≡ true
   unfolding flagFits
-  flag-fits = e ∙ rw p
+  flags-more l h = all-more (flagFits s) i true h (rw (← p) (sym (le-leb (byte s at) 1 l))) refl
 
-  pub flags-more : not b ≡ false → allBelow (flagFits s) i ≡ true → allBelow (flagFits s) (i + 1) ≡ true
-  flags-more t h = all-more (flagFits s) i b h flag-fits t
-
-  pub flags-stop : (n : ℕ) → n ≡ acceptedCount s → i < n → not b ≡ true → false ≡ allBelow (flagFits s) (acceptedCount s)
-  flags-stop n c h t = all-stop (flagFits s) (acceptedCount s) i b (omega arith) flag-fits t
+  pub flags-stop : (n : ℕ) → n ≡ acceptedCount s → i < n → 1 < byte s at → false ≡ allBelow (flagFits s) (acceptedCount s)
+  unfolding flagFits
+  flags-stop n c h l = not-all (flagFits s) (acceptedCount s) i (omega arith) (rw (← p) (lt-leb (byte s at) 1 l))
 
 pub flags-done : (s : List ℕ) (n i : ℕ) → n ≡ acceptedCount s → i ≤ n → n ≤ i → allBelow (flagFits s) i ≡ true → true ≡ allBelow (flagFits s) (acceptedCount s)
 flags-done s n i c a b h = all-done (flagFits s) i (acceptedCount s) (omega arith) (omega arith) h

@@ -6,15 +6,15 @@ use lib.Dec.{eqb, leb}
 use Rattle.relation.specs.Lists.{allBelow}
 use Rattle.model.specs.Limits.{mostRules, mostHeld}
 use Rattle.file_format.specs.Bytes.{byte}
-use Rattle.cache_model.specs.State.{stateSize, writesStart, flagPlace, ruleCount, acceptedCount, ruleBase, writeBase, flagIn}
+use Rattle.cache_model.specs.State.{stateSize, writesStart, ruleCount, acceptedCount, ruleBase, writeBase, flagIn}
 
 -- the n bytes from a place on are zero
 unfoldable pub zeros : List ℕ → ℕ → ℕ → Bool
 zeros s from n = allBelow (λ k. eqb (byte s (from + k)) 0) n
 
--- the last two bytes of write i's place are a flag and zero
+-- the last byte of write i's place is a flag
 unfoldable pub flagFits : List ℕ → ℕ → Bool
-flagFits s i = leb (flagIn s i) 1 && eqb (byte s (writeBase i + flagPlace + 1)) 0
+flagFits s i = leb (flagIn s i) 1
 
 -- of 1,024 bytes: all of the layout within the limits, but that byte 2 counts the flags
 unfoldable pub framed : List ℕ → Bool

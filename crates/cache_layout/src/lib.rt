@@ -1,8 +1,6 @@
 // The layout of a state, and its flags.
 ghost use mathlib.Core.Path.{_≡_};
-ghost use mathlib.Core.Bool.{_&&_};
 ghost use Prim.Native.Nat.{_-_, _<_, _≤_};
-ghost use lib.Dec.{eqb, leb};
 ghost use lib.ListN.{length};
 ghost use Rattle.relation.specs.Bits.{maskOf};
 ghost use Rattle.relation.specs.Lists.{allBelow};
@@ -41,17 +39,7 @@ fn are_zero(state: &[u8], from: usize, end: usize) -> bool
     true
 }
 
-// Whether the last two bytes of a write's place are a flag and zero.
-fn flag_fits(flag: u8, last: u8) -> bool
-    ensures { λ r. ⌜ r ≡ leb flag 1 && eqb last 0 ⌝ }
-{
-    if 1 < flag {
-        return false;
-    }
-    last == 0
-}
-
-// The same of all accepted writes.
+// Whether the last byte of each accepted write's place is a flag.
 fn flags_fit(state: &[u8]) -> bool
     requires { ⌜ (length (now state) ≡ stateSize) × (acceptedCount (now state) ≤ mostHeld) ⌝ }
     ensures { λ r. ⌜ r ≡ allBelow (flagFits (now (state .entry))) (acceptedCount (now (state .entry))) ⌝ }
@@ -60,7 +48,7 @@ fn flags_fit(state: &[u8]) -> bool
     let mut i: usize = 0;
     while i < n {
         let at = cache_contents::flag_place(i);
-        if !flag_fits(state[at], state[at + 1]) {
+        if 1 < state[at] {
             return false;
         }
         i += 1;

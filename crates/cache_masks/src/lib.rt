@@ -8,8 +8,8 @@ ghost use Rattle.model.specs.Limits.{mostHeld};
 ghost use Rattle.cache_masks.specs.Masks.{sameMask, sameAt, Compared, standingBy, turnedRound};
 ghost use Rattle.cache_masks.specs.Ranks.{rankOf, rankAt, nextMask, belowMask, unionTo, standingIn, bounds, SmallRanks};
 
-// Which of the first n entries of a column are x.
-pub fn same(column: &[u8], x: u8, n: usize) -> u64
+// Which of the first n entries of a column of names are x.
+pub fn same(column: &[u16], x: u16, n: usize) -> u64
     requires { ⌜ (length (now column) ≡ mostHeld) × (n ≤ mostHeld) ⌝ }
     ensures { λ r. ⌜ r ≡ sameMask (now (column .entry)) x n ⌝ }
 {
@@ -22,8 +22,22 @@ pub fn same(column: &[u8], x: u8, n: usize) -> u64
     mask
 }
 
-// The same by the last entry that is x, where table has for each entry those up to it that are as it.
-pub fn last_same(table: &[u64], column: &[u8], x: u8, n: usize) -> u64
+// The same of a column of bytes, addresses.
+pub fn same_bytes(column: &[u8], x: u8, n: usize) -> u64
+    requires { ⌜ (length (now column) ≡ mostHeld) × (n ≤ mostHeld) ⌝ }
+    ensures { λ r. ⌜ r ≡ sameMask (now (column .entry)) x n ⌝ }
+{
+    let mut mask: u64 = 0;
+    let mut j: usize = 0;
+    while j < n {
+        mask = relation::with_if(mask, j, column[j] == x);
+        j += 1;
+    }
+    mask
+}
+
+// The same of names by the last entry that is x, where table has for each entry those up to it that are as it.
+pub fn last_same(table: &[u64], column: &[u16], x: u16, n: usize) -> u64
     requires { ⌜ (length (now table) ≡ mostHeld) × ((length (now column) ≡ mostHeld) × ((n ≤ mostHeld) × Filled (sameAt (now column)) n (now table))) ⌝ }
     ensures { λ r. ⌜ r ≡ sameMask (now (column .entry)) x n ⌝ }
 {
@@ -37,8 +51,8 @@ pub fn last_same(table: &[u64], column: &[u8], x: u8, n: usize) -> u64
     0
 }
 
-// For each entry of a column those up to it that are as it.
-pub fn fill_same(table: &mut [u64], column: &[u8], n: usize)
+// For each entry of a column of names those up to it that are as it.
+pub fn fill_same(table: &mut [u64], column: &[u16], n: usize)
     requires { ⌜ (length (now table) ≡ mostHeld) × ((length (now column) ≡ mostHeld) × (n ≤ mostHeld)) ⌝ }
     ensures { λ _. ⌜ (length (now (table .exit)) ≡ mostHeld) × Filled (sameAt (now (column .entry))) n (now (table .exit)) ⌝ }
 {
@@ -80,7 +94,7 @@ pub fn compare_epochs(epochs: &[u32], t: u32, n: usize) -> Epochs
 }
 
 // Of the writes whose epochs were compared with one, those to which it stands as a predicate says.
-pub fn standing(epochs: Epochs, p: u8) -> u64
+pub fn standing(epochs: Epochs, p: u16) -> u64
     ensures { λ r. ⌜ r ≡ standingBy epochs p ⌝ }
 {
     if p == 0 {
@@ -197,7 +211,7 @@ pub fn fill_belows(belows: &mut [u64], ranks: &[u8], n: usize)
 }
 
 // The writes to whose epochs one of rank r stands as a predicate says.
-pub fn standing_in(belows: &[u64], r: usize, p: u8) -> u64
+pub fn standing_in(belows: &[u64], r: usize, p: u16) -> u64
     requires { ⌜ (length (now belows) ≡ bounds) × (r < mostHeld) ⌝ }
     ensures { λ m. ⌜ m ≡ standingIn (now (belows .entry)) r p ⌝ }
 {

@@ -1,5 +1,5 @@
--- The cache's state: 1,024 bytes. Byte 0 rule count, 1 accepted count, 2 stored count, 3 zero; rules from 4, 3 bytes each, 32 places;
--- writes from 100, 12 bytes each, 64 places: tag 02's body, stored flag 0 or 1, zero. All unused bytes are zero.
+-- The cache's state: 1,024 bytes. Byte 0 rule count, 1 accepted count, 2 stored count, 3 zero; rules from 4, 5 bytes each, 32 places: tag 0A's
+-- body; writes from 164, 12 bytes each, 64 places: tag 09's body, stored flag 0 or 1 (02, [2]). All unused bytes are zero.
 use Prim.Native.Nat.{ℕ, _+_, _-_, _*_}
 use mathlib.Core.Bool.{Bool, false, cond}
 use mathlib.Core.List.{List, [], _∷_, _++_}
@@ -9,8 +9,8 @@ use lib.Seq.{sets}
 use Rattle.relation.specs.Lists.{tabulate}
 use Rattle.model.specs.declared.Write.{Write}
 use Rattle.model.specs.declared.Rule.{Rule}
-use Rattle.file_format.specs.Bytes.{byte, bytes4, blockLength, writeBytes, ruleBytes}
-use Rattle.file_format.specs.File.{ruleLength, writeLength, ruleOf, writeOf}
+use Rattle.file_format.specs.Bytes.{byte, bytes4, blockLength, wideWriteBytes, wideRuleBytes}
+use Rattle.file_format.specs.File.{wideRuleLength, wideWriteLength, wideRule, wideWrite}
 use Rattle.cache_model.specs.Entries.{Entry, entry, flagCount}
 
 abbrev pub stateSize : ℕ
@@ -21,13 +21,13 @@ abbrev pub rulesStart : ℕ
 rulesStart = 4
 
 abbrev pub writesStart : ℕ
-writesStart = 100
+writesStart = 164
 
 abbrev pub entryLength : ℕ
 entryLength = 12
 
 abbrev pub flagPlace : ℕ
-flagPlace = 10
+flagPlace = 11
 
 abbrev pub ruleCount : List ℕ → ℕ
 ruleCount s = byte s 0
@@ -40,16 +40,16 @@ storedCount s = byte s 2
 
 -- where rule i and write i, counted from 0, stand
 abbrev pub ruleBase : ℕ → ℕ
-ruleBase i = rulesStart + ruleLength * i
+ruleBase i = rulesStart + wideRuleLength * i
 
 abbrev pub writeBase : ℕ → ℕ
 writeBase i = writesStart + entryLength * i
 
 unfoldable pub ruleIn : List ℕ → ℕ → Rule
-ruleIn s i = ruleOf (take ruleLength (drop (ruleBase i) s))
+ruleIn s i = wideRule (take wideRuleLength (drop (ruleBase i) s))
 
 unfoldable pub writeIn : List ℕ → ℕ → Write
-writeIn s i = writeOf (take writeLength (drop (writeBase i) s))
+writeIn s i = wideWrite (take wideWriteLength (drop (writeBase i) s))
 
 abbrev pub flagIn : List ℕ → ℕ → ℕ
 flagIn s i = byte s (writeBase i + flagPlace)
@@ -76,11 +76,11 @@ bytesEach f [] = []
 bytesEach f (x ∷ xs) = f x ++ bytesEach f xs
 
 abbrev pub rulesBytes : List Rule → List ℕ
-rulesBytes rules = bytesEach ruleBytes rules
+rulesBytes rules = bytesEach wideRuleBytes rules
 
 -- an entry's 12 bytes
 unfoldable pub entryBytes : Entry → List ℕ
-entryBytes e = writeBytes (e .write) ++ (cond (e .flag) 1 0 ∷ 0 ∷ [])
+entryBytes e = wideWriteBytes (e .write) ++ (cond (e .flag) 1 0 ∷ [])
 
 abbrev pub entriesBytes : List Entry → List ℕ
 entriesBytes es = bytesEach entryBytes es

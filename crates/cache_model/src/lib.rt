@@ -4,8 +4,8 @@ pub const STATE_SIZE: usize = 1024;
 
 pub const RULES_START: usize = 4;
 
-pub const WRITES_START: usize = 100;
+pub const WRITES_START: usize = 164;
 
 pub const ENTRY_LENGTH: usize = 12;
 
-pub const FLAG_PLACE: usize = 10;
+pub const FLAG_PLACE: usize = 11;

@@ -54,7 +54,7 @@ fn fill_earlier(rows: &mut [u64], addresses: &[u8], n: usize)
 }
 
 // Each row of firsts gets those of seconds to whose epochs its own, by its rank, stands as a predicate says.
-fn add_to(rows: &mut [u64], firsts: u64, seconds: u64, p: u8, ranks: &[u8], belows: &[u64])
+fn add_to(rows: &mut [u64], firsts: u64, seconds: u64, p: u16, ranks: &[u8], belows: &[u64])
     requires { ⌜ (length (now rows) ≡ mostHeld) × ((length (now ranks) ≡ mostHeld) × ((length (now belows) ≡ bounds) × SmallOf firsts (now ranks))) ⌝ }
     ensures { λ _. ⌜ (length (now (rows .exit)) ≡ mostHeld) × Added (now (rows .entry)) firsts seconds p (now (ranks .entry)) (now (belows .entry)) 0 (now (rows .exit)) ⌝ }
 {
@@ -74,7 +74,7 @@ struct Run {
 }
 
 // The rules from k on that go with rule k. alike has for each write those up to it with its name.
-fn run_from(rules: Rules, k: usize, names: &[u8], n: usize, alike: &[u64]) -> Run
+fn run_from(rules: Rules, k: usize, names: &[u16], n: usize, alike: &[u64]) -> Run
     requires { ⌜ ((k < rules .count) × (rules .count ≤ mostRules)) × ((length (now alike) ≡ mostHeld) × ((length (now names) ≡ mostHeld) × ((n ≤ mostHeld) × Filled (sameAt (now names)) n (now alike)))) ⌝ }
     ensures { λ r. ⌜ (k < r .end) × ((r .end ≤ rules .count) × Joins (now (names .entry)) n rules k (r .end) (r .seconds)) ⌝ }
 {
@@ -99,7 +99,7 @@ fn run_from(rules: Rules, k: usize, names: &[u8], n: usize, alike: &[u64]) -> Ru
 fn add_rules(
     rows: &mut [u64],
     rules: Rules,
-    names: &[u8],
+    names: &[u16],
     n: usize,
     alike: &[u64],
     ranks: &[u8],
@@ -123,7 +123,7 @@ pub fn fill_needs(
     rows: &mut [u64],
     rules: Rules,
     addresses: &[u8],
-    names: &[u8],
+    names: &[u16],
     epochs: &[u32],
     n: usize,
 )
@@ -141,7 +141,7 @@ pub fn fill_needs(
 }
 
 // mask, and, if asked for, those of standing that have a name.
-fn with_named(mask: u64, on: bool, names: &[u8], name: u8, n: usize, standing: u64) -> u64
+fn with_named(mask: u64, on: bool, names: &[u16], name: u16, n: usize, standing: u64) -> u64
     requires { ⌜ (length (now names) ≡ mostHeld) × (n ≤ mostHeld) ⌝ }
     ensures { λ r. ⌜ r ≡ cond on (bitOr mask (bitAnd (sameMask (now (names .entry)) name n) standing)) mask ⌝ }
 {
@@ -155,7 +155,7 @@ fn with_named(mask: u64, on: bool, names: &[u8], name: u8, n: usize, standing: u
 pub fn needed(
     rules: Rules,
     addresses: &[u8],
-    names: &[u8],
+    names: &[u16],
     epochs: &[u32],
     n: usize,
     w: Write,
@@ -164,7 +164,7 @@ pub fn needed(
     ensures { λ r. ⌜ r ≡ neededMask (rulesOf rules) (columned (now (addresses .entry)) (now (names .entry)) (now (epochs .entry)) n) w n ⌝ }
 {
     let compared = cache_masks::compare_epochs(epochs, w.epoch, n);
-    let mut mask = cache_masks::same(addresses, w.address, n);
+    let mut mask = cache_masks::same_bytes(addresses, w.address, n);
     let mut k: usize = 0;
     while k < rules.count {
         let rule = rules.items[k];
@@ -176,7 +176,7 @@ pub fn needed(
 }
 
 // Which of the first n writes depend on w.
-pub fn dependents(rules: Rules, names: &[u8], epochs: &[u32], n: usize, w: Write) -> u64
+pub fn dependents(rules: Rules, names: &[u16], epochs: &[u32], n: usize, w: Write) -> u64
     requires { ⌜ ((length (now names) ≡ mostHeld) × (length (now epochs) ≡ mostHeld)) × ((rules .count ≤ mostRules) × (n ≤ mostHeld)) ⌝ }
     ensures { λ r. ⌜ r ≡ dependentMask (rulesOf rules) (columned [] (now (names .entry)) (now (epochs .entry)) n) w n ⌝ }
 {

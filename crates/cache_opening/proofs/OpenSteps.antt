@@ -11,20 +11,21 @@ use borrow.Author.Needs.{needs}
 use borrow.Author.Tests.{eq-eqb, ne-eqb, lt-ltb, le-ltb}
 use Rattle.model.specs.declared.Rule.{Rule}
 use Rattle.model.specs.declared.Refusal.{Refusal}
+use Rattle.model.specs.Rules.{Known}
 use Rattle.model.specs.Limits.{words, mostRules}
 use Rattle.model.specs.Answer.{answer, refused, refusal, coded}
 use Rattle.model.specs.Cyclic.{cyclic}
 use Rattle.file_format.specs.declared.Extent.{Extent}
 use Rattle.file_format.specs.declared.Scan.{Scan}
 use Rattle.file_format.specs.declared.Scan.the-variants.{Accepted, Refused}
-use Rattle.file_format.specs.Bytes.{ruleBytes}
-use Rattle.file_format.specs.File.{isRule, ruleLength}
+use Rattle.file_format.specs.Bytes.{bytes2, wideRuleBytes}
+use Rattle.file_format.specs.File.{isRule, wideRuleLength}
 use Rattle.file_format.specs.Scan.{rulesAt, scanOf}
 use Rattle.file_format.specs.Held.{Fields, ScansTo}
-use Rattle.file_reader.proofs.CallerLaws.{refused-read, refused-most, accepted-rules, accepted-fields, accepted-read, accepted-at, accepted-placed}
+use Rattle.file_reader.proofs.CallerLaws.{refused-read, refused-most, accepted-rules, accepted-fields, accepted-read, accepted-at, accepted-placed, accepted-file, holding-limits}
 use Rattle.rule_match.specs.declared.Rules.{Rules}
 use Rattle.rule_match.specs.Held.{rulesOf}
-use Rattle.rule_match.proofs.MatchSteps.{length-mapped}
+use Rattle.rule_match.proofs.MatchSteps.{length-mapped, known-at}
 use Rattle.rule_match.specs.Held.{itemAt}
 use Rattle.cache_model.specs.State.{stateSize, ruleBase, bytesEach, rulesBytes, opened}
 use Rattle.cache_statelaws.proofs.EachLaws.{each-append}
@@ -54,12 +55,13 @@ pub ruleset clearing = (needs, clear-begun, clear-more, clear-done)
 
 -- ---- put_rule, put_rules
 
-pub rule-put : (l : List ℕ) (at : ℕ) (r : Rule) → set (set (set l at (r .first)) (at + 1) (r .predicate)) (at + 2) (r .second) ≡ sets l at (ruleBytes r)
-unfolding ruleBytes
-rule-put l at r =
-    let one : at + 1 ≡ suc at = omega arith in
+pub rule-put : (l l₁ l₂ l₃ : List ℕ) (at : ℕ) (r : Rule) → l₁ ≡ sets l at (bytes2 (r .first)) → l₂ ≡ sets l₁ (at + 2) (r .predicate ∷ [])
+    → l₃ ≡ sets l₂ (at + 3) (bytes2 (r .second)) → l₃ ≡ sets l at (wideRuleBytes r)
+unfolding wideRuleBytes
+rule-put l l₁ l₂ l₃ at r a b c =
     let two : at + 2 ≡ suc (suc at) = omega arith in
-    rw (one, two)
+    let three : at + 3 ≡ suc (suc (suc at)) = omega arith in
+    c ∙ rw (b, a, two, three)
 
 -- a state with a count and the rules so far
 abbrev pub written : ℕ → List Rule → List ℕ
@@ -69,15 +71,15 @@ pub rules-begun : (s : List ℕ) (rules : Rules) → s ≡ replicate stateSize 0
 unfolding bytesEach
 rules-begun s rules e = rw e
 
-pub rules-more : (rules : Rules) (s s′ : List ℕ) (i at : ℕ) → s′ ≡ sets s at (ruleBytes (itemAt rules i)) → at ≡ ruleBase i
+pub rules-more : (rules : Rules) (s s′ : List ℕ) (i at : ℕ) → s′ ≡ sets s at (wideRuleBytes (itemAt rules i)) → at ≡ ruleBase i
     → s ≡ written (rules .count) (take i (rules .items)) → length (rules .items) ≡ mostRules → rules .count ≤ mostRules → i < rules .count
     → s′ ≡ written (rules .count) (take (i + 1) (rules .items))
 rules-more rules s s′ i at q p e size few h =
     let inside : i < length (rules .items) = omega arith in
-    let n : length (rulesBytes (take i (rules .items))) ≡ ruleLength * i = length-rules (take i (rules .items)) ∙ ap (λ (k : ℕ). ruleLength * k) (length-take-le i (rules .items) (omega arith)) in
+    let n : length (rulesBytes (take i (rules .items))) ≡ wideRuleLength * i = length-rules (take i (rules .items)) ∙ ap (λ (k : ℕ). wideRuleLength * k) (length-take-le i (rules .items) (omega arith)) in
     let place : 0 + suc (suc (suc (suc (length (rulesBytes (take i (rules .items))))))) ≡ at = omega arith in
-    q ∙ rw (add-one i, take-suc (rules .items) i (record { first = 0; predicate = 0; second = 0 }) inside, each-append ruleBytes ruleLength rule-size (take i (rules .items)) (itemAt rules i), e, ← place)
-    (sym (sets-append (replicate stateSize 0) 0 (rules .count ∷ 0 ∷ 0 ∷ 0 ∷ rulesBytes (take i (rules .items))) (ruleBytes (itemAt rules i))))
+    q ∙ rw (add-one i, take-suc (rules .items) i (record { first = 0; predicate = 0; second = 0 }) inside, each-append wideRuleBytes wideRuleLength rule-size (take i (rules .items)) (itemAt rules i), e, ← place)
+    (sym (sets-append (replicate stateSize 0) 0 (rules .count ∷ 0 ∷ 0 ∷ 0 ∷ rulesBytes (take i (rules .items))) (wideRuleBytes (itemAt rules i))))
 
 pub rules-done : (rules : Rules) (s : List ℕ) (i : ℕ) → length (rules .items) ≡ mostRules → rules .count ≤ mostRules → i ≤ rules .count → rules .count ≤ i
     → s ≡ written (rules .count) (take i (rules .items)) → s ≡ opened (rulesOf rules)
@@ -89,7 +91,7 @@ rules-done rules s i size few a b e =
 pub cleared-size : (s : List ℕ) → s ≡ replicate stateSize 0 → length s ≡ stateSize
 cleared-size s e = ap length e ∙ length-replicate {A = ℕ} stateSize 0
 
-pub ruleset putting = (needs, length-mapped, inside, rule-put, rules-begun, rules-more, rules-done, cleared-size)
+pub ruleset putting = (needs, length-mapped, known-at, inside, rule-put, rules-begun, rules-more, rules-done, cleared-size)
 
 -- ---- open_with
 
@@ -146,7 +148,10 @@ module _ (file : List ℕ) (x : Scan) (ts : List Extent) (g : ScansTo (scanOf fi
     pub rules-fields : Fields isRule file 0 rules
     rules-fields = accepted-fields file x ts g rules tests e
 
+    pub held-known : (held : Rules) → rulesOf held ≡ rulesAt file rules → Known (rulesOf held)
+    held-known held i = rw (i, ← accepted-at file x ts g rules tests e) (holding-limits file (accepted-file file x ts g rules tests e) (accepted-read file x ts g rules tests e) .0 .known)
+
     pub held-few : (held : Rules) → held .count ≡ rules → held .count ≤ mostRules
     held-few held k = let m = rules-few in omega arith
 
-pub ruleset opening = (needs, open-short, open-refused, open-tests, open-made, refusal-fits, rules-few, rules-fields, held-few)
+pub ruleset opening = (needs, open-short, open-refused, open-tests, open-made, refusal-fits, rules-few, rules-fields, held-known, held-few)

@@ -15,9 +15,9 @@ use Rattle.model.specs.Rules.{stands, matches, dependsOn, known}
 use Rattle.model.specs.Cyclic.{noRule, leads, has, equalLeads, meets, cyclic}
 use Rattle.model.specs.Schedule.{noWrite}
 use Rattle.model.specs.Test.{countBelow}
-use Rattle.file_format.specs.Bytes.{half, word, diskLength, writeBytes, ruleBytes}
+use Rattle.file_format.specs.Bytes.{half, word, diskLength, wideWriteBytes, wideRuleBytes}
 use Rattle.file_format.specs.Encode.{WriteFits}
-use Rattle.file_format.specs.File.{ruleOf, writeOf}
+use Rattle.file_format.specs.File.{wideRule, wideWrite}
 use Rattle.model.specs.Needs.{needs, needsRing, met}
 use Rattle.cache_model.specs.Entries.{flagAt, flagCount}
 use Rattle.cache_model.specs.State.{ruleIn, writeIn, rulesIn, writesIn, storedIn, entriesIn, bytesEach, entryBytes, front, back, stateOf, opened, handed, marked}
@@ -34,11 +34,11 @@ abbrev block : ℕ → Write
 block a = record { address = a; name = 1; epoch = a; block = a }
 
 unfoldable pub state : List ℕ
-unfolding opened bytesEach ruleBytes handed entryBytes writeBytes marked
+unfolding opened bytesEach wideRuleBytes handed entryBytes wideWriteBytes marked
 state = marked (handed (handed (opened rules) (block 1)) (block 2)) 1
 
 computed : sound state ≡ true
-unfolding state sound ruled needsHold layout same stateOf front back bytesEach entryBytes writeBytes ruleBytes entriesIn flagCount flagAt known cyclic meets equalLeads has leads noRule hasRing loops closed round joined rowsOf related countBelow met needs needsRing rulesIn writesIn storedIn ruleIn writeIn ruleOf writeOf half word noWrite dependsOn matches stands bit withBit maskOf allBelow anyBelow any all tabulate
+unfolding state sound ruled needsHold layout same stateOf front back bytesEach entryBytes wideWriteBytes wideRuleBytes entriesIn flagCount flagAt known cyclic meets equalLeads has leads noRule hasRing loops closed round joined rowsOf related countBelow met needs needsRing rulesIn writesIn storedIn ruleIn writeIn wideRule wideWrite half word noWrite dependsOn matches stands bit withBit maskOf allBelow anyBelow any all tabulate
 computed = refl
 
 pub sound-state : Sound state

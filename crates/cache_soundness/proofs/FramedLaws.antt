@@ -45,7 +45,7 @@ module _ (s : List ℕ) where
       (eq-eqb _ _ (c .third)))
       (true-zeros (ruleBase (ruleCount s)) writesStart (c .rules-rest)))
       (true-zeros (writeBase (acceptedCount s)) stateSize (c .writes-rest)))
-      (allBelow-intro _ (acceptedCount s) (λ i l. and-intro _ _ (le-leb _ _ (c .flags i l .0)) (eq-eqb _ _ (c .flags i l .1)))))
+      (allBelow-intro _ (acceptedCount s) (λ i l. le-leb _ _ (c .flags i l))))
       (eq-eqb _ _ (c .counted))
 
   module _ (size : length s ≡ stateSize) (small : (i : ℕ) → byte s i < 256) where
@@ -66,9 +66,7 @@ module _ (s : List ℕ) where
           third = eqb-true _ _ (third-part .1);
           rules-rest = zeros-true (ruleBase (ruleCount s)) writesStart (gap-part .1);
           writes-rest = zeros-true (writeBase (acceptedCount s)) stateSize (tail-part .1);
-          flags = λ i h.
-              let f = both _ _ (allBelow-true _ (acceptedCount s) (flags-part .1) i h) in
-              (leb-true _ _ (f .0), eqb-true _ _ (f .1));
+          flags = λ i h. leb-true _ _ (allBelow-true _ (acceptedCount s) (flags-part .1) i h);
           counted = eqb-true _ _ (count-part .1);
         } in
         and-intro _ _ (third-part .0) (true-same s _ (clauses-equation s few most (λ i h. small i) clauses))

@@ -114,7 +114,7 @@ pub fn decode(state: &[u8]) -> Examined
 pub fn needs_hold(
     rows: &mut [u64],
     addresses: &mut [u8],
-    names: &mut [u8],
+    names: &mut [u16],
     epochs: &mut [u32],
     state: &[u8],
     seen: Examined,

@@ -16,17 +16,17 @@ use Rattle.model.specs.declared.Rule.{Rule}
 use Rattle.model.specs.Schedule.{noWrite}
 use Rattle.model.specs.Test.{countBelow}
 use Rattle.model.proofs.CountLaws.{count-ext}
-use Rattle.file_format.specs.Bytes.{byte, Small, writeBytes, ruleBytes}
-use Rattle.file_format.specs.File.{ruleLength, writeLength, writeOf}
+use Rattle.file_format.specs.Bytes.{byte, Small, wideWriteBytes, wideRuleBytes}
+use Rattle.file_format.specs.File.{wideRuleLength, wideWriteLength, wideWrite}
 use Rattle.file_format.specs.Encode.{WriteFits}
-use Rattle.file_encoding.proofs.PartLaws.{write-forth, rule-forth}
+use Rattle.file_encoding.proofs.PartLaws.{wide-write-forth, wide-rule-forth}
 use Rattle.cache_model.specs.Entries.{Entry, entry, accepted, flagAt, flagCount}
 use Rattle.cache_model.specs.State.{stateSize, rulesStart, writesStart, entryLength, flagPlace, ruleBase, writeBase, ruleIn, writeIn, rulesIn, storedIn, entriesIn, flagIn, ruleCount, acceptedCount, storedCount, rulesBytes, entryBytes, entriesBytes, unused, front, back, stateOf}
 use Rattle.cache_statelaws.specs.Theorem.{Clauses, Layouts, ReadsBack, EntriesRead, StatesWritten}
 use Rattle.cache_statelaws.proofs.GeneralLaws.{part-is, rest-zero, getD-zeros, getD-beyond}
 use Rattle.cache_statelaws.proofs.EachLaws.{each-read}
 use Rattle.cache_statelaws.proofs.EntryLaws.{length-accepted, accepted-at}
-use Rattle.cache_statelaws.proofs.LayoutLaws.{Worded, rule-size, entry-size, length-state, length-rulesIn, length-entriesIn, flag-in, flag-byte, last-byte, rules-rest, writes-rest, third, accepted-in, state-rules, state-entries, opened-state, handed-state, marked-state}
+use Rattle.cache_statelaws.proofs.LayoutLaws.{Worded, rule-size, entry-size, length-state, length-rulesIn, length-entriesIn, flag-in, flag-byte, rules-rest, writes-rest, third, accepted-in, state-rules, state-entries, opened-state, handed-state, marked-state}
 
 -- the flags that a state's bytes count
 pub count-in : (s : List ℕ) → flagCount (entriesIn s) ≡ countBelow (storedIn s) (acceptedCount s)
@@ -62,10 +62,7 @@ module _ (s : List ℕ) (few : ruleCount s ≤ mostRules) (most : acceptedCount 
           third = at 3 ∙ third R E few-in;
           rules-rest = λ k h l. at k ∙ rules-rest R E few-in k (rw nr h) l;
           writes-rest = λ k h l. at k ∙ writes-rest R E few-in k (rw ne h);
-          flags = λ i h. (
-            rw (at (writeBase i + flagPlace) ∙ flag-byte R E few-in i (rw ne h)) (flag-small (flagAt E i)),
-            at (writeBase i + flagPlace + 1) ∙ last-byte R E few-in i (rw ne h),
-          );
+          flags = λ i h. rw (at (writeBase i + flagPlace) ∙ flag-byte R E few-in i (rw ne h)) (flag-small (flagAt E i));
           counted = at 2 ∙ (unfold stateOf front in count-in s);
         }
 
@@ -84,11 +81,18 @@ module _ (s : List ℕ) (few : ruleCount s ≤ mostRules) (most : acceptedCount 
     zero-part : (k n : ℕ) → k + n ≤ stateSize → ((i : ℕ) → k ≤ i → i < k + n → byte s i ≡ 0) → take n (drop k s) ≡ unused n
     zero-part k n h z = part-is 0 s (unused n) k n (length-replicate {A = ℕ} n 0) (rw size h) (λ i l. z (k + i) (omega arith) (omega arith) ∙ sym (getD-zeros n i))
 
-    rules-part : rulesBytes R ≡ take (ruleLength * ruleCount s) (drop rulesStart s)
+    -- a part's bytes are small too
+    part-bounded : (k n : ℕ) → k + n ≤ stateSize → (j : ℕ) → byte (take n (drop k s)) j < 256
+    part-bounded k n h j = elim (decLt j n) [
+      | yes l ↦ rw (getD-take n (drop k s) j 0 l, getD-drop k s j 0) (bounded (k + j))
+      | no l ↦ rw (getD-beyond (take n (drop k s)) j (rw (part-length k n h) (omega (arith, l)))) (omega arith)
+    ]
+
+    rules-part : rulesBytes R ≡ take (wideRuleLength * ruleCount s) (drop rulesStart s)
     unfolding rulesIn ruleIn
     rules-part =
-        each-read ruleBytes ruleLength rule-size (ruleIn s) s rulesStart (ruleCount s)
-        (λ i h. rule-forth (take ruleLength (drop (ruleBase i) s)) (part-length (ruleBase i) ruleLength (omega arith)))
+        each-read wideRuleBytes wideRuleLength rule-size (ruleIn s) s rulesStart (ruleCount s)
+        (λ i h. wide-rule-forth (take wideRuleLength (drop (ruleBase i) s)) (part-bounded (ruleBase i) wideRuleLength (omega arith)) (part-length (ruleBase i) wideRuleLength (omega arith)))
 
     flag-is : (n : ℕ) → n ≤ 1 → cond (eqb n 1) 1 0 ≡ n
     flag-is zero h = refl
@@ -98,23 +102,16 @@ module _ (s : List ℕ) (few : ruleCount s ≤ mostRules) (most : acceptedCount 
     entry-part : (i : ℕ) → i < acceptedCount s → entryBytes (entry (writeIn s i) (storedIn s i)) ≡ take entryLength (drop (writeBase i) s)
     unfolding entryBytes writeIn storedIn
     entry-part i h =
-        let b = take writeLength (drop (writeBase i) s) in
-        let f = c .flags i h in
-        let body : writeBytes (writeOf b) ≡ b = write-forth b (λ j. part-bounded j) (part-length (writeBase i) writeLength (omega arith)) in
-        let tail : take 2 (drop (writeBase i + flagPlace) s) ≡ flagIn s i ∷ 0 ∷ [] =
-        part-is 0 s (flagIn s i ∷ 0 ∷ []) (writeBase i + flagPlace) 2 refl (rw size (omega arith)) (λ j l. two j l (f .1)) in
-        rw (body, flag-is (flagIn s i) (f .0), ← tail, ← drop-drop flagPlace (writeBase i) s) (sym (take-add writeLength 2 (drop (writeBase i) s)))
+        let b = take wideWriteLength (drop (writeBase i) s) in
+        let body : wideWriteBytes (wideWrite b) ≡ b =
+        wide-write-forth b (part-bounded (writeBase i) wideWriteLength (omega arith)) (part-length (writeBase i) wideWriteLength (omega arith)) in
+        let tail : take 1 (drop (writeBase i + flagPlace) s) ≡ flagIn s i ∷ [] =
+        part-is 0 s (flagIn s i ∷ []) (writeBase i + flagPlace) 1 refl (rw size (omega arith)) (λ j l. one j l) in
+        rw (body, flag-is (flagIn s i) (c .flags i h), ← tail, ← drop-drop flagPlace (writeBase i) s) (sym (take-add wideWriteLength 1 (drop (writeBase i) s)))
       where
-        part-bounded : (j : ℕ) → byte (take writeLength (drop (writeBase i) s)) j < 256
-        part-bounded j = elim (decLt j writeLength) [
-          | yes l ↦ rw (getD-take writeLength (drop (writeBase i) s) j 0 l, getD-drop (writeBase i) s j 0) (bounded (writeBase i + j))
-          | no l ↦ rw (getD-beyond (take writeLength (drop (writeBase i) s)) j (rw (part-length (writeBase i) writeLength (omega arith)) (omega (arith, l)))) (omega arith)
-        ]
-
-        two : (j : ℕ) → j < 2 → byte s (writeBase i + flagPlace + 1) ≡ 0 → byte s (writeBase i + flagPlace + j) ≡ getD (flagIn s i ∷ 0 ∷ []) j 0
-        two zero l z = let y : writeBase i + flagPlace + 0 ≡ writeBase i + flagPlace = omega arith in rw y
-        two (suc zero) l z = z
-        two (suc (suc j)) l z = absurd (omega arith)
+        one : (j : ℕ) → j < 1 → byte s (writeBase i + flagPlace + j) ≡ getD (flagIn s i ∷ []) j 0
+        one zero l = let y : writeBase i + flagPlace + 0 ≡ writeBase i + flagPlace = omega arith in rw y
+        one (suc j) l = absurd (omega arith)
 
     entries-part : entriesBytes E ≡ take (entryLength * acceptedCount s) (drop writesStart s)
     unfolding entriesIn
@@ -125,13 +122,13 @@ module _ (s : List ℕ) (few : ruleCount s ≤ mostRules) (most : acceptedCount 
     front-part =
         let n = ruleCount s in
         let gap = writesStart - ruleBase n in
-        let z : writesStart ≡ rulesStart + (ruleLength * n + gap) = omega arith in
+        let z : writesStart ≡ rulesStart + (wideRuleLength * n + gap) = omega arith in
         let counts : take rulesStart s ≡ ruleCount s ∷ acceptedCount s ∷ storedCount s ∷ 0 ∷ [] = part-is 0 s (ruleCount s ∷ acceptedCount s ∷ storedCount s ∷ 0 ∷ []) 0 4 refl (rw size (omega arith)) (λ i l. four i l) in
-        let rest : take (ruleLength * n + gap) (drop rulesStart s) ≡ rulesBytes R ++ unused gap =
-        take-add (ruleLength * n) gap (drop rulesStart s)
-        ∙ rw (drop-drop (ruleLength * n) rulesStart s, ← rules-part, zero-part (ruleBase n) gap (omega arith) (λ i a b. c .rules-rest i a (omega arith))) in
+        let rest : take (wideRuleLength * n + gap) (drop rulesStart s) ≡ rulesBytes R ++ unused gap =
+        take-add (wideRuleLength * n) gap (drop rulesStart s)
+        ∙ rw (drop-drop (wideRuleLength * n) rulesStart s, ← rules-part, zero-part (ruleBase n) gap (omega arith) (λ i a b. c .rules-rest i a (omega arith))) in
         rw (length-rulesIn s, length-entriesIn s, count-in s, ← c .counted)
-        (sym (ap (λ (k : ℕ). take k s) z ∙ take-add rulesStart (ruleLength * n + gap) s ∙ rw (counts, rest)))
+        (sym (ap (λ (k : ℕ). take k s) z ∙ take-add rulesStart (wideRuleLength * n + gap) s ∙ rw (counts, rest)))
       where
         four : (i : ℕ) → i < 4 → byte s (0 + i) ≡ getD (ruleCount s ∷ acceptedCount s ∷ storedCount s ∷ 0 ∷ []) i 0
         four zero l = refl

@@ -18,9 +18,9 @@ use Rattle.model.specs.declared.Rule.{Rule}
 use Rattle.model.specs.Cyclic.{noRule}
 use Rattle.model.specs.Schedule.{noWrite, writeAt}
 use Rattle.model.specs.Test.{countBelow}
-use Rattle.file_format.specs.Bytes.{byte, writeBytes, ruleBytes}
-use Rattle.file_format.specs.File.{ruleLength, writeLength, writeOf}
-use Rattle.file_encoding.proofs.PartLaws.{words-back, rule-back}
+use Rattle.file_format.specs.Bytes.{byte, wideWriteBytes, wideRuleBytes}
+use Rattle.file_format.specs.File.{wideRuleLength, wideWriteLength, wideWrite}
+use Rattle.file_encoding.proofs.PartLaws.{wide-words-back, wide-rule-back}
 use Rattle.cache_model.specs.Entries.{Entry, entry, accepted, flagAt, flagCount, appended, flagging}
 use Rattle.cache_model.specs.State.{stateSize, rulesStart, writesStart, entryLength, flagPlace, ruleBase, writeBase, ruleIn, writeIn, rulesIn, writesIn, storedIn, entriesIn, flagIn, ruleCount, acceptedCount, storedCount, bytesEach, rulesBytes, entryBytes, entriesBytes, unused, front, back, stateOf, opened, handed, marked}
 use Rattle.cache_statelaws.proofs.GeneralLaws.{tabulate-getD, set-behind, sets-behind, sets-zeros, getD-zeros}
@@ -29,16 +29,16 @@ use Rattle.cache_statelaws.proofs.EntryLaws.{flag-beyond, length-append
 
 -- ---- lengths
 
-pub rule-size : (r : Rule) → length (ruleBytes r) ≡ ruleLength
-unfolding ruleBytes
+pub rule-size : (r : Rule) → length (wideRuleBytes r) ≡ wideRuleLength
+unfolding wideRuleBytes
 rule-size r = refl
 
 pub entry-size : (e : Entry) → length (entryBytes e) ≡ entryLength
-unfolding entryBytes writeBytes
+unfolding entryBytes wideWriteBytes
 entry-size e = refl
 
-pub length-rules : (rules : List Rule) → length (rulesBytes rules) ≡ ruleLength * length rules
-length-rules = length-each ruleBytes ruleLength rule-size
+pub length-rules : (rules : List Rule) → length (rulesBytes rules) ≡ wideRuleLength * length rules
+length-rules = length-each wideRuleBytes wideRuleLength rule-size
 
 pub length-entries : (b : List Entry) → length (entriesBytes b) ≡ entryLength * length b
 length-entries = length-each entryBytes entryLength entry-size
@@ -142,25 +142,25 @@ module _ (rules : List Rule) (b : List Entry) (hr : length rules ≤ mostRules) 
   rule-at : (i : ℕ) → i < length rules → ruleIn (stateOf rules b) i ≡ getD rules i noRule
   unfolding ruleIn stateOf front
   rule-at i h =
-      let z : rulesStart + ruleLength * i ≡ suc (suc (suc (suc (ruleLength * i)))) = omega arith in
+      let z : rulesStart + wideRuleLength * i ≡ suc (suc (suc (suc (wideRuleLength * i)))) = omega arith in
       let rest = unused (writesStart - ruleBase (length rules)) in
-      rw (z, append-assoc (rulesBytes rules) rest (back b), part-there ruleBytes ruleLength rule-size noRule rules (rest ++ back b) i h) (rule-back (getD rules i noRule))
+      rw (z, append-assoc (rulesBytes rules) rest (back b), part-there wideRuleBytes wideRuleLength rule-size noRule rules (rest ++ back b) i h) (wide-rule-back (getD rules i noRule))
 
   pub state-rules : rulesIn (stateOf rules b) ≡ rules
   unfolding rulesIn
   state-rules = rw state-counted (tabulate-ext (ruleIn (stateOf rules b)) (λ i. getD rules i noRule) (length rules) rule-at ∙ tabulate-getD noRule rules)
 
   -- the bytes of entry i
-  pub body-at : (i : ℕ) → i < length b → take writeLength (drop (writeBase i) (stateOf rules b)) ≡ writeBytes (getD b i (entry noWrite false) .write)
+  pub body-at : (i : ℕ) → i < length b → take wideWriteLength (drop (writeBase i) (stateOf rules b)) ≡ wideWriteBytes (getD b i (entry noWrite false) .write)
   body-at i h =
-      ap (take writeLength) (behind (entryLength * i))
-      ∙ ten (drop (entryLength * i) (back b)) (unfold back in part-there entryBytes entryLength entry-size (entry noWrite false) b (unused (stateSize - writeBase (length b))) i h)
+      ap (take wideWriteLength) (behind (entryLength * i))
+      ∙ body (drop (entryLength * i) (back b)) (unfold back in part-there entryBytes entryLength entry-size (entry noWrite false) b (unused (stateSize - writeBase (length b))) i h)
     where
-      ten : (l : List ℕ) → take entryLength l ≡ entryBytes (getD b i (entry noWrite false)) → take writeLength l ≡ writeBytes (getD b i (entry noWrite false) .write)
-      ten l e = sym (shorter l) ∙ ap (take writeLength) e ∙ (unfold entryBytes writeBytes in refl)
+      body : (l : List ℕ) → take entryLength l ≡ entryBytes (getD b i (entry noWrite false)) → take wideWriteLength l ≡ wideWriteBytes (getD b i (entry noWrite false) .write)
+      body l e = sym (shorter l) ∙ ap (take wideWriteLength) e ∙ (unfold entryBytes wideWriteBytes in refl)
         where
-          shorter : (l : List ℕ) → take writeLength (take entryLength l) ≡ take writeLength l
-          shorter l = take-take writeLength entryLength l (omega arith)
+          shorter : (l : List ℕ) → take wideWriteLength (take entryLength l) ≡ take wideWriteLength l
+          shorter l = take-take wideWriteLength entryLength l (omega arith)
 
   byte-at : (i j : ℕ) → i < length b → j < entryLength → byte (stateOf rules b) (writeBase i + j) ≡ byte (entryBytes (getD b i (entry noWrite false))) j
   byte-at i j h l =
@@ -169,10 +169,7 @@ module _ (rules : List Rule) (b : List Entry) (hr : length rules ≤ mostRules) 
 
   pub flag-byte : (i : ℕ) → i < length b → flagIn (stateOf rules b) i ≡ cond (flagAt b i) 1 0
   unfolding flagAt
-  flag-byte i h = byte-at i flagPlace h (omega arith) ∙ (unfold entryBytes writeBytes in refl)
-
-  pub last-byte : (i : ℕ) → i < length b → byte (stateOf rules b) (writeBase i + flagPlace + 1) ≡ 0
-  last-byte i h = let z : writeBase i + flagPlace + 1 ≡ writeBase i + 11 = omega arith in rw z (byte-at i 11 h (omega arith) ∙ (unfold entryBytes writeBytes in refl))
+  flag-byte i h = byte-at i flagPlace h (omega arith) ∙ (unfold entryBytes wideWriteBytes in refl)
 
   flag-read : (f : Bool) → eqb (cond f 1 0) 1 ≡ f
   flag-read true = refl
@@ -215,7 +212,7 @@ module _ (rules : List Rule) (b : List Entry) (hr : length rules ≤ mostRules) 
   module _ (f : Worded b) where
     write-there : (i : ℕ) → i < length b → writeIn (stateOf rules b) i ≡ getD b i (entry noWrite false) .write
     unfolding writeIn
-    write-there i h = ap writeOf (body-at i h) ∙ words-back (getD b i (entry noWrite false) .write) (f i h .0) (f i h .1)
+    write-there i h = ap wideWrite (body-at i h) ∙ wide-words-back (getD b i (entry noWrite false) .write) (f i h .0) (f i h .1)
 
     pub state-entries : entriesIn (stateOf rules b) ≡ b
     unfolding entriesIn
@@ -233,16 +230,16 @@ module _ (rules : List Rule) (b : List Entry) (hr : length rules ≤ mostRules) 
 pub opened-state : (rules : List Rule) → length rules ≤ mostRules → opened rules ≡ stateOf rules []
 unfolding opened stateOf front back bytesEach flagCount countBelow
 opened-state rules h =
-    sets-zeros stateSize (length rules ∷ 0 ∷ 0 ∷ 0 ∷ bytesEach ruleBytes rules) size ∙ rest
+    sets-zeros stateSize (length rules ∷ 0 ∷ 0 ∷ 0 ∷ bytesEach wideRuleBytes rules) size ∙ rest
   where
-    size : length (length rules ∷ 0 ∷ 0 ∷ 0 ∷ bytesEach ruleBytes rules) ≤ stateSize
+    size : length (length rules ∷ 0 ∷ 0 ∷ 0 ∷ bytesEach wideRuleBytes rules) ≤ stateSize
     size = let n = length-rules rules in omega arith
 
-    rest : (length rules ∷ 0 ∷ 0 ∷ 0 ∷ bytesEach ruleBytes rules) ++ unused (stateSize - length (length rules ∷ 0 ∷ 0 ∷ 0 ∷ bytesEach ruleBytes rules)) ≡ stateOf rules []
+    rest : (length rules ∷ 0 ∷ 0 ∷ 0 ∷ bytesEach wideRuleBytes rules) ++ unused (stateSize - length (length rules ∷ 0 ∷ 0 ∷ 0 ∷ bytesEach wideRuleBytes rules)) ≡ stateOf rules []
     rest =
         let n = length-rules rules in
-        let e : stateSize - length (length rules ∷ 0 ∷ 0 ∷ 0 ∷ bytesEach ruleBytes rules) ≡ writesStart - ruleBase (length rules) + (stateSize - writesStart) = omega arith in
-        rw (e, ← replicate-append-replicate {A = ℕ} (writesStart - ruleBase (length rules)) (stateSize - writesStart) 0, append-assoc (bytesEach ruleBytes rules) (unused (writesStart - ruleBase (length rules))) (unused (stateSize - writesStart)))
+        let e : stateSize - length (length rules ∷ 0 ∷ 0 ∷ 0 ∷ bytesEach wideRuleBytes rules) ≡ writesStart - ruleBase (length rules) + (stateSize - writesStart) = omega arith in
+        rw (e, ← replicate-append-replicate {A = ℕ} (writesStart - ruleBase (length rules)) (stateSize - writesStart) 0, append-assoc (bytesEach wideRuleBytes rules) (unused (writesStart - ruleBase (length rules))) (unused (stateSize - writesStart)))
 
 entries-appended : (b : List Entry) (w : Write) → entriesBytes (appended b w) ≡ entriesBytes b ++ entryBytes (entry w false)
 unfolding appended
@@ -285,7 +282,7 @@ unfolding handed
 handed-state rules b w hr hb = rw (state-accepted rules b hr, entry-there rules b w hr hb) (header-appended rules b w)
 
 flagged-bytes : (w : Write) (f : Bool) → entryBytes (entry w true) ≡ set (entryBytes (entry w f)) flagPlace 1
-unfolding entryBytes writeBytes
+unfolding entryBytes wideWriteBytes
 flagged-bytes w f = refl
 
 entries-flagging : (b : List Entry) (rest : List ℕ) (i : ℕ) → i < length b

@@ -23,8 +23,8 @@ use Rattle.model.proofs.RuleLaws.{known-true, true-known}
 use Rattle.model.proofs.NeedsLaws.{needs-true, true-needs, needsRing-true, true-needsRing}
 use Rattle.model.proofs.ReadyLaws.{needs-left, needs-right}
 use Rattle.rule_cyclelaws.proofs.CyclicLaws.{cyclic-true, true-cyclic}
-use Rattle.file_format.specs.Bytes.{half, word, writeBytes}
-use Rattle.file_format.specs.File.{writeLength, writeOf}
+use Rattle.file_format.specs.Bytes.{half, word, wideWriteBytes}
+use Rattle.file_format.specs.File.{wideWriteLength, wideWrite}
 use Rattle.cache_model.specs.Entries.{Entry, entry, accepted, flagAt, Holdable}
 use Rattle.cache_model.specs.State.{stateSize, ruleCount, acceptedCount, storedCount, writeBase, rulesIn, writesIn, writeIn, storedIn, entriesIn, stateOf}
 use Rattle.cache_model.specs.Sound.{Sound, same, layout, ruled, needsHold, sound}
@@ -54,8 +54,8 @@ true-same x y e = subst (λ (l : List ℕ). same x l ≡ true) e (same-refl x)
 digits : (n : ℕ) → (n / 16777216 % 256 * 256 + n / 65536 % 256) * 65536 + (n / 256 % 256 * 256 + n % 256) < words
 digits n = omega arith
 
-narrow : (w : Write) → (writeOf (writeBytes w) .epoch < words) × (writeOf (writeBytes w) .block < words)
-unfolding writeOf writeBytes word half
+narrow : (w : Write) → (wideWrite (wideWriteBytes w) .epoch < words) × (wideWrite (wideWriteBytes w) .block < words)
+unfolding wideWrite wideWriteBytes word half
 narrow w = (digits (w .epoch), digits (w .block))
 
 -- ---- what any state holds, by its bytes and by its entries
@@ -157,9 +157,9 @@ module _ (s : List ℕ) where
     sound-flags i = ap (λ (l : List ℕ). storedIn l i) (h .layout) ∙ state-flags (rulesIn s) (entriesIn s) (h .holds .rules-most) i
 
     -- a write is what the bytes of its entry are read as
-    body-in : (j : ℕ) → j < length (entriesIn s) → writeIn s j ≡ writeOf (writeBytes (getD (entriesIn s) j (entry noWrite false) .write))
+    body-in : (j : ℕ) → j < length (entriesIn s) → writeIn s j ≡ wideWrite (wideWriteBytes (getD (entriesIn s) j (entry noWrite false) .write))
     unfolding writeIn
-    body-in j l = ap (λ (x : List ℕ). writeOf (take writeLength (drop (writeBase j) x))) (h .layout) ∙ ap writeOf (body-at (rulesIn s) (entriesIn s) (h .holds .rules-most) j l)
+    body-in j l = ap (λ (x : List ℕ). wideWrite (take wideWriteLength (drop (writeBase j) x))) (h .layout) ∙ ap wideWrite (body-at (rulesIn s) (entriesIn s) (h .holds .rules-most) j l)
 
     -- its epochs and blocks are of four bytes
     pub sound-words : Worded (entriesIn s)

@@ -1,6 +1,6 @@
 -- What is claimed of a state's bytes: a list of bytes within the limits has the layout, byte by byte, exactly if it is the bytes of what it holds;
 -- what they hold is read back; and the states that opening, hand-in and step write are again such bytes.
-use Prim.Native.Nat.{ℕ, suc, _+_, _≤_, _<_}
+use Prim.Native.Nat.{ℕ, suc, _≤_, _<_}
 use mathlib.Core.Path.{_≡_}
 use mathlib.Core.Bool.{false}
 use mathlib.Core.List.{List, [], List·Memᴰ}
@@ -12,16 +12,16 @@ use Rattle.model.specs.Test.{countBelow}
 use Rattle.file_format.specs.Bytes.{byte, Small}
 use Rattle.file_format.specs.Encode.{WriteFits}
 use Rattle.cache_model.specs.Entries.{Entry, accepted, flagAt, appended, flagging}
-use Rattle.cache_model.specs.State.{stateSize, writesStart, flagPlace, ruleCount, acceptedCount, storedCount, ruleBase, writeBase, flagIn, rulesIn, writesIn, storedIn, entriesIn, stateOf, opened, handed, marked}
+use Rattle.cache_model.specs.State.{stateSize, writesStart, ruleCount, acceptedCount, storedCount, ruleBase, writeBase, flagIn, rulesIn, writesIn, storedIn, entriesIn, stateOf, opened, handed, marked}
 
--- the layout, byte by byte: 1,024 bytes, byte 3 zero, zeros behind the rules and behind the writes, flags of 0 or 1 with a zero behind, and a stored
--- count that equals them
+-- the layout, byte by byte: 1,024 bytes, byte 3 zero, zeros behind the rules and behind the writes, flags of 0 or 1, and a stored count that equals
+-- them
 pub record Clauses (s : List ℕ) : Type 0 where
   pub size : length s ≡ stateSize
   pub third : byte s 3 ≡ 0
   pub rules-rest : (k : ℕ) → ruleBase (ruleCount s) ≤ k → k < writesStart → byte s k ≡ 0
   pub writes-rest : (k : ℕ) → writeBase (acceptedCount s) ≤ k → k < stateSize → byte s k ≡ 0
-  pub flags : (i : ℕ) → i < acceptedCount s → (flagIn s i ≤ 1) × (byte s (writeBase i + flagPlace + 1) ≡ 0)
+  pub flags : (i : ℕ) → i < acceptedCount s → flagIn s i ≤ 1
   pub counted : storedCount s ≡ countBelow (storedIn s) (acceptedCount s)
 
 -- within the limits, a list of bytes has that layout exactly if it is the bytes of the rules and the writes that it holds. (From the equation to

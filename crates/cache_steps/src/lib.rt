@@ -85,7 +85,7 @@ pub fn look(rows: &mut [u64], state: &[u8], disk: &[u8]) -> Looked
         };
     }
     let mut addresses = [0u8; model::MOST_HELD];
-    let mut names = [0u8; model::MOST_HELD];
+    let mut names = [0u16; model::MOST_HELD];
     let mut epochs = [0u32; model::MOST_HELD];
     if !cache_soundness::needs_hold(rows, &mut addresses, &mut names, &mut epochs, state, seen) {
         return Looked {

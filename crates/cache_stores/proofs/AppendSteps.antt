@@ -2,14 +2,14 @@
 use mathlib.Core.Path.{_≡_, refl, ap, _∙_}
 use mathlib.Core.Bool.{false}
 use mathlib.Core.List.{List, [], _∷_, _++_}
-use Prim.Native.Nat.{ℕ, suc, _+_, _*_}
+use Prim.Native.Nat.{ℕ, suc, _+_, _*_, _/_, _%_}
 use native.Mathlib.Omega.{arith}
 use lib.ListN.{length, set}
 use lib.Seq.{sets}
 use borrow.Author.Needs.{needs}
 use Rattle.model.specs.declared.Write.{Write}
 use Rattle.model.specs.Disk.{block}
-use Rattle.file_format.specs.Bytes.{bytes4, writeBytes}
+use Rattle.file_format.specs.Bytes.{bytes2, bytes4, wideWriteBytes}
 use Rattle.cache_model.specs.Entries.{entry}
 use Rattle.cache_model.specs.State.{flagPlace, acceptedCount, writeBase, entryBytes, handed}
 use Rattle.cache_model.specs.Calls.{given}
@@ -32,21 +32,28 @@ sets-append l i (x ∷ xs) ys =
     let z : suc i + length xs ≡ i + suc (length xs) = omega arith in
     sets-append (set l i x) (suc i) xs ys ∙ ap (λ (k : ℕ). sets (sets (set l i x) (suc i) xs) k ys) z
 
-pub pair-put : (l : List ℕ) (at x y : ℕ) → set (set l at x) (at + 1) y ≡ sets l at (x ∷ y ∷ [])
-pair-put l at x y = let z : at + 1 ≡ suc at = omega arith in rw z
+pub half-put : (l : List ℕ) (at n : ℕ) → set (set l at (n / 256)) (at + 1) (n % 256) ≡ sets l at (bytes2 n)
+half-put l at n = let z : at + 1 ≡ suc at = omega arith in rw z
 
-pub entry-put : (l l₁ l₂ l₃ l₄ : List ℕ) (at : ℕ) (w : Write) → l₁ ≡ sets l at (w .address ∷ w .name ∷ []) → l₂ ≡ sets l₁ (at + 2) (bytes4 (w .epoch))
-    → l₃ ≡ sets l₂ (at + 6) (bytes4 (w .block)) → l₄ ≡ sets l₃ (at + flagPlace) (0 ∷ 0 ∷ []) → l₄ ≡ sets l at (entryBytes (entry w false))
-unfolding entryBytes writeBytes
-entry-put l l₁ l₂ l₃ l₄ at w a b c d =
-    let two : at + 2 ≡ suc (suc at) = omega arith in
-    let six : at + 6 ≡ suc (suc (suc (suc (suc (suc at))))) = omega arith in
-    let ten : at + flagPlace ≡ suc (suc (suc (suc (suc (suc (suc (suc (suc (suc at))))))))) = omega arith in
-    d ∙ rw (c, b, a, two, six, ten)
+pub write-put : (l l₁ l₂ l₃ l₄ : List ℕ) (at : ℕ) (w : Write) → l₁ ≡ sets l at (w .address ∷ []) → l₂ ≡ sets l₁ (at + 1) (bytes2 (w .name))
+    → l₃ ≡ sets l₂ (at + 3) (bytes4 (w .epoch)) → l₄ ≡ sets l₃ (at + 7) (bytes4 (w .block)) → l₄ ≡ sets l at (wideWriteBytes w)
+unfolding wideWriteBytes
+write-put l l₁ l₂ l₃ l₄ at w a b c d =
+    let one : at + 1 ≡ suc at = omega arith in
+    let three : at + 3 ≡ suc (suc (suc at)) = omega arith in
+    let seven : at + 7 ≡ suc (suc (suc (suc (suc (suc (suc at)))))) = omega arith in
+    d ∙ rw (c, b, a, one, three, seven)
+
+pub entry-put : (l l₁ l₂ : List ℕ) (at : ℕ) (w : Write) → l₁ ≡ sets l at (wideWriteBytes w) → l₂ ≡ sets l₁ (at + flagPlace) (0 ∷ [])
+    → l₂ ≡ sets l at (entryBytes (entry w false))
+unfolding entryBytes wideWriteBytes
+entry-put l l₁ l₂ at w a b =
+    let eleven : at + flagPlace ≡ suc (suc (suc (suc (suc (suc (suc (suc (suc (suc (suc at)))))))))) = omega arith in
+    b ∙ rw (a, eleven)
 
 pub appended : (s s′ : List ℕ) (w : Write) (n at : ℕ) → n ≡ acceptedCount s → at ≡ writeBase n → s′ ≡ sets s at (entryBytes (entry w false))
     → set s′ 1 (acceptedCount s + 1) ≡ handed s w
 unfolding handed
 appended s s′ w n at c p e = rw (e, p, c)
 
-pub ruleset appending = (needs, inside, pair-put, entry-put, appended)
+pub ruleset appending = (needs, inside, half-put, write-put, entry-put, appended)

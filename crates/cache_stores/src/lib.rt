@@ -8,7 +8,8 @@ ghost use Prim.Native.Nat.{_+_, _<_, _≤_};
 ghost use lib.ListN.{length};
 ghost use lib.Seq.{sets};
 ghost use Rattle.model.specs.Limits.{mostHeld};
-ghost use Rattle.file_format.specs.Bytes.{bytes4, diskLength};
+ghost use Rattle.file_format.specs.Bytes.{bytes2, bytes4, diskLength, wideWriteBytes};
+ghost use Rattle.file_format.specs.File.{wideWriteLength};
 ghost use Rattle.cache_model.specs.Entries.{entry};
 ghost use Rattle.cache_model.specs.State.{stateSize, entryLength, acceptedCount, storedCount, marked, storedOn, entryBytes, handed};
 ghost use Rattle.cache_model.specs.Calls.{given};
@@ -44,7 +45,7 @@ pub fn mark(state: &mut [u8], i: usize)
 }
 
 // Hand-in's five values as a write.
-pub fn given(address: u8, name: u8, epoch: u32, first: u16, second: u16) -> Write
+pub fn given(address: u8, name: u16, epoch: u32, first: u16, second: u16) -> Write
     ensures { λ r. ⌜ r ≡ given address name epoch first second ⌝ }
 {
     Write {
@@ -55,24 +56,41 @@ pub fn given(address: u8, name: u8, epoch: u32, first: u16, second: u16) -> Writ
     }
 }
 
-// Two bytes.
-fn put_pair(bytes: &mut [u8], at: usize, x: u8, y: u8)
-    requires { ⌜ at + 2 ≤ length (now bytes) ⌝ }
-    ensures { λ _. ⌜ now (bytes .exit) ≡ sets (now (bytes .entry)) at (x ∷ y ∷ []) ⌝ }
+// One byte.
+pub fn put_byte(bytes: &mut [u8], at: usize, n: u8)
+    requires { ⌜ at + 1 ≤ length (now bytes) ⌝ }
+    ensures { λ _. ⌜ now (bytes .exit) ≡ sets (now (bytes .entry)) at (n ∷ []) ⌝ }
 {
-    bytes[at] = x;
-    bytes[at + 1] = y;
+    bytes[at] = n;
 }
 
-// A waiting write's 12 bytes.
+// A number in two bytes, big-endian.
+pub fn put_half(bytes: &mut [u8], at: usize, n: u16)
+    requires { ⌜ at + 2 ≤ length (now bytes) ⌝ }
+    ensures { λ _. ⌜ now (bytes .exit) ≡ sets (now (bytes .entry)) at (bytes2 n) ⌝ }
+{
+    bytes[at] = (n / 256) as u8;
+    bytes[at + 1] = (n % 256) as u8;
+}
+
+// A write's 11 bytes: the body of its field with a name of two bytes.
+fn put_write(state: &mut [u8], at: usize, w: Write)
+    requires { ⌜ at + wideWriteLength ≤ length (now state) ⌝ }
+    ensures { λ _. ⌜ now (state .exit) ≡ sets (now (state .entry)) at (wideWriteBytes w) ⌝ }
+{
+    put_byte(state, at, w.address);
+    put_half(state, at + 1, w.name);
+    put_word(state, at + 3, w.epoch);
+    put_word(state, at + 7, w.block);
+}
+
+// A waiting write's 12.
 fn put_entry(state: &mut [u8], at: usize, w: Write)
     requires { ⌜ at + entryLength ≤ length (now state) ⌝ }
     ensures { λ _. ⌜ now (state .exit) ≡ sets (now (state .entry)) at (entryBytes (entry w false)) ⌝ }
 {
-    put_pair(state, at, w.address, w.name);
-    put_word(state, at + 2, w.epoch);
-    put_word(state, at + 6, w.block);
-    put_pair(state, at + cache_model::FLAG_PLACE, 0, 0);
+    put_write(state, at, w);
+    put_byte(state, at + cache_model::FLAG_PLACE, 0);
 }
 
 // w is appended, and waits. Answers its place from 1.

@@ -1,5 +1,6 @@
 -- What is accepted is the bytes of what was read: at every place, the bytes before it are those of what has been read so far.
-use mathlib.Core.Path.{_≡_, refl, sym, _∙_}
+use mathlib.Core.Path.{_≡_, refl, sym, ap, _∙_}
+use mathlib.Core.Logic.{inl, inr}
 use mathlib.Core.Bool.{Bool, true, false, cond}
 use mathlib.Core.List.{List, [], _∷_, _++_, append-assoc, append-nil}
 use Prim.Native.Nat.{ℕ, zero, suc, _+_, _*_, _/_, _%_, _≤_}
@@ -17,33 +18,52 @@ use Rattle.model.specs.Answer.{answer, refused}
 use Rattle.model.specs.Test.{test, File, file}
 use Rattle.file_format.specs.declared.Counts.{Counts}
 use Rattle.file_format.specs.Bytes.{byte, Small, half}
-use Rattle.file_format.specs.File.{isTag, bodyLength, outOfOrder, faultOf, fieldEnd, bodyAt, ruleOf, writeOf, checkOf, Progress, progress, countsOf, grown, finished, readFrom, readOf, nothing, headLength, ruleLength, writeLength}
+use Rattle.file_format.specs.File.{endTag, isTag, isWide, kindOf, bodyLength, outOfOrder, faultOf, fieldEnd, bodyAt, narrowRule, wideRule, ruleOf, narrowWrite, wideWrite, writeOf, checkOf, Progress, progress, countsOf, grown, finished, readFrom, readOf, nothing, headLength, narrowRuleLength, wideRuleLength, narrowWriteLength, wideWriteLength}
 use Rattle.file_reader.specs.Limits.{Within}
-use Rattle.file_format.specs.Encode.{fieldBytes, ruleFields, writeFields, checkFieldBytes, checkFields, testBytes, testsBytes, fileBytes, FileFits}
+use Rattle.file_format.specs.Encode.{fieldBytes, checkFieldBytes, SpellsRule, SpellsWrite, SpellsCheck, SpellsEach, SpellsTest, SpellsFile, FileFits}
 use Rattle.file_reader.proofs.LimitLaws.{Clean, clean, by-tag, within-counted}
 use Rattle.file_reader.proofs.CallerLaws.{holding-limits}
 use Rattle.file_reader.proofs.TellsLaws.{counts-grown}
-use Rattle.file_encoding.specs.Theorem.{ReadsExactly}
+use Rattle.file_encoding.specs.Theorem.{ReadsExactly, ShortestSpelled}
 use Rattle.file_encoding.proofs.FitLaws.{bounded, bounded-part, Fitting, fitting-start, fitting-on}
-use Rattle.file_encoding.proofs.RunLaws.{rule-run, write-run, check-run, test-run, run-last}
-use Rattle.file_encoding.proofs.ReadLaws.{read-bytes}
-use Rattle.file_encoding.proofs.PartLaws.{Bounded, write-forth, rule-forth, range-forth, pair-forth, pointer-forth}
+use Rattle.file_encoding.proofs.RunLaws.{each-none, each-last, file-shortest, file-least}
+use Rattle.file_encoding.proofs.ReadLaws.{read-spelled}
+use Rattle.file_encoding.proofs.PartLaws.{Bounded, narrow-write-forth, wide-write-forth, narrow-rule-forth, wide-rule-forth, range-forth, pair-forth, pointer-forth}
 
--- ---- one element more
+-- ---- one field's bytes
 
-rules-last : (rs : List Rule) (b : List ℕ) → length b ≡ ruleLength → ruleFields (rs ++ (ruleOf b ∷ [])) ≡ ruleFields rs ++ fieldBytes 3 b
-rules-last rs b e = rw (run-last rule-run rs (ruleOf b), rule-forth b e)
+module _ (b : List ℕ) (h : Bounded b) where
+  narrow-spelled : (kind : ℕ) → length b ≡ narrowWriteLength → SpellsWrite kind (narrowWrite b) (fieldBytes kind b)
+  unfolding SpellsWrite narrowWrite
+  narrow-spelled kind e = inl (h 1, ap (fieldBytes kind) (sym (narrow-write-forth b h e)))
 
-writes-last : (tag : ℕ) (ws : List Write) (b : List ℕ) → Bounded b → length b ≡ writeLength → writeFields tag (ws ++ (writeOf b ∷ [])) ≡ writeFields tag ws ++ fieldBytes tag b
-writes-last tag ws b h e = rw (run-last (write-run tag) ws (writeOf b), write-forth b h e)
+  wide-spelled : (kind : ℕ) → length b ≡ wideWriteLength → SpellsWrite kind (wideWrite b) (fieldBytes (kind + endTag) b)
+  unfolding SpellsWrite
+  wide-spelled kind e = inr (ap (fieldBytes (kind + endTag)) (sym (wide-write-forth b h e)))
+
+  narrow-rule-spelled : length b ≡ narrowRuleLength → SpellsRule (narrowRule b) (fieldBytes 3 b)
+  unfolding SpellsRule narrowRule
+  narrow-rule-spelled e = inl (h 0, h 2, ap (fieldBytes 3) (sym (narrow-rule-forth b e)))
+
+  wide-rule-spelled : length b ≡ wideRuleLength → SpellsRule (wideRule b) (fieldBytes 10 b)
+  unfolding SpellsRule
+  wide-rule-spelled e = inr (ap (fieldBytes 10) (sym (wide-rule-forth b h e)))
 
 -- ---- the bytes of what has been read
 
 -- rules, finished tests, and the test in hand without its end
-soFar : Progress → List ℕ
-soFar p =
-    let t = p .current in
-    ruleFields (p .rules) ++ (testsBytes (p .tests) ++ (writeFields 1 (t .initial) ++ (writeFields 2 (t .main) ++ checkFields (t .checks))))
+record SoFar (p : Progress) (s : List ℕ) : Type 0 where
+  rules : List ℕ
+  tests : List ℕ
+  initial : List ℕ
+  main : List ℕ
+  checks : List ℕ
+  spells-rules : SpellsEach SpellsRule (p .rules) rules
+  spells-tests : SpellsEach SpellsTest (p .tests) tests
+  spells-initial : SpellsEach (SpellsWrite 1) (p .current .initial) initial
+  spells-main : SpellsEach (SpellsWrite 2) (p .current .main) main
+  spells-checks : SpellsEach SpellsCheck (p .current .checks) checks
+  whole : s ≡ rules ++ (tests ++ (initial ++ (main ++ checks)))
 
 empty : {A : Type 0} (l : List A) → length l ≡ 0 → l ≡ []
 empty l e = drop-of-length-le l {i = 0} (omega arith)
@@ -51,55 +71,147 @@ empty l e = drop-of-length-le l {i = 0} (omega arith)
 none-yet : {A : Type 0} (l : List A) → ltb 0 (length l) ≡ false → l ≡ []
 none-yet l e = empty l (let h = ltb-false 0 (length l) e in omega arith)
 
-module _ (p : Progress) (w : Within (countsOf p)) where
-  abbrev Adds : ℕ → Type 0
-  Adds tag = outOfOrder tag (countsOf p) ≡ false → (b : List ℕ) → Bounded b → length b ≡ bodyLength tag → soFar (grown tag b p) ≡ soFar p ++ fieldBytes tag b
+module _ (p : Progress) (w : Within (countsOf p)) (s : List ℕ) (so : SoFar p s) where
+  no-initial : length (p .current .initial) ≡ 0 → so .initial ≡ []
+  no-initial e = each-none (SpellsWrite 1) (p .current .initial) (so .initial) (empty (p .current .initial) e) (so .spells-initial)
 
-  adds-rule : Adds 3
-  unfolding outOfOrder countsOf bodyLength grown soFar testsBytes writeFields checkFields
-  adds-rule o b h e =
+  no-main : p .current .main ≡ [] → so .main ≡ []
+  no-main e = each-none (SpellsWrite 2) (p .current .main) (so .main) e (so .spells-main)
+
+  no-checks : p .current .checks ≡ [] → so .checks ≡ []
+  no-checks e = each-none SpellsCheck (p .current .checks) (so .checks) e (so .spells-checks)
+
+  adds-rule : (r : Rule) (one : List ℕ) → SpellsRule r one → outOfOrder 3 (countsOf p) ≡ false
+      → SoFar (progress (p .rules ++ (r ∷ [])) (p .tests) (p .begun) (p .current)) (s ++ one)
+  unfolding outOfOrder countsOf
+  adds-rule r one spelled o =
       let n = w .none (or-none-left _ (ltb 0 (length (p .tests))) o) in
-      let t = none-yet (p .tests) (or-none-right (p .begun) _ o) in
-      rw (t, empty (p .current .initial) (n .0), empty (p .current .main) (n .1), empty (p .current .checks) (n .2))
-      (simp append-nil (rules-last (p .rules) b e))
+      let t = each-none SpellsTest (p .tests) (so .tests) (none-yet (p .tests) (or-none-right (p .begun) _ o)) (so .spells-tests) in
+      let i = no-initial (n .0) in
+      let m = no-main (empty (p .current .main) (n .1)) in
+      let c = no-checks (empty (p .current .checks) (n .2)) in
+      record {
+        rules = so .rules ++ one;
+        tests = so .tests;
+        initial = so .initial;
+        main = so .main;
+        checks = so .checks;
+        spells-rules = each-last SpellsRule (p .rules) r (so .rules) one (so .spells-rules) spelled;
+        spells-tests = so .spells-tests;
+        spells-initial = so .spells-initial;
+        spells-main = so .spells-main;
+        spells-checks = so .spells-checks;
+        whole = ap (λ (l : List ℕ). l ++ one) (so .whole) ∙ rw (t, i, m, c) (simp append-nil);
+      }
 
-  adds-initial : Adds 1
-  unfolding outOfOrder countsOf bodyLength grown soFar writeFields checkFields
-  adds-initial o b h e =
-      let m = none-yet (p .current .main) (or-none-left _ _ o) in
-      let k = none-yet (p .current .checks) (or-none-right (ltb 0 (length (p .current .main))) _ o) in
-      rw (m, k)
-      (simp (append-nil, append-assoc, writes-last 1 (p .current .initial) b h e))
+  adds-initial : (x : Write) (one : List ℕ) → SpellsWrite 1 x one → outOfOrder 1 (countsOf p) ≡ false
+      → SoFar (progress (p .rules) (p .tests) true (test (p .current .initial ++ (x ∷ [])) (p .current .main) (p .current .checks))) (s ++ one)
+  unfolding outOfOrder countsOf
+  adds-initial x one spelled o =
+      let m = no-main (none-yet (p .current .main) (or-none-left _ _ o)) in
+      let c = no-checks (none-yet (p .current .checks) (or-none-right (ltb 0 (length (p .current .main))) _ o)) in
+      record {
+        rules = so .rules;
+        tests = so .tests;
+        initial = so .initial ++ one;
+        main = so .main;
+        checks = so .checks;
+        spells-rules = so .spells-rules;
+        spells-tests = so .spells-tests;
+        spells-initial = each-last (SpellsWrite 1) (p .current .initial) x (so .initial) one (so .spells-initial) spelled;
+        spells-main = so .spells-main;
+        spells-checks = so .spells-checks;
+        whole = ap (λ (l : List ℕ). l ++ one) (so .whole) ∙ rw (m, c) (simp (append-nil, append-assoc));
+      }
 
-  adds-main : Adds 2
-  unfolding outOfOrder countsOf bodyLength grown soFar checkFields
-  adds-main o b h e =
-      rw (none-yet (p .current .checks) o)
-      (simp (append-nil, append-assoc, writes-last 2 (p .current .main) b h e))
+  adds-main : (x : Write) (one : List ℕ) → SpellsWrite 2 x one → outOfOrder 2 (countsOf p) ≡ false
+      → SoFar (progress (p .rules) (p .tests) true (test (p .current .initial) (p .current .main ++ (x ∷ [])) (p .current .checks))) (s ++ one)
+  unfolding outOfOrder countsOf
+  adds-main x one spelled o =
+      let c = no-checks (none-yet (p .current .checks) o) in
+      record {
+        rules = so .rules;
+        tests = so .tests;
+        initial = so .initial;
+        main = so .main ++ one;
+        checks = so .checks;
+        spells-rules = so .spells-rules;
+        spells-tests = so .spells-tests;
+        spells-initial = so .spells-initial;
+        spells-main = each-last (SpellsWrite 2) (p .current .main) x (so .main) one (so .spells-main) spelled;
+        spells-checks = so .spells-checks;
+        whole = ap (λ (l : List ℕ). l ++ one) (so .whole) ∙ rw c (simp (append-nil, append-assoc));
+      }
 
-  adds-check : (c : Check) (tag : ℕ) (b : List ℕ) → checkFieldBytes c ≡ fieldBytes tag b
-      → soFar (progress (p .rules) (p .tests) true (test (p .current .initial) (p .current .main) (p .current .checks ++ (c ∷ [])))) ≡ soFar p ++ fieldBytes tag b
-  unfolding soFar
-  adds-check c tag b e = simp (run-last check-run, e, append-assoc)
+  adds-check : (c : Check) (one : List ℕ) → checkFieldBytes c ≡ one
+      → SoFar (progress (p .rules) (p .tests) true (test (p .current .initial) (p .current .main) (p .current .checks ++ (c ∷ [])))) (s ++ one)
+  adds-check c one e =
+      record {
+        rules = so .rules;
+        tests = so .tests;
+        initial = so .initial;
+        main = so .main;
+        checks = so .checks ++ one;
+        spells-rules = so .spells-rules;
+        spells-tests = so .spells-tests;
+        spells-initial = so .spells-initial;
+        spells-main = so .spells-main;
+        spells-checks = each-last SpellsCheck (p .current .checks) c (so .checks) one (so .spells-checks) (unfold SpellsCheck in sym e);
+        whole = ap (λ (l : List ℕ). l ++ one) (so .whole) ∙ simp append-assoc;
+      }
 
-  adds-end : Adds 7
-  unfolding bodyLength grown soFar writeFields checkFields testBytes
-  adds-end o b h e = rw (empty b e) (simp (run-last test-run, append-nil, append-assoc))
+  adds-end : SoFar (progress (p .rules) (p .tests ++ (p .current ∷ [])) false (test [] [] [])) (s ++ fieldBytes 7 [])
+  unfolding SpellsEach
+  adds-end =
+      let one = so .initial ++ (so .main ++ (so .checks ++ fieldBytes 7 [])) in
+      record {
+        rules = so .rules;
+        tests = so .tests ++ one;
+        initial = [];
+        main = [];
+        checks = [];
+        spells-rules = so .spells-rules;
+        spells-tests = each-last SpellsTest (p .tests) (p .current) (so .tests) one (so .spells-tests) (record {
+          initial = so .initial;
+          main = so .main;
+          checks = so .checks;
+          spells-initial = so .spells-initial;
+          spells-main = so .spells-main;
+          spells-checks = so .spells-checks;
+          whole = refl;
+        });
+        spells-initial = refl;
+        spells-main = refl;
+        spells-checks = refl;
+        whole = ap (λ (l : List ℕ). l ++ fieldBytes 7 []) (so .whole) ∙ simp (append-nil, append-assoc);
+      }
 
-  adds : (tag : ℕ) → isTag tag ≡ true → Adds tag
-  unfolding grown bodyLength
-  adds = by-tag Adds adds-initial adds-main adds-rule
-      (λ o b h e. adds-check (checkOf 4 b) 4 b (range-forth b e))
-      (λ o b h e. adds-check (checkOf 5 b) 5 b (pair-forth b h e))
-      (λ o b h e. adds-check (checkOf 6 b) 6 b (pointer-forth b e))
-      adds-end
+  adds : (tag : ℕ) → isTag tag ≡ true → outOfOrder (kindOf tag) (countsOf p) ≡ false → (b : List ℕ) → Bounded b → length b ≡ bodyLength tag
+      → SoFar (grown tag b p) (s ++ fieldBytes tag b)
+  unfolding grown bodyLength kindOf isWide ruleOf writeOf
+  adds =
+      by-tag (λ tag. outOfOrder (kindOf tag) (countsOf p) ≡ false → (b : List ℕ) → Bounded b → length b ≡ bodyLength tag → SoFar (grown tag b p) (s ++ fieldBytes tag b))
+      (λ o b h e. adds-initial (narrowWrite b) (fieldBytes 1 b) (narrow-spelled b h 1 e) o)
+      (λ o b h e. adds-main (narrowWrite b) (fieldBytes 2 b) (narrow-spelled b h 2 e) o)
+      (λ o b h e. adds-rule (narrowRule b) (fieldBytes 3 b) (narrow-rule-spelled b h e) o)
+      (λ o b h e. adds-check (checkOf 4 b) (fieldBytes 4 b) (range-forth b e))
+      (λ o b h e. adds-check (checkOf 5 b) (fieldBytes 5 b) (pair-forth b h e))
+      (λ o b h e. adds-check (checkOf 6 b) (fieldBytes 6 b) (pointer-forth b e))
+      (λ o b h e. rw (empty b e) adds-end)
+      (λ o b h e. adds-initial (wideWrite b) (fieldBytes 8 b) (wide-spelled b h 1 e) o)
+      (λ o b h e. adds-main (wideWrite b) (fieldBytes 9 b) (wide-spelled b h 2 e) o)
+      (λ o b h e. adds-rule (wideRule b) (fieldBytes 10 b) (wide-rule-spelled b h e) o)
 
--- with no test in hand
-soFar-done : (p : Progress) → (length (p .current .initial) ≡ 0) × (length (p .current .main) ≡ 0) × (length (p .current .checks) ≡ 0)
-    → soFar p ≡ fileBytes (file (p .rules) (p .tests))
-unfolding soFar fileBytes writeFields checkFields
-soFar-done p n =
-    rw (empty (p .current .initial) (n .0), empty (p .current .main) (n .1), empty (p .current .checks) (n .2)) (simp append-nil)
+  -- with no test in hand
+  all-done : (length (p .current .initial) ≡ 0) × (length (p .current .main) ≡ 0) × (length (p .current .checks) ≡ 0) → SpellsFile (file (p .rules) (p .tests)) s
+  all-done n =
+      record {
+        rules = so .rules;
+        tests = so .tests;
+        spells-rules = so .spells-rules;
+        spells-tests = so .spells-tests;
+        whole = so .whole ∙ rw (no-initial (n .0), no-main (empty (p .current .main) (n .1)), no-checks (empty (p .current .checks) (n .2))) (simp append-nil);
+      }
 
 -- ---- one field
 
@@ -127,10 +239,10 @@ module _ (s : List ℕ) (small : Bounded s) (at : ℕ) (c : Counts) (k : Clean s
 record Written (s : List ℕ) (at : ℕ) (p : Progress) : Type 0 where
   within : Within (countsOf p)
   fits : Fitting p
-  bytes : take at s ≡ soFar p
+  bytes : SoFar p (take at s)
 
 written-start : (s : List ℕ) → Written s 0 nothing
-unfolding nothing countsOf soFar ruleFields testsBytes writeFields checkFields
+unfolding nothing countsOf SpellsEach
 written-start s =
     record {
       within = record {
@@ -143,7 +255,19 @@ written-start s =
         none = λ q. (refl, refl, refl);
       };
       fits = fitting-start;
-      bytes = refl;
+      bytes = record {
+        rules = [];
+        tests = [];
+        initial = [];
+        main = [];
+        checks = [];
+        spells-rules = refl;
+        spells-tests = refl;
+        spells-initial = refl;
+        spells-main = refl;
+        spells-checks = refl;
+        whole = refl;
+      };
     }
 
 module _ (s : List ℕ) (small : Bounded s) where
@@ -153,13 +277,12 @@ module _ (s : List ℕ) (small : Bounded s) where
       record {
         within = rw (← counts-grown (bodyAt s at) p (byte s at) (k .tag)) (within-counted (countsOf p) (w .within) (byte s at) (k .tag) (k .limit));
         fits = fitting-on p (w .fits) (bodyAt s at) b (byte s at) (k .tag) (k .body);
-        bytes =
-            field-at s small at (countsOf p) k ∙ rw (w .bytes)
-            (sym (adds p (w .within) (byte s at) (k .tag) (k .order) (bodyAt s at) b (size-of-body s small at (countsOf p) k)));
+        bytes = rw (field-at s small at (countsOf p) k)
+            (adds p (w .within) (take at s) (w .bytes) (byte s at) (k .tag) (k .order) (bodyAt s at) b (size-of-body s small at (countsOf p) k));
       }
 
   abbrev Holds : File → Type 0
-  Holds f = (fileBytes f ≡ s) × FileFits f
+  Holds f = SpellsFile f s × FileFits f
 
   written-end : (at : ℕ) (p : Progress) (f : File) → Written s at p → length s ≤ at → finished s p ≡ answer f → Holds f
   unfolding finished
@@ -169,7 +292,7 @@ module _ (s : List ℕ) (small : Bounded s) where
       go true q e = let z : _≡_ {A = ℕ} 0 1 = cc in absurd (omega arith)
       go false q e =
           let g : f ≡ file (p .rules) (p .tests) = cc in
-          rw g (sym (soFar-done p (unfold countsOf in w .within .none q)) ∙ sym (w .bytes) ∙ take-all at s h, record { rules = w .fits .rules; tests = w .fits .tests })
+          rw g (rw (take-all at s h) at (all-done p (w .within) (take at s) (w .bytes) (unfold countsOf in w .within .none q)), record { rules = w .fits .rules; tests = w .fits .tests })
 
   written-from : (fuel at : ℕ) (p : Progress) (f : File) → Written s at p → readFrom fuel s at p ≡ answer f → Holds f
   unfolding readFrom
@@ -186,22 +309,26 @@ module _ (s : List ℕ) (small : Bounded s) where
       go true true q r rest e = rest (clean s at (countsOf p) (eqb-true _ _ r)) e
       go true false q r rest e = let z : _≡_ {A = ℕ} 0 1 = cc in absurd (omega arith)
 
-holds : (s : List ℕ) (f : File) → Small s → readOf s ≡ answer f → (fileBytes f ≡ s) × FileFits f
+holds : (s : List ℕ) (f : File) → Small s → readOf s ≡ answer f → SpellsFile f s × FileFits f
 unfolding readOf
 holds s f h = written-from s (bounded s h) (suc (length s)) 0 nothing f (written-start s)
 
 -- what is accepted is the bytes of what was read
-pub bytes-read : (s : List ℕ) (f : File) → Small s → readOf s ≡ answer f → fileBytes f ≡ s
-bytes-read s f h e = holds s f h e .0
+pub spelled-read : (s : List ℕ) (f : File) → Small s → readOf s ≡ answer f → SpellsFile f s
+spelled-read s f h e = holds s f h e .0
 
 -- and what was read fits
 pub fits-read : (s : List ℕ) (f : File) → Small s → readOf s ≡ answer f → FileFits f
 fits-read s f h e = holds s f h e .1
 
--- reading accepts reads-exactly the bytes of files
+-- reading accepts exactly the bytes of files
 pub reads-exactly : ReadsExactly
 unfolding ReadsExactly
 reads-exactly s f h = (
-  λ e. record { limits = holding-limits s f e .0; fits = fits-read s f h e; bytes = bytes-read s f h e },
-  λ k. rw (← k .bytes) (read-bytes f (k .limits) (k .fits)),
+  λ e. record { limits = holding-limits s f e .0; fits = fits-read s f h e; spelled = spelled-read s f h e },
+  λ k. read-spelled s f (k .spelled) (k .limits) (k .fits),
 )
+
+-- what we write ourselves is one of them, and none is shorter
+pub shortest-spelled : ShortestSpelled
+shortest-spelled f = (file-shortest f, file-least f)

@@ -9,12 +9,13 @@ use lib.ListN.{take, drop}
 use lib.Seq.{getD-drop}
 use lib.Dec.{ltb}
 use borrow.Author.Tests.{ltb-false}
-use Rattle.model.specs.Limits.{words}
+use Rattle.model.specs.Limits.{names, words}
+use Rattle.model.specs.declared.Write.{Write}
 use Rattle.model.specs.declared.Rule.{Rule}
 use Rattle.model.specs.declared.Check.{Check}
 use Rattle.model.specs.Test.{Test, test}
 use Rattle.file_format.specs.Bytes.{byte, Small, half, word}
-use Rattle.file_format.specs.File.{isTag, ruleFault, bodyFault, ruleOf, writeOf, checkOf, Progress, progress, grown, nothing}
+use Rattle.file_format.specs.File.{isTag, isWide, kindOf, isRule, ruleFault, bodyFault, narrowRule, wideRule, ruleOf, narrowWrite, wideWrite, writeOf, checkOf, Progress, progress, grown, nothing}
 use Rattle.file_format.specs.Encode.{RuleFits, WriteFits, CheckFits, TestFits}
 use Rattle.file_reader.proofs.LimitLaws.{by-tag}
 use Rattle.file_encoding.proofs.PartLaws.{Bounded}
@@ -42,17 +43,33 @@ module _ (b : List ℕ) (h : Bounded b) where
   unfolding word half
   word-fits i = omega (arith, h i, h (i + 1), h (i + 2), h (i + 2 + 1))
 
-  write-fits : WriteFits (writeOf b)
-  unfolding writeOf
-  write-fits = record { address = h 0; name = h 1; epoch = word-fits 2; block = word-fits 6 }
+  half-fits : (i : ℕ) → half b i < names
+  unfolding half
+  half-fits i = omega (arith, h i, h (i + 1))
 
-  rule-fits : ruleFault b ≡ 0 → RuleFits (ruleOf b)
-  unfolding ruleFault ruleOf
-  rule-fits e = record { first = h 0; predicate = go (ltb 2 (byte b 1)) refl e; second = h 2 }
+  narrow-fits : (i : ℕ) → byte b i < names
+  narrow-fits i = omega (arith, h i)
+
+  -- with either kind of name
+  write-fits : (tag : ℕ) → WriteFits (writeOf tag b)
+  unfolding writeOf wideWrite narrowWrite
+  write-fits tag = go (isWide tag)
     where
-      go : (t : Bool) → ltb 2 (byte b 1) ≡ t → _≡_ {A = ℕ} (cond t 5 0) 0 → byte b 1 ≤ 2
-      go true q z = absurd (omega arith)
-      go false q z = ltb-false _ _ q
+      go : (wide : Bool) → WriteFits (cond wide (wideWrite b) (narrowWrite b))
+      go true = record { address = h 0; name = half-fits 1; epoch = word-fits 3; block = word-fits 7 }
+      go false = record { address = h 0; name = narrow-fits 1; epoch = word-fits 2; block = word-fits 6 }
+
+  rule-fits : (tag : ℕ) → ruleFault (ruleOf tag b) ≡ 0 → RuleFits (ruleOf tag b)
+  unfolding ruleFault ruleOf wideRule narrowRule
+  rule-fits tag e = go (isWide tag) e
+    where
+      known : (p : ℕ) (t : Bool) → ltb 2 p ≡ t → _≡_ {A = ℕ} (cond t 5 0) 0 → p ≤ 2
+      known p true q z = absurd (omega arith)
+      known p false q z = ltb-false _ _ q
+
+      go : (wide : Bool) → ruleFault (cond wide (wideRule b) (narrowRule b)) ≡ 0 → RuleFits (cond wide (wideRule b) (narrowRule b))
+      go true z = record { first = half-fits 0; predicate = known (byte b 2) (ltb 2 (byte b 2)) refl z; second = half-fits 3 }
+      go false z = record { first = narrow-fits 0; predicate = known (byte b 1) (ltb 2 (byte b 1)) refl z; second = narrow-fits 2 }
 
 -- ---- what has been read
 
@@ -72,17 +89,26 @@ pub fitting-start : Fitting nothing
 unfolding nothing
 fitting-start = record { rules = λ r m. absurd (List·Memᴰ·not-nil m); tests = λ t m. absurd (List·Memᴰ·not-nil m); current = none-fits }
 
-pub fitting-on : (p : Progress) → Fitting p → (b : List ℕ) → Bounded b → (tag : ℕ) → isTag tag ≡ true → bodyFault tag b ≡ 0 → Fitting (grown tag b p)
-unfolding grown bodyFault checkOf CheckFits
-fitting-on p f b h =
-    by-tag (λ tag. bodyFault tag b ≡ 0 → Fitting (grown tag b p))
-    (λ e. record { rules = f .rules; tests = f .tests; current = record { initial = also WriteFits (p .current .initial) (writeOf b) (f .current .initial) (write-fits b h); main = f .current .main; checks = f .current .checks } })
-    (λ e. record { rules = f .rules; tests = f .tests; current = record { initial = f .current .initial; main = also WriteFits (p .current .main) (writeOf b) (f .current .main) (write-fits b h); checks = f .current .checks } })
-    (λ e. record { rules = also RuleFits (p .rules) (ruleOf b) (f .rules) (rule-fits b h e); tests = f .tests; current = f .current })
-    (λ e. check (checkOf 4 b) (h 0))
-    (λ e. check (checkOf 5 b) (h 0, word-fits b h 1, h 5, word-fits b h 6))
-    (λ e. check (checkOf 6 b) (h 0))
-    (λ e. record { rules = f .rules; tests = also TestFits (p .tests) (p .current) (f .tests) (f .current); current = none-fits })
-  where
-    check : (c : Check) → CheckFits c → Fitting (progress (p .rules) (p .tests) true (test (p .current .initial) (p .current .main) (p .current .checks ++ (c ∷ []))))
-    check c k = record { rules = f .rules; tests = f .tests; current = record { initial = f .current .initial; main = f .current .main; checks = also CheckFits (p .current .checks) c (f .current .checks) k } }
+module _ (p : Progress) (f : Fitting p) where
+  one-initial : (w : Write) → WriteFits w → Fitting (progress (p .rules) (p .tests) true (test (p .current .initial ++ (w ∷ [])) (p .current .main) (p .current .checks)))
+  one-initial w k = record { rules = f .rules; tests = f .tests; current = record { initial = also WriteFits (p .current .initial) w (f .current .initial) k; main = f .current .main; checks = f .current .checks } }
+
+  one-main : (w : Write) → WriteFits w → Fitting (progress (p .rules) (p .tests) true (test (p .current .initial) (p .current .main ++ (w ∷ [])) (p .current .checks)))
+  one-main w k = record { rules = f .rules; tests = f .tests; current = record { initial = f .current .initial; main = also WriteFits (p .current .main) w (f .current .main) k; checks = f .current .checks } }
+
+  one-rule : (r : Rule) → RuleFits r → Fitting (progress (p .rules ++ (r ∷ [])) (p .tests) (p .begun) (p .current))
+  one-rule r k = record { rules = also RuleFits (p .rules) r (f .rules) k; tests = f .tests; current = f .current }
+
+  one-check : (c : Check) → CheckFits c → Fitting (progress (p .rules) (p .tests) true (test (p .current .initial) (p .current .main) (p .current .checks ++ (c ∷ []))))
+  one-check c k = record { rules = f .rules; tests = f .tests; current = record { initial = f .current .initial; main = f .current .main; checks = also CheckFits (p .current .checks) c (f .current .checks) k } }
+
+  pub fitting-on : (b : List ℕ) → Bounded b → (tag : ℕ) → isTag tag ≡ true → bodyFault tag b ≡ 0 → Fitting (grown tag b p)
+  unfolding grown bodyFault checkOf CheckFits isRule kindOf isWide
+  fitting-on b h =
+      by-tag (λ tag. bodyFault tag b ≡ 0 → Fitting (grown tag b p))
+      (λ e. one-initial (writeOf 1 b) (write-fits b h 1)) (λ e. one-main (writeOf 2 b) (write-fits b h 2)) (λ e. one-rule (ruleOf 3 b) (rule-fits b h 3 e))
+      (λ e. one-check (checkOf 4 b) (h 0))
+      (λ e. one-check (checkOf 5 b) (h 0, word-fits b h 1, h 5, word-fits b h 6))
+      (λ e. one-check (checkOf 6 b) (h 0))
+      (λ e. record { rules = f .rules; tests = also TestFits (p .tests) (p .current) (f .tests) (f .current); current = none-fits })
+      (λ e. one-initial (writeOf 8 b) (write-fits b h 8)) (λ e. one-main (writeOf 9 b) (write-fits b h 9)) (λ e. one-rule (ruleOf 10 b) (rule-fits b h 10 e))

@@ -11,10 +11,10 @@ use Rattle.model.specs.Limits.{words}
 use Rattle.model.specs.declared.Write.{Write}
 use Rattle.model.specs.declared.Rule.{Rule}
 use Rattle.model.specs.declared.Check.the-variants.{Pair}
-use Rattle.file_format.specs.Bytes.{byte, half, word, bytes4, writeBytes, ruleBytes}
-use Rattle.file_format.specs.File.{writeOf, ruleOf, checkOf, ruleLength, writeLength, pairLength, addressLength}
+use Rattle.file_format.specs.Bytes.{byte, half, word, bytes2, bytes4, narrowWriteBytes, wideWriteBytes, narrowRuleBytes, wideRuleBytes}
+use Rattle.file_format.specs.File.{narrowWrite, wideWrite, narrowRule, wideRule, checkOf, narrowRuleLength, wideRuleLength, narrowWriteLength, wideWriteLength, pairLength, addressLength}
 use Rattle.file_format.proofs.ByteLaws.{number}
-use Rattle.file_format.specs.Encode.{WriteFits, fieldBytes, checkFieldBytes}
+use Rattle.file_format.specs.Encode.{fieldBytes, checkFieldBytes}
 
 -- ---- numbers
 
@@ -29,17 +29,26 @@ digits a b c d ha hb hc hd =
 
 -- ---- from the part to its bytes and back
 
--- (address and name are a byte each)
-pub words-back : (w : Write) → w .epoch < words → w .block < words → writeOf (writeBytes w) ≡ w
-unfolding writeOf writeBytes word half
-words-back w e b = rw (number (w .epoch) e, number (w .block) b)
+-- two bytes are those of their number
+pub half-back : (n : ℕ) → n / 256 * 256 + n % 256 ≡ n
+half-back n = omega arith
 
-pub write-back : (w : Write) → WriteFits w → writeOf (writeBytes w) ≡ w
-write-back w h = words-back w (h .epoch) (h .block)
+-- (an address and a name of one byte are a byte each)
+pub narrow-words-back : (w : Write) → w .epoch < words → w .block < words → narrowWrite (narrowWriteBytes w) ≡ w
+unfolding narrowWrite narrowWriteBytes word half
+narrow-words-back w e b = rw (number (w .epoch) e, number (w .block) b)
 
-pub rule-back : (r : Rule) → ruleOf (ruleBytes r) ≡ r
-unfolding ruleOf ruleBytes
-rule-back r = refl
+pub wide-words-back : (w : Write) → w .epoch < words → w .block < words → wideWrite (wideWriteBytes w) ≡ w
+unfolding wideWrite wideWriteBytes word half
+wide-words-back w e b = rw (half-back (w .name), number (w .epoch) e, number (w .block) b)
+
+pub narrow-rule-back : (r : Rule) → narrowRule (narrowRuleBytes r) ≡ r
+unfolding narrowRule narrowRuleBytes
+narrow-rule-back r = refl
+
+pub wide-rule-back : (r : Rule) → wideRule (wideRuleBytes r) ≡ r
+unfolding wideRule wideRuleBytes half
+wide-rule-back r = rw (half-back (r .first), half-back (r .second))
 
 pub pair-back : (a v b w : ℕ) → v < words → w < words → checkOf 5 (a ∷ (bytes4 v ++ (b ∷ bytes4 w))) ≡ Pair a v b w
 unfolding checkOf word half
@@ -59,17 +68,34 @@ module _ (b : List ℕ) (small : Bounded b) where
   unfolding word half
   word-digits i = digits _ _ _ _ (small i) (small (i + 1)) (small (i + 2)) (small (i + 2 + 1))
 
-  pub write-forth : length b ≡ writeLength → writeBytes (writeOf b) ≡ b
-  unfolding writeBytes writeOf tabulate
-  write-forth e = ap₂ (λ (x y : List ℕ). byte b 0 ∷ byte b 1 ∷ (x ++ y)) (word-digits 2) (word-digits 6) ∙ spelled b writeLength e
+  half-digits : (i : ℕ) → bytes2 (half b i) ≡ byte b i ∷ byte b (i + 1) ∷ []
+  unfolding half
+  half-digits i =
+      let l = small (i + 1) in
+      let p : (byte b i * 256 + byte b (i + 1)) / 256 ≡ byte b i = omega arith in
+      let q : (byte b i * 256 + byte b (i + 1)) % 256 ≡ byte b (i + 1) = omega arith in
+      rw (p, q)
+
+  pub narrow-write-forth : length b ≡ narrowWriteLength → narrowWriteBytes (narrowWrite b) ≡ b
+  unfolding narrowWriteBytes narrowWrite tabulate
+  narrow-write-forth e = ap₂ (λ (x y : List ℕ). byte b 0 ∷ byte b 1 ∷ (x ++ y)) (word-digits 2) (word-digits 6) ∙ spelled b narrowWriteLength e
+
+  pub wide-write-forth : length b ≡ wideWriteLength → wideWriteBytes (wideWrite b) ≡ b
+  unfolding wideWriteBytes wideWrite tabulate
+  wide-write-forth e =
+      ap₂ (λ (x y : List ℕ). byte b 0 ∷ (x ++ y)) (half-digits 1) (ap₂ (λ (x y : List ℕ). x ++ y) (word-digits 3) (word-digits 7)) ∙ spelled b wideWriteLength e
+
+  pub wide-rule-forth : length b ≡ wideRuleLength → wideRuleBytes (wideRule b) ≡ b
+  unfolding wideRuleBytes wideRule tabulate
+  wide-rule-forth e = ap₂ (λ (x y : List ℕ). x ++ (byte b 2 ∷ y)) (half-digits 0) (half-digits 3) ∙ spelled b wideRuleLength e
 
   pub pair-forth : length b ≡ pairLength → checkFieldBytes (checkOf 5 b) ≡ fieldBytes 5 b
   unfolding checkFieldBytes checkOf tabulate
   pair-forth e = ap₂ (λ (x y : List ℕ). fieldBytes 5 (byte b 0 ∷ (x ++ (byte b 5 ∷ y)))) (word-digits 1) (word-digits 6) ∙ ap (fieldBytes 5) (spelled b pairLength e)
 
-pub rule-forth : (b : List ℕ) → length b ≡ ruleLength → ruleBytes (ruleOf b) ≡ b
-unfolding ruleBytes ruleOf tabulate
-rule-forth b e = spelled b ruleLength e
+pub narrow-rule-forth : (b : List ℕ) → length b ≡ narrowRuleLength → narrowRuleBytes (narrowRule b) ≡ b
+unfolding narrowRuleBytes narrowRule tabulate
+narrow-rule-forth b e = spelled b narrowRuleLength e
 
 pub range-forth : (b : List ℕ) → length b ≡ addressLength → checkFieldBytes (checkOf 4 b) ≡ fieldBytes 4 b
 unfolding checkFieldBytes checkOf tabulate

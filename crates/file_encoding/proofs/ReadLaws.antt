@@ -1,5 +1,6 @@
 -- The bytes of a file within the limits are read as that file: each field lets the reading go on behind it, so the last field's answer is the first's.
 use mathlib.Core.Path.{_≡_, refl, sym, ap, _∙_}
+use mathlib.Core.Logic.{⊎-elim}
 use mathlib.Core.Bool.{Bool, true, false, cond}
 use mathlib.Core.List.{List, [], _∷_, _++_, append-assoc, append-nil, List·Memᴰ·not-nil, List·Memᴰ·eq-of-singleton}
 use Prim.Native.Nat.{ℕ, zero, suc, _+_, _-_, _<_}
@@ -9,7 +10,7 @@ use lib.ListN.{length, take, drop, length-append, length-drop}
 use lib.Seq.{getD-drop, drop-drop, take-at, drop-at}
 use lib.Dec.{eqb, leb}
 use borrow.Author.Tests.{eq-eqb, lt-ltb, le-ltb, lt-leb}
-use Rattle.model.specs.Limits.{mostRules, mostTests, mostInitial, mostMain, mostChecks}
+use Rattle.model.specs.Limits.{narrowNames, mostRules, mostTests, mostInitial, mostMain, mostChecks}
 use Rattle.model.specs.declared.Write.{Write}
 use Rattle.model.specs.declared.Rule.{Rule}
 use Rattle.model.specs.declared.Check.{Check}
@@ -18,13 +19,13 @@ use Rattle.model.specs.Answer.{answer}
 use Rattle.model.specs.Rules.{Known}
 use Rattle.model.specs.Test.{Test, test, File, file}
 use Rattle.file_format.specs.declared.Counts.{Counts}
-use Rattle.file_format.specs.Bytes.{byte, half, bytes4, writeBytes, ruleBytes}
-use Rattle.file_format.specs.File.{isTag, isCheck, bodyLength, outOfOrder, overTest, overLimit, ruleFault, bodyFault, faultOf, checkOf, Progress, progress, countsOf, grown, finished, readFrom, readOf, nothing, headLength}
+use Rattle.file_format.specs.Bytes.{byte, half, bytes4, narrowWriteBytes, wideWriteBytes, narrowRuleBytes, wideRuleBytes}
+use Rattle.file_format.specs.File.{endTag, isTag, isWide, kindOf, isRule, isCheck, narrowWriteLength, wideWriteLength, bodyLength, outOfOrder, overTest, overLimit, ruleFault, bodyFault, faultOf, ruleOf, writeOf, checkOf, Progress, progress, countsOf, grown, finished, readFrom, readOf, nothing, headLength}
 use Rattle.file_reader.specs.Limits.{TestLimits, FileLimits}
-use Rattle.file_format.specs.Encode.{fieldBytes, ruleFields, checkFieldBytes, testBytes, testsBytes, fileBytes, RuleFits, WriteFits, CheckFits, TestFits, FileFits}
+use Rattle.file_format.specs.Encode.{fieldBytes, ruleFields, checkFieldBytes, testBytes, testsBytes, fileBytes, SpellsRule, SpellsWrite, SpellsCheck, SpellsTest, SpellsFile, RuleFits, WriteFits, CheckFits, TestFits, FileFits}
 use Rattle.file_reader.proofs.LimitLaws.{Clean}
-use Rattle.file_encoding.proofs.RunLaws.{ruleField, writeField, rule-run, write-run, check-run, test-run, run-on}
-use Rattle.file_encoding.proofs.PartLaws.{write-back, rule-back, pair-back}
+use Rattle.file_encoding.proofs.RunLaws.{each-on, file-shortest}
+use Rattle.file_encoding.proofs.PartLaws.{narrow-words-back, wide-words-back, narrow-rule-back, wide-rule-back, pair-back}
 
 -- ---- one field
 
@@ -35,12 +36,12 @@ fault-none s at c k =
     rw (le-ltb _ _ (k .whole), k .tag, k .order, k .limit, eq-eqb _ _ (k .size), le-ltb _ _ (k .room)) (k .body)
 
 -- a field that is not refused, wherever it stands
-record Fine (tag : ℕ) (body : List ℕ) (c : Counts) : Type 0 where
-  known : isTag tag ≡ true
-  size : length body ≡ bodyLength tag
-  order : outOfOrder tag c ≡ false
-  limit : overLimit tag c ≡ false
-  fault : bodyFault tag body ≡ 0
+pub record Fine (tag : ℕ) (body : List ℕ) (c : Counts) : Type 0 where
+  pub known : isTag tag ≡ true
+  pub size : length body ≡ bodyLength tag
+  pub order : outOfOrder (kindOf tag) c ≡ false
+  pub limit : overLimit (kindOf tag) c ≡ false
+  pub fault : bodyFault tag body ≡ 0
 
 module _ (tag : ℕ) (body rest s : List ℕ) (at : ℕ) (e : drop at s ≡ fieldBytes tag body ++ rest) where
   byte-at : (i : ℕ) → byte s (at + i) ≡ byte (fieldBytes tag body ++ rest) i
@@ -83,10 +84,10 @@ module _ (tag : ℕ) (body rest s : List ℕ) (at : ℕ) (e : drop at s ≡ fiel
       }
 
 -- with these bytes still to come and enough fuel, reading ends with this file
-abbrev Gives : List ℕ → Progress → File → Type 0
+abbrev pub Gives : List ℕ → Progress → File → Type 0
 Gives rest p f = (fuel : ℕ) (s : List ℕ) (at : ℕ) → drop at s ≡ rest → length rest < fuel → readFrom fuel s at p ≡ answer f
 
-gives-field : (tag : ℕ) (body rest : List ℕ) (p : Progress) (f : File) → Fine tag body (countsOf p)
+pub gives-field : (tag : ℕ) (body rest : List ℕ) (p : Progress) (f : File) → Fine tag body (countsOf p)
     → Gives rest (grown tag body p) f → Gives (fieldBytes tag body ++ rest) p f
 unfolding readFrom fieldBytes
 gives-field tag body rest p f k g zero s at e l = absurd (omega arith)
@@ -108,15 +109,59 @@ gives-done rules tests (suc fuel) s at e l =
     let n = rw length-drop at (ap length e) in
     rw (le-ltb at (length s) (omega arith))
 
-gives-rule : (f : File) (r : Rule) (done : List Rule) (rest : List ℕ) → RuleFits r → length done < mostRules
-    → Gives rest (progress (done ++ (r ∷ [])) [] false none) f → Gives (ruleField r ++ rest) (progress done [] false none) f
-unfolding grown countsOf isTag bodyLength outOfOrder overLimit bodyFault ruleFault ruleBytes
-gives-rule f r done rest h l g =
-    gives-field 3 (ruleBytes r) rest (progress done [] false none) f
-    (record { known = refl; size = refl; order = refl; limit = lt-leb mostRules (length done) l; fault = rw (le-ltb 2 (r .predicate) (h .predicate)) })
-    (rw (rule-back r) g)
+gives-rule : (f : File) (r : Rule) (one : List ℕ) (done : List Rule) (rest : List ℕ) → SpellsRule r one → RuleFits r → length done < mostRules
+    → Gives rest (progress (done ++ (r ∷ [])) [] false none) f → Gives (one ++ rest) (progress done [] false none) f
+unfolding SpellsRule isTag bodyLength narrowRuleBytes kindOf isWide wideRuleBytes
+gives-rule f r one done rest spelled h l g =
+    ⊎-elim
+    (λ (n : (r .first < narrowNames) × (r .second < narrowNames) × (one ≡ fieldBytes 3 (narrowRuleBytes r))). rw (n .2) (with-tag 3 (narrowRuleBytes r) refl refl (unfold ruleOf isWide in narrow-rule-back r) refl))
+    (λ (e : one ≡ fieldBytes 10 (wideRuleBytes r)). rw e (with-tag 10 (wideRuleBytes r) refl refl (unfold ruleOf isWide in wide-rule-back r) refl))
+    spelled
+  where
+    with-tag : (tag : ℕ) (b : List ℕ) → isTag tag ≡ true → length b ≡ bodyLength tag → ruleOf tag b ≡ r → kindOf tag ≡ 3 → Gives (fieldBytes tag b ++ rest) (progress done [] false none) f
+    with-tag tag b k z e q =
+        gives-field tag b rest (progress done [] false none) f
+        (record {
+          known = k;
+          size = z;
+          order = unfold outOfOrder countsOf in rw q;
+          limit = unfold overLimit countsOf in rw q (lt-leb mostRules (length done) l);
+          fault = unfold bodyFault isRule ruleFault in rw (q, e, le-ltb 2 (r .predicate) (h .predicate));
+        })
+        (unfold grown in rw (q, e) g)
 
 -- ---- tests
+
+-- a kind of write has two tags
+record Twofold (kind : ℕ) : Type 0 where
+  known : isTag kind ≡ true
+  known-wide : isTag (kind + endTag) ≡ true
+  narrow : isWide kind ≡ false
+  wide : isWide (kind + endTag) ≡ true
+  size : bodyLength kind ≡ narrowWriteLength
+  size-wide : bodyLength (kind + endTag) ≡ wideWriteLength
+  same : kindOf kind ≡ kind
+  same-wide : kindOf (kind + endTag) ≡ kind
+
+initial-twofold : Twofold 1
+unfolding isTag isWide bodyLength kindOf
+initial-twofold = record { known = refl; known-wide = refl; narrow = refl; wide = refl; size = refl; size-wide = refl; same = refl; same-wide = refl }
+
+main-twofold : Twofold 2
+unfolding isTag isWide bodyLength kindOf
+main-twofold = record { known = refl; known-wide = refl; narrow = refl; wide = refl; size = refl; size-wide = refl; same = refl; same-wide = refl }
+
+-- a write's field, with either kind of name: its tag is of this kind, and its body holds the write
+by-spelling : (kind : ℕ) → Twofold kind → (w : Write) (one : List ℕ) → SpellsWrite kind w one → WriteFits w → (P : List ℕ → Type 0)
+    → ((tag : ℕ) (body : List ℕ) → isTag tag ≡ true → length body ≡ bodyLength tag → writeOf tag body ≡ w → kindOf tag ≡ kind → P (fieldBytes tag body)) → P one
+unfolding SpellsWrite writeOf
+by-spelling kind k w one spelled h P each =
+    ⊎-elim
+    (λ (n : (w .name < narrowNames) × (one ≡ fieldBytes kind (narrowWriteBytes w))).
+    rw (n .1) (each kind (narrowWriteBytes w) (k .known) (rw (k .size) (unfold narrowWriteBytes in refl)) (rw (k .narrow) (narrow-words-back w (h .epoch) (h .block))) (k .same)))
+    (λ (e : one ≡ fieldBytes (kind + endTag) (wideWriteBytes w)).
+    rw e (each (kind + endTag) (wideWriteBytes w) (k .known-wide) (rw (k .size-wide) (unfold wideWriteBytes in refl)) (rw (k .wide) (wide-words-back w (h .epoch) (h .block))) (k .same-wide)))
+    spelled
 
 module _ (f : File) (rules : List Rule) (tests : List Test) (room : length tests < mostTests) where
   -- with this much of a test read, whether or not it has begun
@@ -124,70 +169,82 @@ module _ (f : File) (rules : List Rule) (tests : List Test) (room : length tests
   During rest t = (b : Bool) → Gives rest (progress rules tests b t) f
 
   -- a field of a test is its first, or within its limit
-  fine : (tag : ℕ) (body : List ℕ) (t : Test) (b : Bool) → isTag tag ≡ true → eqb tag 3 ≡ false → length body ≡ bodyLength tag
-      → outOfOrder tag (countsOf (progress rules tests b t)) ≡ false → overTest tag (countsOf (progress rules tests b t)) ≡ false
+  fine : (tag : ℕ) (body : List ℕ) (t : Test) (b : Bool) → isTag tag ≡ true → eqb (kindOf tag) 3 ≡ false → length body ≡ bodyLength tag
+      → outOfOrder (kindOf tag) (countsOf (progress rules tests b t)) ≡ false → overTest (kindOf tag) (countsOf (progress rules tests b t)) ≡ false
       → Fine tag body (countsOf (progress rules tests b t))
-  unfolding countsOf overLimit bodyFault
+  unfolding countsOf overLimit bodyFault isRule
   fine tag body t b k n z o l = record { known = k; size = z; order = o; limit = rw n (go b _ l); fault = rw n }
     where
       go : (b over : Bool) → over ≡ false → cond b over (leb mostTests (length tests)) ≡ false
       go true over e = e
       go false over e = lt-leb mostTests (length tests) room
 
-  gives-initial : (w : Write) (done : List Write) (rest : List ℕ) → WriteFits w → length done < mostInitial
-      → During rest (test (done ++ (w ∷ [])) [] []) → During (writeField 1 w ++ rest) (test done [] [])
-  unfolding grown countsOf isTag bodyLength outOfOrder overTest writeBytes
-  gives-initial w done rest h l g b =
-      gives-field 1 (writeBytes w) rest (progress rules tests b (test done [] [])) f
-      (fine 1 (writeBytes w) (test done [] []) b refl refl refl refl (lt-leb mostInitial (length done) l)) (rw (write-back w h) (g true))
+  gives-initial : (w : Write) (one : List ℕ) (done : List Write) (rest : List ℕ) → SpellsWrite 1 w one → WriteFits w → length done < mostInitial
+      → During rest (test (done ++ (w ∷ [])) [] []) → During (one ++ rest) (test done [] [])
+  gives-initial w one done rest spelled h l g b =
+      by-spelling 1 initial-twofold w one spelled h (λ s. Gives (s ++ rest) (progress rules tests b (test done [] [])) f)
+      (λ tag body k z e q.
+      gives-field tag body rest (progress rules tests b (test done [] [])) f
+      (fine tag body (test done [] []) b k (rw q) z (unfold outOfOrder countsOf in rw q) (unfold overTest countsOf in rw q (lt-leb mostInitial (length done) l)))
+      (unfold grown in rw (q, e) (g true)))
 
-  gives-main : (initial : List Write) (w : Write) (done : List Write) (rest : List ℕ) → WriteFits w → length done < mostMain
-      → During rest (test initial (done ++ (w ∷ [])) []) → During (writeField 2 w ++ rest) (test initial done [])
-  unfolding grown countsOf isTag bodyLength outOfOrder overTest writeBytes
-  gives-main initial w done rest h l g b =
-      gives-field 2 (writeBytes w) rest (progress rules tests b (test initial done [])) f
-      (fine 2 (writeBytes w) (test initial done []) b refl refl refl refl (lt-leb mostMain (length done) l)) (rw (write-back w h) (g true))
+  gives-main : (initial : List Write) (w : Write) (one : List ℕ) (done : List Write) (rest : List ℕ) → SpellsWrite 2 w one → WriteFits w → length done < mostMain
+      → During rest (test initial (done ++ (w ∷ [])) []) → During (one ++ rest) (test initial done [])
+  gives-main initial w one done rest spelled h l g b =
+      by-spelling 2 main-twofold w one spelled h (λ s. Gives (s ++ rest) (progress rules tests b (test initial done [])) f)
+      (λ tag body k z e q.
+      gives-field tag body rest (progress rules tests b (test initial done [])) f
+      (fine tag body (test initial done []) b k (rw q) z (unfold outOfOrder countsOf in rw q) (unfold overTest countsOf in rw q (lt-leb mostMain (length done) l)))
+      (unfold grown in rw (q, e) (g true)))
 
-  gives-check : (initial main : List Write) (c : Check) (done : List Check) (rest : List ℕ) → CheckFits c → length done < mostChecks
-      → During rest (test initial main (done ++ (c ∷ []))) → During (checkFieldBytes c ++ rest) (test initial main done)
-  unfolding grown countsOf isTag isCheck bodyLength outOfOrder overTest checkFieldBytes checkOf CheckFits
-  gives-check initial main (Range a) done rest h l g b =
-      gives-field 4 (a ∷ []) rest (progress rules tests b (test initial main done)) f
-      (fine 4 (a ∷ []) (test initial main done) b refl refl refl refl (lt-leb mostChecks (length done) l)) (g true)
-  gives-check initial main (Pair a v d w) done rest h l g b =
+  gives-check : (initial main : List Write) (c : Check) (one : List ℕ) (done : List Check) (rest : List ℕ) → SpellsCheck c one → CheckFits c → length done < mostChecks
+      → During rest (test initial main (done ++ (c ∷ []))) → During (one ++ rest) (test initial main done)
+  unfolding grown countsOf isTag isWide kindOf isCheck bodyLength outOfOrder overTest SpellsCheck checkFieldBytes checkOf CheckFits
+  gives-check initial main (Range a) one done rest e h l g b =
+      rw e
+      (gives-field 4 (a ∷ []) rest (progress rules tests b (test initial main done)) f
+      (fine 4 (a ∷ []) (test initial main done) b refl refl refl refl (lt-leb mostChecks (length done) l)) (g true))
+  gives-check initial main (Pair a v d w) one done rest e h l g b =
       let body = a ∷ (bytes4 v ++ (d ∷ bytes4 w)) in
-      gives-field 5 body rest (progress rules tests b (test initial main done)) f
-      (fine 5 body (test initial main done) b refl refl refl refl (lt-leb mostChecks (length done) l)) (rw (pair-back a v d w (h .1) (h .3)) (g true))
-  gives-check initial main (Pointer a) done rest h l g b =
-      gives-field 6 (a ∷ []) rest (progress rules tests b (test initial main done)) f
-      (fine 6 (a ∷ []) (test initial main done) b refl refl refl refl (lt-leb mostChecks (length done) l)) (g true)
+      rw e
+      (gives-field 5 body rest (progress rules tests b (test initial main done)) f
+      (fine 5 body (test initial main done) b refl refl refl refl (lt-leb mostChecks (length done) l)) (rw (pair-back a v d w (h .1) (h .3)) (g true)))
+  gives-check initial main (Pointer a) one done rest e h l g b =
+      rw e
+      (gives-field 6 (a ∷ []) rest (progress rules tests b (test initial main done)) f
+      (fine 6 (a ∷ []) (test initial main done) b refl refl refl refl (lt-leb mostChecks (length done) l)) (g true))
 
   gives-end : (t : Test) (rest : List ℕ) → Gives rest (progress rules (tests ++ (t ∷ [])) false none) f → During (fieldBytes 7 [] ++ rest) t
-  unfolding grown countsOf isTag isCheck bodyLength outOfOrder overTest
+  unfolding grown countsOf isTag isWide kindOf isCheck bodyLength outOfOrder overTest
   gives-end t rest g b = gives-field 7 [] rest (progress rules tests b t) f (fine 7 [] t b refl refl refl refl refl) g
 
-  gives-test : (t : Test) (rest : List ℕ) → TestLimits t → TestFits t
-      → Gives rest (progress rules (tests ++ (t ∷ [])) false none) f → During (testBytes t ++ rest) none
-  unfolding testBytes
-  gives-test t rest l k g =
-      rw (append-assoc, append-assoc, append-assoc)
-      (run-on (write-run 1) WriteFits mostInitial (λ r done. During r (test done [] [])) gives-initial (t .initial) [] _ (k .initial) (omega arith)
-      (run-on (write-run 2) WriteFits mostMain (λ r done. During r (test (t .initial) done [])) (gives-main (t .initial)) (t .main) [] _ (k .main) (omega arith)
-      (run-on check-run CheckFits mostChecks (λ r done. During r (test (t .initial) (t .main) done)) (gives-check (t .initial) (t .main)) (t .checks) [] _ (k .checks) (omega arith)
+  gives-test : (t : Test) (one rest : List ℕ) → SpellsTest t one → TestLimits t → TestFits t
+      → Gives rest (progress rules (tests ++ (t ∷ [])) false none) f → During (one ++ rest) none
+  gives-test t one rest spelled l k g =
+      rw (spelled .whole, append-assoc, append-assoc, append-assoc)
+      (each-on (SpellsWrite 1) WriteFits mostInitial (λ r done. During r (test done [] [])) gives-initial (t .initial) (spelled .initial) [] _ (spelled .spells-initial) (k .initial) (omega (arith, l .initial))
+      (each-on (SpellsWrite 2) WriteFits mostMain (λ r done. During r (test (t .initial) done [])) (gives-main (t .initial)) (t .main) (spelled .main) [] _ (spelled .spells-main) (k .main) (omega (arith, l .main))
+      (each-on SpellsCheck CheckFits mostChecks (λ r done. During r (test (t .initial) (t .main) done)) (gives-check (t .initial) (t .main)) (t .checks) (spelled .checks) [] _ (spelled .spells-checks) (k .checks) (omega (arith, l .checks))
       (gives-end t rest g))))
 
 -- ---- files
 
--- the bytes of a file within the limits are read as that file
+-- the bytes of a file within the limits are read as that file, however its names are spelled
+pub read-spelled : (s : List ℕ) (f : File) → SpellsFile f s → FileLimits f → FileFits f → readOf s ≡ answer f
+unfolding readOf nothing
+read-spelled s f spelled l k =
+    all (suc (length s)) s 0 (spelled .whole) (let z : length s ≡ length (spelled .rules ++ spelled .tests) = ap length (spelled .whole) in omega arith)
+  where
+    all : Gives (spelled .rules ++ spelled .tests) (progress [] [] false none) f
+    all =
+        each-on SpellsRule RuleFits mostRules (λ rest done. Gives rest (progress done [] false none) f) (gives-rule f) (f .rules) (spelled .rules) [] (spelled .tests) (spelled .spells-rules) (k .rules) (omega (arith, l .rules))
+        (rw append-nil at
+        (each-on SpellsTest (λ t. TestLimits t × TestFits t) mostTests (λ rest done. Gives rest (progress (f .rules) done false none) f)
+        (λ t one done rest sp h room g. gives-test f (f .rules) done room t one rest sp (h .0) (h .1) g false)
+        (f .tests) (spelled .tests) [] [] (spelled .spells-tests) (λ t m. (l .each t m, k .tests t m)) (omega (arith, l .tests)) (gives-done (f .rules) (f .tests))))
+
 pub read-bytes : (f : File) → FileLimits f → FileFits f → readOf (fileBytes f) ≡ answer f
-unfolding readOf nothing fileBytes
-read-bytes f l k =
-    run-on rule-run RuleFits mostRules (λ rest done. Gives rest (progress done [] false none) f) (gives-rule f) (f .rules) [] _ (k .rules) (omega arith)
-    (rw append-nil at
-    (run-on test-run (λ t. TestLimits t × TestFits t) mostTests (λ rest done. Gives rest (progress (f .rules) done false none) f)
-    (λ t done rest h room g. gives-test f (f .rules) done room t rest (h .0) (h .1) g false)
-    (f .tests) [] [] (λ t m. (l .each t m, k .tests t m)) (omega arith) (gives-done (f .rules) (f .tests))))
-    (suc (length (fileBytes f))) (fileBytes f) 0 refl (omega arith)
+read-bytes f = read-spelled (fileBytes f) f (file-shortest f)
 
 -- a test alone
 pub one-test : (t : Test) → TestLimits t → TestFits t → readOf (testBytes t) ≡ answer (file [] (t ∷ []))

@@ -1,1 +1,4 @@
+pub mod Before
+pub mod Rewrite
 pub mod Theorem
+pub mod Examples

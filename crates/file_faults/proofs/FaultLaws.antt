@@ -5,10 +5,32 @@ use mathlib.Core.List.{List}
 use Prim.Native.Nat.{ℕ, _+_, _-_, _≤_, _<_}
 use native.Mathlib.Omega.{arith}
 use lib.ListN.{length, take, drop}
+use lib.Dec.{eqb}
 use borrow.Author.Tests.{eq-eqb, ne-eqb, lt-ltb, le-ltb, not-true, not-false}
+use Rattle.model.specs.declared.Rule.{Rule}
 use Rattle.file_format.specs.declared.Counts.{Counts}
 use Rattle.file_format.specs.Bytes.{byte, half}
-use Rattle.file_format.specs.File.{isTag, bodyLength, outOfOrder, overLimit, bodyFault, faultOf, headLength}
+use Rattle.file_format.specs.File.{isTag, isRule, kindOf, bodyLength, ruleOf, ruleFault, outOfOrder, overLimit, bodyFault, faultOf, headLength}
+
+-- ---- one body
+
+pub rule-kind : (tag k : ℕ) → k ≡ kindOf tag → eqb k 3 ≡ isRule tag
+unfolding isRule
+rule-kind tag k e = rw e
+
+module _ (tag : ℕ) (b : List ℕ) (t : Bool) (e : t ≡ isRule tag) where
+  pub so-rule : t ≡ true → isRule tag ≡ true
+  so-rule q = sym e ∙ q
+
+  pub rule-body : (r : Rule) (n : ℕ) → t ≡ true → r ≡ ruleOf tag b → n ≡ ruleFault r → n ≡ bodyFault tag b
+  unfolding bodyFault
+  rule-body r n q f g = g ∙ rw (← e, q, f)
+
+  pub other-body : t ≡ false → 0 ≡ bodyFault tag b
+  unfolding bodyFault
+  other-body q = rw (← e, q)
+
+-- ---- one field
 
 module _ (s : List ℕ) (at : ℕ) (c : Counts) where
   pub short : length s - at < headLength → 1 ≡ faultOf s at c
@@ -19,22 +41,22 @@ module _ (s : List ℕ) (at : ℕ) (c : Counts) where
   unfolding faultOf
   no-tag t h e q = rw (le-ltb _ _ h, ← e, not-true t q)
 
-  pub misplaced : (t o : Bool) → headLength ≤ length s - at → t ≡ isTag (byte s at) → not t ≡ false → o ≡ outOfOrder (byte s at) c → o ≡ true → 4 ≡ faultOf s at c
+  pub misplaced : (t o : Bool) (k : ℕ) → headLength ≤ length s - at → t ≡ isTag (byte s at) → not t ≡ false → k ≡ kindOf (byte s at) → o ≡ outOfOrder k c → o ≡ true → 4 ≡ faultOf s at c
   unfolding faultOf
-  misplaced t o h e q f g = rw (le-ltb _ _ h, ← e, not-false t q, ← f, g)
+  misplaced t o k h e q z f g = rw (le-ltb _ _ h, ← e, not-false t q, ← z, ← f, g)
 
-  pub too-many : (t o l : Bool) → headLength ≤ length s - at → t ≡ isTag (byte s at) → not t ≡ false → o ≡ outOfOrder (byte s at) c → o ≡ false
-      → l ≡ overLimit (byte s at) c → l ≡ true → 6 ≡ faultOf s at c
+  pub too-many : (t o l : Bool) (k : ℕ) → headLength ≤ length s - at → t ≡ isTag (byte s at) → not t ≡ false → k ≡ kindOf (byte s at) → o ≡ outOfOrder k c → o ≡ false
+      → l ≡ overLimit k c → l ≡ true → 6 ≡ faultOf s at c
   unfolding faultOf
-  too-many t o l h e q f g i j = rw (le-ltb _ _ h, ← e, not-false t q, ← f, g, ← i, j)
+  too-many t o l k h e q z f g i j = rw (le-ltb _ _ h, ← e, not-false t q, ← z, ← f, g, ← i, j)
 
   -- the field is known, in order and within the limits
   abbrev Fit : Type 0
-  Fit = (headLength ≤ length s - at) × (isTag (byte s at) ≡ true) × (outOfOrder (byte s at) c ≡ false) × (overLimit (byte s at) c ≡ false)
+  Fit = (headLength ≤ length s - at) × (isTag (byte s at) ≡ true) × (outOfOrder (kindOf (byte s at)) c ≡ false) × (overLimit (kindOf (byte s at)) c ≡ false)
 
-  pub fit : (t o l : Bool) → headLength ≤ length s - at → t ≡ isTag (byte s at) → not t ≡ false → o ≡ outOfOrder (byte s at) c → o ≡ false
-      → l ≡ overLimit (byte s at) c → l ≡ false → Fit
-  fit t o l h e q f g i j = (h, sym e ∙ not-false t q, sym f ∙ g, sym i ∙ j)
+  pub fit : (t o l : Bool) (k : ℕ) → headLength ≤ length s - at → t ≡ isTag (byte s at) → not t ≡ false → k ≡ kindOf (byte s at) → o ≡ outOfOrder k c → o ≡ false
+      → l ≡ overLimit k c → l ≡ false → Fit
+  fit t o l k h e q z f g i j = (h, sym e ∙ not-false t q, rw (← z) (sym f ∙ g), rw (← z) (sym i ∙ j))
 
   pub wrong-length : (m n : ℕ) → Fit → m ≡ half s (at + 1) → n ≡ bodyLength (byte s at) → (m ≡ n → ⊥) → 3 ≡ faultOf s at c
   unfolding faultOf
@@ -51,4 +73,4 @@ module _ (s : List ℕ) (at : ℕ) (c : Counts) where
       let z : at + headLength + n - (at + headLength) ≡ n = omega arith in
       rw (le-ltb _ _ (h .0), h .1, h .2, h .3, ← e, ← f, eq-eqb m n g, le-ltb _ _ l) (rw z at q)
 
-pub ruleset faults = (short, no-tag, misplaced, too-many, fit, wrong-length, body-cut, body-read)
+pub ruleset faults = (rule-kind, so-rule, rule-body, other-body, short, no-tag, misplaced, too-many, fit, wrong-length, body-cut, body-read)

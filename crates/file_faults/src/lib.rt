@@ -1,9 +1,10 @@
 // What is wrong with a field, by its refusal's number: unknown tags, order, limits, lengths, predicates.
 use file_format::Counts;
+use model::Rule;
 ghost use mathlib.Core.Path.{_≡_};
 ghost use Prim.Native.Nat.{_<_};
 ghost use lib.ListN.{length};
-ghost use Rattle.file_format.specs.File.{ruleLength, isTag, isCheck, bodyLength, outOfOrder, overLimit, overTest, ruleFault, bodyFault, faultOf};
+ghost use Rattle.file_format.specs.File.{isTag, isRule, isCheck, bodyLength, outOfOrder, overLimit, overTest, ruleFault, bodyFault, faultOf};
 
 fn is_tag(tag: u8) -> bool
     ensures { λ r. ⌜ r ≡ isTag tag ⌝ }
@@ -11,7 +12,13 @@ fn is_tag(tag: u8) -> bool
     if tag < 1 {
         return false;
     }
-    tag <= 7
+    tag <= file_format::LAST_TAG
+}
+
+fn is_rule(tag: u8) -> bool
+    ensures { λ r. ⌜ r ≡ isRule tag ⌝ }
+{
+    file_format::kind_of(tag) == 3
 }
 
 fn is_check(tag: u8) -> bool
@@ -23,60 +30,59 @@ fn is_check(tag: u8) -> bool
     tag <= 6
 }
 
-fn out_of_order(tag: u8, c: Counts) -> bool
-    ensures { λ r. ⌜ r ≡ outOfOrder tag c ⌝ }
+fn out_of_order(kind: u8, c: Counts) -> bool
+    ensures { λ r. ⌜ r ≡ outOfOrder kind c ⌝ }
 {
-    if tag == 3 {
+    if kind == 3 {
         if c.begun {
             return true;
         }
         return 0 < c.tests;
     }
-    if tag == 1 {
+    if kind == 1 {
         if 0 < c.main {
             return true;
         }
         return 0 < c.checks;
     }
-    if tag == 2 {
+    if kind == 2 {
         return 0 < c.checks;
     }
     false
 }
 
-fn over_test(tag: u8, c: Counts) -> bool
-    ensures { λ r. ⌜ r ≡ overTest tag c ⌝ }
+fn over_test(kind: u8, c: Counts) -> bool
+    ensures { λ r. ⌜ r ≡ overTest kind c ⌝ }
 {
-    if tag == 1 {
+    if kind == 1 {
         return model::MOST_INITIAL <= c.initial;
     }
-    if tag == 2 {
+    if kind == 2 {
         return model::MOST_MAIN <= c.main;
     }
-    if is_check(tag) {
+    if is_check(kind) {
         return model::MOST_CHECKS <= c.checks;
     }
     false
 }
 
-fn over_limit(tag: u8, c: Counts) -> bool
-    ensures { λ r. ⌜ r ≡ overLimit tag c ⌝ }
+fn over_limit(kind: u8, c: Counts) -> bool
+    ensures { λ r. ⌜ r ≡ overLimit kind c ⌝ }
 {
-    if tag == 3 {
+    if kind == 3 {
         return model::MOST_RULES <= c.rules;
     }
     if c.begun {
-        return over_test(tag, c);
+        return over_test(kind, c);
     }
     model::MOST_TESTS <= c.tests
 }
 
-// The reader of a rule's body: the refusal of an unknown predicate.
-fn rule_fault(body: &[u8]) -> u8
-    requires { ⌜ length (now body) ≡ ruleLength ⌝ }
-    ensures { λ r. ⌜ r ≡ ruleFault (now (body .entry)) ⌝ }
+// The refusal of an unknown predicate.
+fn rule_fault(rule: Rule) -> u8
+    ensures { λ r. ⌜ r ≡ ruleFault rule ⌝ }
 {
-    if 2 < body[1] {
+    if 2 < rule.predicate {
         return 5;
     }
     0
@@ -86,8 +92,8 @@ fn body_fault(tag: u8, body: &[u8]) -> u8
     requires { ⌜ length (now body) ≡ bodyLength tag ⌝ }
     ensures { λ r. ⌜ r ≡ bodyFault tag (now (body .entry)) ⌝ }
 {
-    if tag == 3 {
-        return rule_fault(body);
+    if is_rule(tag) {
+        return rule_fault(file_fields::read_rule(tag, body));
     }
     0
 }
@@ -105,10 +111,11 @@ pub fn fault(s: &[u8], at: usize, c: Counts) -> u8
     if !is_tag(tag) {
         return 2;
     }
-    if out_of_order(tag, c) {
+    let kind = file_format::kind_of(tag);
+    if out_of_order(kind, c) {
         return 4;
     }
-    if over_limit(tag, c) {
+    if over_limit(kind, c) {
         return 6;
     }
     let n = file_format::body_length(tag);

@@ -21,6 +21,10 @@ half s i = byte s i * 256 + byte s (i + 1)
 unfoldable pub word : List ℕ → ℕ → ℕ
 word s i = half s i * 65536 + half s (i + 2)
 
+-- a number below 65,536 in two bytes
+abbrev pub bytes2 : ℕ → List ℕ
+bytes2 n = n / 256 ∷ n % 256 ∷ []
+
 -- a number in four bytes
 abbrev pub bytes4 : ℕ → List ℕ
 bytes4 n = n / 16777216 % 256 ∷ n / 65536 % 256 ∷ n / 256 % 256 ∷ n % 256 ∷ []
@@ -41,9 +45,17 @@ unfoldable pub blocksOf : List ℕ → List ℕ
 blocksOf disk = tabulate (blockIn disk) diskBlocks
 
 -- tag 02's body: address 1, name 1, epoch 4, first 2, second 2
-unfoldable pub writeBytes : Write → List ℕ
-writeBytes w = w .address ∷ w .name ∷ (bytes4 (w .epoch) ++ bytes4 (w .block))
+unfoldable pub narrowWriteBytes : Write → List ℕ
+narrowWriteBytes w = w .address ∷ w .name ∷ (bytes4 (w .epoch) ++ bytes4 (w .block))
+
+-- tag 09's (02, [2]), and a write's in a state: the same with a name of two bytes
+unfoldable pub wideWriteBytes : Write → List ℕ
+wideWriteBytes w = w .address ∷ (bytes2 (w .name) ++ (bytes4 (w .epoch) ++ bytes4 (w .block)))
 
 -- tag 03's: name, predicate, name
-unfoldable pub ruleBytes : Rule → List ℕ
-ruleBytes r = r .first ∷ r .predicate ∷ r .second ∷ []
+unfoldable pub narrowRuleBytes : Rule → List ℕ
+narrowRuleBytes r = r .first ∷ r .predicate ∷ r .second ∷ []
+
+-- tag 0A's, and a rule's in a state: the same with names of two bytes
+unfoldable pub wideRuleBytes : Rule → List ℕ
+wideRuleBytes r = bytes2 (r .first) ++ (r .predicate ∷ bytes2 (r .second))

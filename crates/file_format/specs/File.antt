@@ -14,29 +14,54 @@ use Rattle.model.specs.Test.{Test, test, File, file}
 use Rattle.file_format.specs.declared.Counts.{Counts}
 use Rattle.file_format.specs.Bytes.{byte, half, word}
 
--- ---- fields. Tags: 1 initial write, 2 main write, 3 rule, 4 range, 5 pair, 6 pointer, 7 end of test
+-- ---- fields. Tags: 1 initial write, 2 main write, 3 rule, 4 range, 5 pair, 6 pointer, 7 end of test; 8, 9 and 10 are 1, 2 and 3 with names of
+-- two bytes (02, [2])
+
+-- the last of the tags of document 01, and the last of all
+abbrev pub endTag : ℕ
+endTag = 7
+
+abbrev pub lastTag : ℕ
+lastTag = 10
 
 unfoldable pub isTag : ℕ → Bool
-isTag tag = leb 1 tag && leb tag 7
+isTag tag = leb 1 tag && leb tag lastTag
 
+-- a tag is *new*, that is, its names are of two bytes
+unfoldable pub isWide : ℕ → Bool
+isWide tag = ltb endTag tag
+
+-- a field's *kind*: the tag of document 01 that it has, or has with other names. Order and limits go by it, so that they count old and new tags
+-- together
+unfoldable pub kindOf : ℕ → ℕ
+kindOf tag = cond (isWide tag) (tag - endTag) tag
+
+-- a field that holds a write, a rule, a check
 unfoldable pub isWrite : ℕ → Bool
-isWrite tag = leb 1 tag && leb tag 2
+isWrite tag = leb 1 (kindOf tag) && leb (kindOf tag) 2
 
 unfoldable pub isRule : ℕ → Bool
-isRule tag = eqb tag 3
+isRule tag = eqb (kindOf tag) 3
 
 unfoldable pub isCheck : ℕ → Bool
 isCheck tag = leb 4 tag && leb tag 6
 
--- the bytes of a field before its body, and those of a body: a rule's, a write's, a pair check's, and one address; no body is longer than a write's
+-- the bytes of a field before its body, and those of a body: a rule's and a write's with names of one byte and of two, a pair check's, and one
+-- address; no body is longer than a write's with a name of two bytes
 abbrev pub headLength : ℕ
 headLength = 3
 
-abbrev pub ruleLength : ℕ
-ruleLength = 3
+abbrev pub narrowRuleLength : ℕ
+narrowRuleLength = 3
 
-abbrev pub writeLength : ℕ
-writeLength = 10
+abbrev pub wideRuleLength : ℕ
+wideRuleLength = 5
+
+abbrev pub narrowWriteLength : ℕ
+narrowWriteLength = 10
+
+abbrev pub wideWriteLength : ℕ
+wideWriteLength = 11
 
 abbrev pub pairLength : ℕ
 pairLength = 10
@@ -46,27 +71,44 @@ addressLength = 1
 
 -- the bytes of a put's fields, which are two writes, and those of a range check and an end of test
 abbrev pub putLength : ℕ
-putLength = 2 * (headLength + writeLength)
+putLength = 2 * (headLength + narrowWriteLength)
 
 abbrev pub endLength : ℕ
 endLength = headLength + addressLength + headLength
 
 unfoldable pub bodyLength : ℕ → ℕ
 bodyLength tag =
-    cond (eqb tag 3) ruleLength
+    cond (eqb tag 3) narrowRuleLength
     (cond (eqb tag 4) addressLength
     (cond (eqb tag 5) pairLength
     (cond (eqb tag 6) addressLength
     (cond (eqb tag 7) 0
-    writeLength))))
+    (cond (eqb tag 8) wideWriteLength
+    (cond (eqb tag 9) wideWriteLength
+    (cond (eqb tag 10) wideRuleLength
+    narrowWriteLength)))))))
 
 -- a write's body: address 1, name 1, epoch 4, first 2, second 2
-unfoldable pub writeOf : List ℕ → Write
-writeOf b = record { address = byte b 0; name = byte b 1; epoch = word b 2; block = word b 6 }
+unfoldable pub narrowWrite : List ℕ → Write
+narrowWrite b = record { address = byte b 0; name = byte b 1; epoch = word b 2; block = word b 6 }
+
+-- .., with a name of two bytes
+unfoldable pub wideWrite : List ℕ → Write
+wideWrite b = record { address = byte b 0; name = half b 1; epoch = word b 3; block = word b 7 }
+
+unfoldable pub writeOf : ℕ → List ℕ → Write
+writeOf tag b = cond (isWide tag) (wideWrite b) (narrowWrite b)
 
 -- a rule's: name, predicate, name
-unfoldable pub ruleOf : List ℕ → Rule
-ruleOf b = record { first = byte b 0; predicate = byte b 1; second = byte b 2 }
+unfoldable pub narrowRule : List ℕ → Rule
+narrowRule b = record { first = byte b 0; predicate = byte b 1; second = byte b 2 }
+
+-- .., with names of two bytes
+unfoldable pub wideRule : List ℕ → Rule
+wideRule b = record { first = half b 0; predicate = byte b 2; second = half b 3 }
+
+unfoldable pub ruleOf : ℕ → List ℕ → Rule
+ruleOf tag b = cond (isWide tag) (wideRule b) (narrowRule b)
 
 -- a check's: range a; pair a, v, b, w; pointer a
 unfoldable pub checkOf : ℕ → List ℕ → Check
@@ -97,32 +139,32 @@ countsOf p =
 
 -- ---- refusals of one field
 
--- 4: a rule once a test has begun, an 01 after its test's 02 or check, an 02 after its test's check
+-- 4, by its kind: a rule once a test has begun, an 01 after its test's 02 or check, an 02 after its test's check
 unfoldable pub outOfOrder : ℕ → Counts → Bool
-outOfOrder tag c =
-    cond (eqb tag 3) (c .begun || ltb 0 (c .tests))
-    (cond (eqb tag 1) (ltb 0 (c .main) || ltb 0 (c .checks))
-    (cond (eqb tag 2) (ltb 0 (c .checks))
+outOfOrder kind c =
+    cond (eqb kind 3) (c .begun || ltb 0 (c .tests))
+    (cond (eqb kind 1) (ltb 0 (c .main) || ltb 0 (c .checks))
+    (cond (eqb kind 2) (ltb 0 (c .checks))
     false))
 
--- 6, within a test: its initial writes, main writes and checks
+-- 6, within a test, by its kind: its initial writes, main writes and checks
 unfoldable pub overTest : ℕ → Counts → Bool
-overTest tag c =
-    cond (eqb tag 1) (leb mostInitial (c .initial))
-    (cond (eqb tag 2) (leb mostMain (c .main))
-    (cond (isCheck tag) (leb mostChecks (c .checks))
+overTest kind c =
+    cond (eqb kind 1) (leb mostInitial (c .initial))
+    (cond (eqb kind 2) (leb mostMain (c .main))
+    (cond (isCheck kind) (leb mostChecks (c .checks))
     false))
 
--- 6: rules and tests; one test too many is refused at its first field
+-- 6, by its kind: rules and tests; one test too many is refused at its first field
 unfoldable pub overLimit : ℕ → Counts → Bool
-overLimit tag c = cond (eqb tag 3) (leb mostRules (c .rules)) (cond (c .begun) (overTest tag c) (leb mostTests (c .tests)))
+overLimit kind c = cond (eqb kind 3) (leb mostRules (c .rules)) (cond (c .begun) (overTest kind c) (leb mostTests (c .tests)))
 
 -- 5: a predicate above 2
-unfoldable pub ruleFault : List ℕ → ℕ
-ruleFault b = cond (ltb 2 (byte b 1)) 5 0
+unfoldable pub ruleFault : Rule → ℕ
+ruleFault r = cond (ltb 2 (r .predicate)) 5 0
 
 unfoldable pub bodyFault : ℕ → List ℕ → ℕ
-bodyFault tag b = cond (eqb tag 3) (ruleFault b) 0
+bodyFault tag b = cond (isRule tag) (ruleFault (ruleOf tag b)) 0
 
 -- the body of the field at a place
 abbrev pub bodyAt : List ℕ → ℕ → List ℕ
@@ -134,8 +176,8 @@ unfoldable pub faultOf : List ℕ → ℕ → Counts → ℕ
 faultOf s at c =
     cond (ltb (length s - at) headLength) 1
     (cond (not (isTag (byte s at))) 2
-    (cond (outOfOrder (byte s at) c) 4
-    (cond (overLimit (byte s at) c) 6
+    (cond (outOfOrder (kindOf (byte s at)) c) 4
+    (cond (overLimit (kindOf (byte s at)) c) 6
     (cond (not (eqb (half s (at + 1)) (bodyLength (byte s at)))) 3
     (cond (ltb (length s - (at + headLength)) (bodyLength (byte s at))) 1
     (bodyFault (byte s at) (bodyAt s at)))))))
@@ -146,10 +188,11 @@ faultOf s at c =
 unfoldable pub grown : ℕ → List ℕ → Progress → Progress
 grown tag b p =
     let t = p .current in
-    cond (eqb tag 3) (progress (p .rules ++ (ruleOf b ∷ [])) (p .tests) (p .begun) t)
-    (cond (eqb tag 1) (progress (p .rules) (p .tests) true (test (t .initial ++ (writeOf b ∷ [])) (t .main) (t .checks)))
-    (cond (eqb tag 2) (progress (p .rules) (p .tests) true (test (t .initial) (t .main ++ (writeOf b ∷ [])) (t .checks)))
-    (cond (eqb tag 7) (progress (p .rules) (p .tests ++ (t ∷ [])) false (test [] [] []))
+    let kind = kindOf tag in
+    cond (eqb kind 3) (progress (p .rules ++ (ruleOf tag b ∷ [])) (p .tests) (p .begun) t)
+    (cond (eqb kind 1) (progress (p .rules) (p .tests) true (test (t .initial ++ (writeOf tag b ∷ [])) (t .main) (t .checks)))
+    (cond (eqb kind 2) (progress (p .rules) (p .tests) true (test (t .initial) (t .main ++ (writeOf tag b ∷ [])) (t .checks)))
+    (cond (eqb kind 7) (progress (p .rules) (p .tests ++ (t ∷ [])) false (test [] [] []))
     (progress (p .rules) (p .tests) true (test (t .initial) (t .main) (t .checks ++ (checkOf tag b ∷ [])))))))
 
 -- 7, at the end: test not ended

@@ -14,15 +14,15 @@ use Rattle.file_format.specs.declared.Counts.{Counts}
 use Rattle.file_format.specs.declared.Extent.{Extent}
 use Rattle.file_format.specs.declared.ScanState.{ScanState}
 use Rattle.file_format.specs.Bytes.{byte}
-use Rattle.file_format.specs.File.{faultOf, fieldEnd, bodyAt, ruleOf, writeOf, checkOf}
+use Rattle.file_format.specs.File.{kindOf, faultOf, fieldEnd, bodyAt, ruleOf, writeOf, checkOf}
 
 -- ---- fields by their places
 
 unfoldable pub ruleField : List ℕ → ℕ → Rule
-ruleField s at = ruleOf (bodyAt s at)
+ruleField s at = ruleOf (byte s at) (bodyAt s at)
 
 unfoldable pub writeField : List ℕ → ℕ → Write
-writeField s at = writeOf (bodyAt s at)
+writeField s at = writeOf (byte s at) (bodyAt s at)
 
 unfoldable pub checkField : List ℕ → ℕ → Check
 checkField s at = checkOf (byte s at) (bodyAt s at)
@@ -67,18 +67,18 @@ abbrev pub counts : ℕ → ℕ → Bool → ℕ → ℕ → ℕ → Counts
 counts rules tests begun initial main checks =
     record { rules = rules; tests = tests; begun = begun; initial = initial; main = main; checks = checks }
 
--- the counts after one more field
+-- the counts after one more field of a kind
 unfoldable pub counted : ℕ → Counts → Counts
-counted tag c =
-    cond (eqb tag 3) (counts (c .rules + 1) (c .tests) (c .begun) (c .initial) (c .main) (c .checks))
-    (cond (eqb tag 1) (counts (c .rules) (c .tests) true (c .initial + 1) (c .main) (c .checks))
-    (cond (eqb tag 2) (counts (c .rules) (c .tests) true (c .initial) (c .main + 1) (c .checks))
-    (cond (eqb tag 7) (counts (c .rules) (c .tests + 1) false 0 0 0)
+counted kind c =
+    cond (eqb kind 3) (counts (c .rules + 1) (c .tests) (c .begun) (c .initial) (c .main) (c .checks))
+    (cond (eqb kind 1) (counts (c .rules) (c .tests) true (c .initial + 1) (c .main) (c .checks))
+    (cond (eqb kind 2) (counts (c .rules) (c .tests) true (c .initial) (c .main + 1) (c .checks))
+    (cond (eqb kind 7) (counts (c .rules) (c .tests + 1) false 0 0 0)
     (counts (c .rules) (c .tests) true (c .initial) (c .main) (c .checks + 1)))))
 
 -- where the test in hand begins: behind the last rule or the last end of test
 unfoldable pub testFrom : ℕ → ℕ → ℕ → ℕ
-testFrom tag from next = cond (eqb tag 3) next (cond (eqb tag 7) next from)
+testFrom kind from next = cond (eqb kind 3) next (cond (eqb kind 7) next from)
 
 -- where the test in hand stands
 abbrev pub inHand : ScanState → Extent
@@ -86,10 +86,10 @@ inHand st = extent (st .from) (st .counts .initial) (st .counts .main) (st .coun
 
 -- where the finished tests stand, once the end of one more is read
 unfoldable pub found : ℕ → ScanState → List Extent → List Extent
-found tag st tests = cond (eqb tag 7) (tests ++ (inHand st ∷ [])) tests
+found kind st tests = cond (eqb kind 7) (tests ++ (inHand st ∷ [])) tests
 
 unfoldable pub advanced : ℕ → ℕ → ScanState → ScanState
-advanced tag next st = record { counts = counted tag (st .counts); from = testFrom tag (st .from) next }
+advanced kind next st = record { counts = counted kind (st .counts); from = testFrom kind (st .from) next }
 
 -- what a scan gives: how many rules a file has, and where each of its tests stands
 pub record Places : Type 0 where
@@ -106,7 +106,8 @@ unfoldable pub scanFrom : ℕ → List ℕ → ℕ → ScanState → List Extent
 scanFrom zero s at st tests = refused 0 0
 scanFrom (suc fuel) s at st tests =
     let fault = faultOf s at (st .counts) in
-    let rest = scanFrom fuel s (fieldEnd s at) (advanced (byte s at) (fieldEnd s at) st) (found (byte s at) st tests) in
+    let kind = kindOf (byte s at) in
+    let rest = scanFrom fuel s (fieldEnd s at) (advanced kind (fieldEnd s at) st) (found kind st tests) in
     cond (ltb at (length s)) (cond (eqb fault 0) rest (refused fault at)) (ended (length s) st tests)
 
 unfoldable pub started : ScanState

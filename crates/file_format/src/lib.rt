@@ -5,27 +5,38 @@ ghost use mathlib.Core.Path.{_≡_};
 ghost use Prim.Native.Nat.{_+_, _<_, _≤_};
 ghost use lib.ListN.{length};
 ghost use Rattle.file_format.specs.Bytes.{half, word};
-ghost use Rattle.file_format.specs.File.{writeLength, bodyLength, fieldEnd};
+ghost use Rattle.file_format.specs.File.{endTag, wideWriteLength, kindOf, isWide, bodyLength, fieldEnd};
 
-// The bytes of a field before its body, and those of a body: a rule's, a write's, a pair check's, and
-// one address.
+// The last tag of document 01, and the last of all: 8, 9 and 10 are 1, 2 and 3 with names of two bytes.
+pub const END_TAG: u8 = 7;
+
+pub const LAST_TAG: u8 = 10;
+
+// The bytes of a field before its body, and those of a body: a rule's and a write's with names of one
+// byte and of two, a pair check's, and one address.
 pub const HEAD_LENGTH: usize = 3;
 
-pub const RULE_LENGTH: usize = 3;
+pub const NARROW_RULE_LENGTH: usize = 3;
 
-pub const WRITE_LENGTH: usize = 10;
+pub const WIDE_RULE_LENGTH: usize = 5;
+
+pub const NARROW_WRITE_LENGTH: usize = 10;
+
+pub const WIDE_WRITE_LENGTH: usize = 11;
 
 pub const PAIR_LENGTH: usize = 10;
 
 pub const ADDRESS_LENGTH: usize = 1;
 
 // The same as the second byte of a field's length.
-pub const RULE_LENGTH_BYTE: u8 = RULE_LENGTH as u8;
+pub const NARROW_RULE_LENGTH_BYTE: u8 = NARROW_RULE_LENGTH as u8;
 
-pub const WRITE_LENGTH_BYTE: u8 = WRITE_LENGTH as u8;
+pub const WIDE_RULE_LENGTH_BYTE: u8 = WIDE_RULE_LENGTH as u8;
+
+pub const NARROW_WRITE_LENGTH_BYTE: u8 = NARROW_WRITE_LENGTH as u8;
 
 // Those of a put's two fields, and of a range check's field and an end of test.
-pub const PUT_LENGTH: usize = 2 * (HEAD_LENGTH + WRITE_LENGTH);
+pub const PUT_LENGTH: usize = 2 * (HEAD_LENGTH + NARROW_WRITE_LENGTH);
 
 pub const END_LENGTH: usize = HEAD_LENGTH + ADDRESS_LENGTH + HEAD_LENGTH;
 
@@ -85,12 +96,29 @@ pub fn half_at(s: &[u8], i: usize) -> usize
     wide(s[i]) * 256 + wide(s[i + 1])
 }
 
-// How long the body of a field with this tag is.
+// Whether the names of a field with this tag are of two bytes.
+pub fn is_wide(tag: u8) -> bool
+    ensures { λ r. ⌜ r ≡ isWide tag ⌝ }
+{
+    END_TAG < tag
+}
+
+// Its kind: the tag with names of one byte that holds the same.
+pub fn kind_of(tag: u8) -> u8
+    ensures { λ r. ⌜ r ≡ kindOf tag ⌝ }
+{
+    if END_TAG < tag {
+        return tag - END_TAG;
+    }
+    tag
+}
+
+// How long its body is.
 pub fn body_length(tag: u8) -> usize
-    ensures { λ r. ⌜ (r ≡ bodyLength tag) × (r ≤ writeLength) ⌝ }
+    ensures { λ r. ⌜ (r ≡ bodyLength tag) × (r ≤ wideWriteLength) ⌝ }
 {
     if tag == 3 {
-        return RULE_LENGTH;
+        return NARROW_RULE_LENGTH;
     }
     if tag == 4 {
         return ADDRESS_LENGTH;
@@ -104,7 +132,16 @@ pub fn body_length(tag: u8) -> usize
     if tag == 7 {
         return 0;
     }
-    WRITE_LENGTH
+    if tag == 8 {
+        return WIDE_WRITE_LENGTH;
+    }
+    if tag == 9 {
+        return WIDE_WRITE_LENGTH;
+    }
+    if tag == 10 {
+        return WIDE_RULE_LENGTH;
+    }
+    NARROW_WRITE_LENGTH
 }
 
 // Four bytes, big-endian.

@@ -12,16 +12,16 @@ use Rattle.relation.proofs.ListLaws.{or-none-right}
 use Rattle.model.specs.Limits.{mostRules, mostTests, mostInitial, mostMain, mostChecks}
 use Rattle.file_format.specs.declared.Counts.{Counts}
 use Rattle.file_format.specs.Bytes.{byte, half}
-use Rattle.file_format.specs.File.{headLength, ruleLength, isTag, isCheck, bodyLength, outOfOrder, overTest, overLimit, bodyFault, faultOf, fieldEnd, bodyAt}
+use Rattle.file_format.specs.File.{headLength, lastTag, isTag, isWide, kindOf, isCheck, bodyLength, outOfOrder, overTest, overLimit, bodyFault, faultOf, fieldEnd, bodyAt}
 use Rattle.file_format.specs.Scan.{counted}
-use Rattle.file_reader.specs.Limits.{Within, longestField, longestTest, longest}
+use Rattle.file_reader.specs.Limits.{Within, longestField, longestCheck, longestRule, longestTest, longest}
 
 -- what is known of a field that is not refused
 pub record Clean (s : List ℕ) (at : ℕ) (c : Counts) : Type 0 where
   pub whole : headLength ≤ length s - at
   pub tag : isTag (byte s at) ≡ true
-  pub order : outOfOrder (byte s at) c ≡ false
-  pub limit : overLimit (byte s at) c ≡ false
+  pub order : outOfOrder (kindOf (byte s at)) c ≡ false
+  pub limit : overLimit (kindOf (byte s at)) c ≡ false
   pub size : half s (at + 1) ≡ bodyLength (byte s at)
   pub room : bodyLength (byte s at) ≤ length s - (at + headLength)
   pub body : bodyFault (byte s at) (bodyAt s at) ≡ 0
@@ -36,8 +36,8 @@ module _ (s : List ℕ) (at : ℕ) (c : Counts) where
   clean e =
       let a = peel (ltb (length s - at) headLength) 0 _ e in
       let b = peel (not (isTag (byte s at))) 1 _ (a .1) in
-      let d = peel (outOfOrder (byte s at) c) 3 _ (b .1) in
-      let f = peel (overLimit (byte s at) c) 5 _ (d .1) in
+      let d = peel (outOfOrder (kindOf (byte s at)) c) 3 _ (b .1) in
+      let f = peel (overLimit (kindOf (byte s at)) c) 5 _ (d .1) in
       let g = peel (not (eqb (half s (at + 1)) (bodyLength (byte s at)))) 2 _ (f .1) in
       let h = peel (ltb (length s - (at + headLength)) (bodyLength (byte s at))) 0 _ (g .1) in
       record {
@@ -56,24 +56,32 @@ module _ (s : List ℕ) (at : ℕ) (c : Counts) where
       let a = k .whole in let b = k .room in
       omega arith
 
--- a tag is one of seven
-pub by-tag : (P : ℕ → Type 0) → P 1 → P 2 → P 3 → P 4 → P 5 → P 6 → P 7 → (tag : ℕ) → isTag tag ≡ true → P tag
+-- a tag is one of ten
+pub by-tag : (P : ℕ → Type 0) → P 1 → P 2 → P 3 → P 4 → P 5 → P 6 → P 7 → P 8 → P 9 → P 10 → (tag : ℕ) → isTag tag ≡ true → P tag
 unfolding isTag
-by-tag P a b c d e f g zero h = absurd (false≢true h)
-by-tag P a b c d e f g (suc zero) h = a
-by-tag P a b c d e f g (suc (suc zero)) h = b
-by-tag P a b c d e f g (suc (suc (suc zero))) h = c
-by-tag P a b c d e f g (suc (suc (suc (suc zero)))) h = d
-by-tag P a b c d e f g (suc (suc (suc (suc (suc zero))))) h = e
-by-tag P a b c d e f g (suc (suc (suc (suc (suc (suc zero)))))) h = f
-by-tag P a b c d e f g (suc (suc (suc (suc (suc (suc (suc zero))))))) h = g
-by-tag P a b c d e f g (suc (suc (suc (suc (suc (suc (suc (suc n)))))))) h =
-    let w = leb-true (suc (suc (suc (suc (suc (suc (suc (suc n)))))))) 7 (rest (leb 1 (suc (suc (suc (suc (suc (suc (suc (suc n))))))))) _ h) in
+by-tag P a b c d e f g h i j zero k = absurd (false≢true k)
+by-tag P a b c d e f g h i j (suc zero) k = a
+by-tag P a b c d e f g h i j (suc (suc zero)) k = b
+by-tag P a b c d e f g h i j (suc (suc (suc zero))) k = c
+by-tag P a b c d e f g h i j (suc (suc (suc (suc zero)))) k = d
+by-tag P a b c d e f g h i j (suc (suc (suc (suc (suc zero))))) k = e
+by-tag P a b c d e f g h i j (suc (suc (suc (suc (suc (suc zero)))))) k = f
+by-tag P a b c d e f g h i j (suc (suc (suc (suc (suc (suc (suc zero))))))) k = g
+by-tag P a b c d e f g h i j (suc (suc (suc (suc (suc (suc (suc (suc zero)))))))) k = h
+by-tag P a b c d e f g h i j (suc (suc (suc (suc (suc (suc (suc (suc (suc zero))))))))) k = i
+by-tag P a b c d e f g h i j (suc (suc (suc (suc (suc (suc (suc (suc (suc (suc zero)))))))))) k = j
+by-tag P a b c d e f g h i j (suc (suc (suc (suc (suc (suc (suc (suc (suc (suc (suc n))))))))))) k =
+    let w = leb-true (suc (suc (suc (suc (suc (suc (suc (suc (suc (suc (suc n))))))))))) lastTag (rest (leb 1 (suc (suc (suc (suc (suc (suc (suc (suc (suc (suc (suc n)))))))))))) _ k) in
     absurd (omega arith)
   where
     rest : (x y : Bool) → x && y ≡ true → y ≡ true
     rest true y q = q
     rest false y q = absurd (false≢true q)
+
+-- and its kind one of seven
+pub by-kind : (P : ℕ → Type 0) → P 1 → P 2 → P 3 → P 4 → P 5 → P 6 → P 7 → (tag : ℕ) → isTag tag ≡ true → P (kindOf tag)
+unfolding kindOf isWide
+by-kind P a b c d e f g = by-tag (λ tag. P (kindOf tag)) a b c d e f g a b c
 
 -- a field of a test: there is room for the test, and it is the test's first or within the test's limit
 room : (c : Counts) → Within c → (o : Bool) → cond (c .begun) o (leb mostTests (c .tests)) ≡ false
@@ -124,37 +132,37 @@ module _ (c : Counts) (w : Within c) where
       let h = r .0 in
       record { rules = w .rules; tests = omega arith; begun = λ q. absurd (false≢true q); initial = omega arith; main = omega arith; checks = omega arith; none = λ q. (refl, refl, refl) }
 
-  pub within-counted : (tag : ℕ) → isTag tag ≡ true → overLimit tag c ≡ false → Within (counted tag c)
+  pub within-counted : (tag : ℕ) → isTag tag ≡ true → overLimit (kindOf tag) c ≡ false → Within (counted (kindOf tag) c)
   unfolding overLimit overTest isCheck counted
   within-counted =
-      by-tag (λ tag. overLimit tag c ≡ false → Within (counted tag c)) initial-within main-within rule-within
+      by-kind (λ kind. overLimit kind c ≡ false → Within (counted kind c)) initial-within main-within rule-within
       check-within check-within check-within end-within
 
   -- there is room for the test that a field belongs to
-  pub counted-room : (tag : ℕ) → isTag tag ≡ true → outOfOrder tag c ≡ false → overLimit tag c ≡ false → c .tests < mostTests
+  pub counted-room : (tag : ℕ) → isTag tag ≡ true → outOfOrder (kindOf tag) c ≡ false → overLimit (kindOf tag) c ≡ false → c .tests < mostTests
   unfolding overLimit overTest isCheck outOfOrder
   counted-room =
-      by-tag (λ tag. outOfOrder tag c ≡ false → overLimit tag c ≡ false → c .tests < mostTests)
+      by-kind (λ kind. outOfOrder kind c ≡ false → overLimit kind c ≡ false → c .tests < mostTests)
       (λ o l. room c w _ l .0) (λ o l. room c w _ l .0)
       (λ o l. let h = ltb-false 0 (c .tests) (or-none-right (c .begun) (ltb 0 (c .tests)) o) in omega arith)
       (λ o l. room c w _ l .0) (λ o l. room c w _ l .0) (λ o l. room c w _ l .0) (λ o l. room c w _ l .0)
 
 -- how far a file can have been read at these counts
 unfoldable pub spread : Counts → ℕ
-spread c = (headLength + ruleLength) * c .rules + longestTest * c .tests + longestField * (c .initial + c .main + c .checks)
+spread c = longestRule * c .rules + longestTest * c .tests + longestField * (c .initial + c .main) + longestCheck * c .checks
 
-pub spread-counted : (c : Counts) → Within c → (at tag : ℕ) → isTag tag ≡ true → at ≤ spread c → at + headLength + bodyLength tag ≤ spread (counted tag c)
-unfolding spread counted bodyLength
+pub spread-counted : (c : Counts) → Within c → (at tag : ℕ) → isTag tag ≡ true → at ≤ spread c → at + headLength + bodyLength tag ≤ spread (counted (kindOf tag) c)
+unfolding spread counted bodyLength kindOf isWide
 spread-counted c w at tag h l =
     let i = w .initial in let m = w .main in let k = w .checks in
-    by-tag (λ tag. at + headLength + bodyLength tag ≤ spread (counted tag c))
-    (omega arith) (omega arith) (omega arith) (omega arith) (omega arith) (omega arith) (omega arith) tag h
+    by-tag (λ tag. at + headLength + bodyLength tag ≤ spread (counted (kindOf tag) c))
+    (omega arith) (omega arith) (omega arith) (omega arith) (omega arith) (omega arith) (omega arith) (omega arith) (omega arith) (omega arith) tag h
 
 pub spread-longest : (c : Counts) → Within c → spread c ≤ longest
 unfolding spread
 spread-longest c w = go (c .begun) refl
   where
-    go : (b : Bool) → c .begun ≡ b → (headLength + ruleLength) * c .rules + longestTest * c .tests + longestField * (c .initial + c .main + c .checks) ≤ longest
+    go : (b : Bool) → c .begun ≡ b → longestRule * c .rules + longestTest * c .tests + longestField * (c .initial + c .main) + longestCheck * c .checks ≤ longest
     go true q =
         let r = w .rules in let t = w .begun q in let i = w .initial in let m = w .main in let k = w .checks in
         omega arith

@@ -3,7 +3,7 @@
 use mathlib.Core.Path.{_≡_, refl}
 use mathlib.Core.Logic.{_≢_, ⊎-elim}
 use mathlib.Core.Bool.{Bool, true, false, cond, not}
-use mathlib.Core.List.{List, [], _∷_, List·Memᴰ, List·Memᴰ·not-nil, List·Memᴰ·append-cases, List·Memᴰ·eq-of-singleton}
+use mathlib.Core.List.{List, [], _∷_, _++_, List·Memᴰ, List·Memᴰ·not-nil, List·Memᴰ·append-cases, List·Memᴰ·eq-of-singleton}
 use Prim.Native.Nat.{ℕ, zero, suc, _+_, _-_, _≤_, _<_}
 use native.Mathlib.Omega.{arith}
 use lib.ListN.{length, take, drop}
@@ -13,10 +13,11 @@ use borrow.Author.Needs.{needs}
 use borrow.Author.Tests.{lt-ltb, le-ltb, ltb-true, ltb-false, eqb-true, eqb-false}
 use Rattle.model.specs.Rules.{Known}
 use Rattle.model.specs.Test.{Test, file}
+use Rattle.model.specs.declared.Rule.{Rule}
 use Rattle.file_format.specs.declared.Counts.{Counts}
 use Rattle.model.specs.Answer.{answer, refused}
 use Rattle.file_format.specs.Bytes.{byte, half}
-use Rattle.file_format.specs.File.{headLength, writeLength, isTag, bodyLength, outOfOrder, overLimit, ruleFault, bodyFault, faultOf, bodyAt, fieldEnd, ruleOf, Progress, countsOf, grown, finished, readFrom, readOf, nothing}
+use Rattle.file_format.specs.File.{headLength, wideWriteLength, isTag, bodyLength, outOfOrder, overLimit, ruleFault, bodyFault, faultOf, bodyAt, fieldEnd, ruleOf, Progress, countsOf, grown, finished, readFrom, readOf, nothing, isWide, kindOf, isRule}
 use Rattle.file_reader.specs.Limits.{Within, longest, longestField, TestLimits, Limited}
 use Rattle.file_reader.specs.Theorem.{WithinLimits, PrefixEnough}
 use Rattle.file_reader.proofs.LimitLaws.{Clean, clean, by-tag, within-counted, spread, spread-counted, spread-longest}
@@ -24,9 +25,9 @@ use Rattle.file_reader.proofs.TellsLaws.{counts-grown}
 
 -- ---- one field
 
-body-most : (tag : ℕ) → isTag tag ≡ true → bodyLength tag ≤ writeLength
-unfolding bodyLength
-body-most = by-tag (λ tag. bodyLength tag ≤ writeLength) (omega arith) (omega arith) (omega arith) (omega arith) (omega arith) (omega arith) (omega arith)
+body-most : (tag : ℕ) → isTag tag ≡ true → bodyLength tag ≤ wideWriteLength
+unfolding bodyLength isWide
+body-most = by-tag (λ tag. bodyLength tag ≤ wideWriteLength) (omega arith) (omega arith) (omega arith) (omega arith) (omega arith) (omega arith) (omega arith) (omega arith) (omega arith) (omega arith)
 
 -- a part of a prefix is that part of the whole
 part-of-prefix : {A : Type 0} (b k n : ℕ) (s : List A) → b + k ≤ n → take k (drop b (take n s)) ≡ take k (drop b s)
@@ -69,31 +70,35 @@ reads-start =
       each = λ t m. absurd (List·Memᴰ·not-nil m);
     }
 
-rule-known : (b : List ℕ) → bodyFault 3 b ≡ 0 → ruleOf b .predicate ≤ 2
-unfolding bodyFault ruleFault ruleOf
-rule-known b e = go (ltb 2 (byte b 1)) refl e
+rule-known : (r : Rule) → ruleFault r ≡ 0 → r .predicate ≤ 2
+unfolding ruleFault
+rule-known r e = go (ltb 2 (r .predicate)) refl e
   where
-    go : (t : Bool) → ltb 2 (byte b 1) ≡ t → _≡_ {A = ℕ} (cond t 5 0) 0 → byte b 1 ≤ 2
+    go : (t : Bool) → ltb 2 (r .predicate) ≡ t → _≡_ {A = ℕ} (cond t 5 0) 0 → r .predicate ≤ 2
     go true q z = absurd (omega arith)
     go false q z = ltb-false _ _ q
 
 module _ (s : List ℕ) (at : ℕ) (p : Progress) (r : Reads at p) (k : Clean s at (countsOf p)) where
   known-on : (tag : ℕ) → isTag tag ≡ true → (b : List ℕ) → bodyFault tag b ≡ 0 → Known (grown tag b p .rules)
-  unfolding grown Known
+  unfolding grown Known bodyFault isRule kindOf isWide
   known-on =
       by-tag (λ tag. (b : List ℕ) → bodyFault tag b ≡ 0 → Known (grown tag b p .rules))
-      (λ b z. r .known) (λ b z. r .known)
-      (λ b z x m. ⊎-elim (λ i. r .known x i) (λ i. let q : x ≡ ruleOf b = List·Memᴰ·eq-of-singleton i in rw q (rule-known b z)) (List·Memᴰ·append-cases (p .rules) m))
+      (λ b z. r .known) (λ b z. r .known) (λ b z. one (ruleOf 3 b) z)
       (λ b z. r .known) (λ b z. r .known) (λ b z. r .known) (λ b z. r .known)
+      (λ b z. r .known) (λ b z. r .known) (λ b z. one (ruleOf 10 b) z)
+    where
+      one : (q : Rule) → ruleFault q ≡ 0 → (x : Rule) → List·Memᴰ x (p .rules ++ (q ∷ [])) → x .predicate ≤ 2
+      one q z x m = ⊎-elim (λ i. r .known x i) (λ i. let e : x ≡ q = List·Memᴰ·eq-of-singleton i in rw e (rule-known q z)) (List·Memᴰ·append-cases (p .rules) m)
 
   each-on : (tag : ℕ) → isTag tag ≡ true → (b : List ℕ) → (t : Test) → List·Memᴰ t (grown tag b p .tests) → TestLimits t
-  unfolding grown countsOf
+  unfolding grown countsOf kindOf isWide
   each-on =
       by-tag (λ tag. (b : List ℕ) → (t : Test) → List·Memᴰ t (grown tag b p .tests) → TestLimits t)
       (λ b. r .each) (λ b. r .each) (λ b. r .each) (λ b. r .each) (λ b. r .each) (λ b. r .each)
       (λ b t m. ⊎-elim (λ i. r .each t i)
       (λ i. let q : t ≡ p .current = List·Memᴰ·eq-of-singleton i in rw q (record { initial = r .within .initial; main = r .within .main; checks = r .within .checks }))
       (List·Memᴰ·append-cases (p .tests) m))
+      (λ b. r .each) (λ b. r .each) (λ b. r .each)
 
   reads-on : Reads (fieldEnd s at) (grown (byte s at) (bodyAt s at) p)
   reads-on =
@@ -162,7 +167,7 @@ module _ (s : List ℕ) (n at : ℕ) (c : Counts) (h : at + longestField ≤ n) 
       (go (isTag (byte s at)) refl)
     where
       tail : ℕ → ℕ → ℕ
-      tail room body = cond (outOfOrder (byte s at) c) 4 (cond (overLimit (byte s at) c) 6 (cond (not (eqb (half s (at + 1)) (bodyLength (byte s at)))) 3 (cond (ltb room (bodyLength (byte s at))) 1 body)))
+      tail room body = cond (outOfOrder (kindOf (byte s at)) c) 4 (cond (overLimit (kindOf (byte s at)) c) 6 (cond (not (eqb (half s (at + 1)) (bodyLength (byte s at)))) 3 (cond (ltb room (bodyLength (byte s at))) 1 body)))
 
       go : (b : Bool) → isTag (byte s at) ≡ b
           → _≡_ {A = ℕ} (cond (not b) 2 (tail (n - (at + headLength)) (bodyFault (byte s at) (take (bodyLength (byte s at)) (drop (at + headLength) (take n s))))))

@@ -16,11 +16,11 @@ use Rattle.file_format.specs.declared.ScanState.{ScanState}
 use Rattle.file_format.specs.declared.Scan.the-variants.{Accepted, Refused}
 use Rattle.file_format.specs.declared.Scanned.{Scanned}
 use Rattle.file_format.specs.Bytes.{byte}
-use Rattle.file_format.specs.File.{headLength, isTag, bodyLength, faultOf, fieldEnd}
+use Rattle.file_format.specs.File.{headLength, isTag, kindOf, bodyLength, faultOf, fieldEnd}
 use Rattle.file_format.specs.Scan.{inHand, counted, found, advanced, ended, scanFrom, started, scanOf}
 use Rattle.file_format.specs.Held.{ScansTo, Scans}
 use Rattle.file_reader.specs.Limits.{Within}
-use Rattle.file_reader.proofs.LimitLaws.{clean, clean-fits, by-tag, within-counted, counted-room}
+use Rattle.file_reader.proofs.LimitLaws.{clean, clean-fits, by-kind, within-counted, counted-room}
 
 -- fuel enough is left, and the answer from here is the whole answer
 abbrev pub Ahead : List ℕ → ℕ → ScanState → List Extent → Type 0
@@ -49,10 +49,10 @@ start s tests l = (
 
 -- the test in hand, put behind the finished ones, is one of these after its end, and no part of them otherwise
 found-put : (st : ScanState) (tests : List Extent) → st .counts .tests < length tests → (tag : ℕ) → isTag tag ≡ true
-    → take (counted tag (st .counts) .tests) (set tests (st .counts .tests) (inHand st)) ≡ found tag st (take (st .counts .tests) tests)
+    → take (counted (kindOf tag) (st .counts) .tests) (set tests (st .counts .tests) (inHand st)) ≡ found (kindOf tag) st (take (st .counts .tests) tests)
 unfolding counted found
 found-put st tests l =
-    by-tag (λ tag. take (counted tag (st .counts) .tests) (set tests (st .counts .tests) (inHand st)) ≡ found tag st (take (st .counts .tests) tests))
+    by-kind (λ kind. take (counted kind (st .counts) .tests) (set tests (st .counts .tests) (inHand st)) ≡ found kind st (take (st .counts .tests) tests))
     kept kept kept kept kept kept
     (rw (add-one (st .counts .tests)) (take-suc-set tests (st .counts .tests) (inHand st) l))
   where
@@ -71,11 +71,11 @@ module _ (s : List ℕ) (at : ℕ) (st : ScanState) (tests : List Extent) (going
       let k = clean s at (st .counts) (sym e ∙ z) in
       counted-room (st .counts) (going .2) (byte s at) (k .tag) (k .order) (k .limit)
 
-  pub next : (number r : ℕ) (st′ : ScanState) (e : Extent) → number ≡ faultOf s at (st .counts) → number ≡ 0 → r ≡ bodyLength (byte s at)
-      → e ≡ inHand st → st′ ≡ advanced (byte s at) (at + headLength + r) st → Going s (at + headLength + r) st′ (set tests (st .counts .tests) e)
+  pub next : (number r kind : ℕ) (st′ : ScanState) (e : Extent) → number ≡ faultOf s at (st .counts) → number ≡ 0 → r ≡ bodyLength (byte s at)
+      → e ≡ inHand st → kind ≡ kindOf (byte s at) → st′ ≡ advanced kind (at + headLength + r) st → Going s (at + headLength + r) st′ (set tests (st .counts .tests) e)
   unfolding scanFrom advanced
-  next number r st′ x e z q i f =
-      rw (f, q, i)
+  next number r kind st′ x e z q i v f =
+      rw (f, v, q, i)
       (let k = clean s at (st .counts) (sym e ∙ z) in
       let l : st .counts .tests < length tests = let m = room number e z in let n = going .1 in omega arith in (
         clean-fits s at (st .counts) k,
@@ -85,7 +85,7 @@ module _ (s : List ℕ) (at : ℕ) (st : ScanState) (tests : List Extent) (going
       ))
     where
       go : (f : ℕ) → length s ≤ at + f → scanFrom (suc f) s at st (take (st .counts .tests) tests) ≡ scanOf s
-          → Ahead s (fieldEnd s at) (advanced (byte s at) (fieldEnd s at) st) (found (byte s at) st (take (st .counts .tests) tests))
+          → Ahead s (fieldEnd s at) (advanced (kindOf (byte s at)) (fieldEnd s at) st) (found (kindOf (byte s at)) st (take (st .counts .tests) tests))
       go zero le h = absurd (omega arith)
       go (suc f) le h = (f, omega arith, rw (lt-ltb _ _ lt, eq-eqb _ _ (sym e ∙ z)) at h)
 

@@ -18,12 +18,12 @@ use Rattle.file_format.specs.declared.Extent.{Extent}
 use Rattle.file_format.specs.declared.ScanState.{ScanState}
 use Rattle.model.specs.Answer.{answer, refused}
 use Rattle.file_format.specs.Bytes.{byte}
-use Rattle.file_format.specs.File.{isTag, isRule, isWrite, isCheck, outOfOrder, faultOf, bodyAt, fieldEnd, checkOf, Progress, progress, countsOf, grown, finished, readFrom, readOf, nothing}
+use Rattle.file_format.specs.File.{isTag, isWide, kindOf, isRule, isWrite, isCheck, outOfOrder, faultOf, bodyAt, fieldEnd, ruleOf, writeOf, checkOf, Progress, progress, countsOf, grown, finished, readFrom, readOf, nothing}
 use Rattle.file_format.specs.Scan.{ruleField, writeField, checkField, fieldPlace, fieldsAt, rulesAt, writesAt, mainPlace, checksPlace, testAt, extent, inHand, counts, counted, testFrom, found, advanced, places, ended, scanFrom, started, scanOf}
 use Rattle.file_format.specs.Held.{Fields, Inside, extentOf, noExtent, Tells}
 use Rattle.file_reader.specs.Limits.{Within}
 use Rattle.file_reader.specs.Theorem.{Told}
-use Rattle.file_reader.proofs.LimitLaws.{clean, clean-fits, by-tag, within-counted}
+use Rattle.file_reader.proofs.LimitLaws.{clean, clean-fits, by-tag, by-kind, within-counted}
 
 -- ---- one field more, whatever it holds
 
@@ -90,11 +90,39 @@ tracks-start s =
       inside = inside-none s 0 (omega arith);
     }
 
-pub counts-grown : (b : List ℕ) (p : Progress) (tag : ℕ) → isTag tag ≡ true → counted tag (countsOf p) ≡ countsOf (grown tag b p)
-unfolding countsOf grown counted
+pub counts-grown : (b : List ℕ) (p : Progress) (tag : ℕ) → isTag tag ≡ true → counted (kindOf tag) (countsOf p) ≡ countsOf (grown tag b p)
+unfolding countsOf grown counted kindOf isWide
 counts-grown b p =
-    by-tag (λ tag. counted tag (countsOf p) ≡ countsOf (grown tag b p))
-    (simp length-append) (simp length-append) (simp length-append) (simp length-append) (simp length-append) (simp length-append) (simp length-append)
+    by-tag (λ tag. counted (kindOf tag) (countsOf p) ≡ countsOf (grown tag b p))
+    (simp length-append) (simp length-append) (simp length-append) (simp length-append) (simp length-append) (simp length-append) (simp length-append) (simp length-append) (simp length-append) (simp length-append)
+
+-- what one more field adds, by its kind
+module _ (b : List ℕ) (p : Progress) (tag : ℕ) where
+  grown-rule : kindOf tag ≡ 3 → grown tag b p ≡ progress (p .rules ++ (ruleOf tag b ∷ [])) (p .tests) (p .begun) (p .current)
+  unfolding grown
+  grown-rule e = rw e
+
+  grown-initial : kindOf tag ≡ 1 → grown tag b p ≡ progress (p .rules) (p .tests) true (test (p .current .initial ++ (writeOf tag b ∷ [])) (p .current .main) (p .current .checks))
+  unfolding grown
+  grown-initial e = rw e
+
+  grown-main : kindOf tag ≡ 2 → grown tag b p ≡ progress (p .rules) (p .tests) true (test (p .current .initial) (p .current .main ++ (writeOf tag b ∷ [])) (p .current .checks))
+  unfolding grown
+  grown-main e = rw e
+
+  grown-end : kindOf tag ≡ 7 → grown tag b p ≡ progress (p .rules) (p .tests ++ (p .current ∷ [])) false (test [] [] [])
+  unfolding grown
+  grown-end e = rw e
+
+  grown-check : (kind : ℕ) → kindOf tag ≡ kind → eqb kind 3 ≡ false → eqb kind 1 ≡ false → eqb kind 2 ≡ false → eqb kind 7 ≡ false
+      → grown tag b p ≡ progress (p .rules) (p .tests) true (test (p .current .initial) (p .current .main) (p .current .checks ++ (checkOf tag b ∷ [])))
+  unfolding grown
+  grown-check kind e x y z w = rw (e, x, y, z, w)
+
+-- a check's kind is its tag
+check-tag : (tag : ℕ) → isTag tag ≡ true → isCheck (kindOf tag) ≡ true → isCheck tag ≡ true
+unfolding kindOf isWide isCheck
+check-tag = by-tag (λ tag. isCheck (kindOf tag) ≡ true → isCheck tag ≡ true) (λ e. e) (λ e. e) (λ e. e) (λ e. e) (λ e. e) (λ e. e) (λ e. e) (λ e. e) (λ e. e) (λ e. e)
 
 or-none : (a b : Bool) → a || b ≡ false → (a ≡ false) × (b ≡ false)
 or-none true b e = absurd (true≢false e)
@@ -107,21 +135,22 @@ none-yet n e = let h = ltb-false 0 n e in omega arith
 
 module _ (s : List ℕ) (at : ℕ) (p : Progress) (st : ScanState) (tests : List Extent) (t : Tracks s at p st tests) where
   abbrev Goes : ℕ → Type 0
-  Goes tag =
-      byte s at ≡ tag → isTag tag ≡ true → outOfOrder tag (st .counts) ≡ false → Within (counted tag (st .counts)) → fieldEnd s at ≤ length s
-      → Tracks s (fieldEnd s at) (grown tag (bodyAt s at) p) (advanced tag (fieldEnd s at) st) (found tag st tests)
+  Goes kind =
+      kindOf (byte s at) ≡ kind → isTag (byte s at) ≡ true → outOfOrder kind (st .counts) ≡ false → Within (counted kind (st .counts)) → fieldEnd s at ≤ length s
+      → Tracks s (fieldEnd s at) (grown (byte s at) (bodyAt s at) p) (advanced kind (fieldEnd s at) st) (found kind st tests)
 
-  same-grown : (tag : ℕ) → isTag tag ≡ true → counted tag (st .counts) ≡ countsOf (grown tag (bodyAt s at) p)
-  same-grown tag h = ap (counted tag) (t .same) ∙ counts-grown (bodyAt s at) p tag h
+  same-grown : (kind : ℕ) → kindOf (byte s at) ≡ kind → isTag (byte s at) ≡ true → counted kind (st .counts) ≡ countsOf (grown (byte s at) (bodyAt s at) p)
+  same-grown kind e h = rw (← e) (ap (counted (kindOf (byte s at))) (t .same) ∙ counts-grown (bodyAt s at) p (byte s at) h)
 
   on-rule : Goes 3
-  unfolding grown advanced counted testFrom found outOfOrder testAt ruleField isRule fieldPlace fieldsAt tabulate
+  unfolding advanced counted testFrom found outOfOrder testAt ruleField isRule fieldPlace fieldsAt tabulate
   on-rule e h o w l =
       let q = or-none (st .counts .begun) (ltb 0 (st .counts .tests)) o in
       let none = t .within .none (q .0) in
       let here : at ≡ fieldPlace s 0 (st .counts .rules) = t .first (none-yet _ (q .1)) (q .0) in
-      record {
-        same = same-grown 3 h;
+      rw (grown-rule (bodyAt s at) p (byte s at) e)
+      (record {
+        same = same-grown 3 e h ∙ ap countsOf (grown-rule (bodyAt s at) p (byte s at) e);
         within = w;
         rules = rw (t .rules) (fields-more s 0 at (st .counts .rules) here ruleField);
         current = t .current ∙ rw (none .0, none .1, none .2);
@@ -131,17 +160,18 @@ module _ (s : List ℕ) (at : ℕ) (p : Progress) (st : ScanState) (tests : List
         each = t .each;
         rules-in = inside-more s 0 at (st .counts .rules) here isRule (t .rules-in) (rw e) l;
         inside = rw (none .0, none .1, none .2) (inside-none s (fieldEnd s at) l);
-      }
+      })
 
   on-initial : Goes 1
-  unfolding grown advanced counted testFrom found outOfOrder testAt writeField isWrite fieldPlace fieldsAt tabulate
+  unfolding advanced counted testFrom found outOfOrder testAt writeField isWrite fieldPlace fieldsAt tabulate
   on-initial e h o w l =
       let q = or-none (ltb 0 (st .counts .main)) (ltb 0 (st .counts .checks)) o in
       let m = none-yet (st .counts .main) (q .0) in
       let k = none-yet (st .counts .checks) (q .1) in
       let here : at ≡ fieldPlace s (st .from) (st .counts .initial) = rw (m, k) at (t .place) in
-      record {
-        same = same-grown 1 h;
+      rw (grown-initial (bodyAt s at) p (byte s at) e)
+      (record {
+        same = same-grown 1 e h ∙ ap countsOf (grown-initial (bodyAt s at) p (byte s at) e);
         within = w;
         rules = t .rules;
         current = rw (t .current, m, k) (ap (λ ws. test ws [] []) (fields-more s (st .from) at (st .counts .initial) here writeField));
@@ -159,15 +189,16 @@ module _ (s : List ℕ) (at : ℕ) (p : Progress) (st : ScanState) (tests : List
           main-most = w .main;
           checks-most = w .checks;
         };
-      }
+      })
 
   on-main : Goes 2
-  unfolding grown advanced counted testFrom found outOfOrder testAt writeField isWrite fieldPlace fieldsAt tabulate
+  unfolding advanced counted testFrom found outOfOrder testAt writeField isWrite fieldPlace fieldsAt tabulate
   on-main e h o w l =
       let k = none-yet (st .counts .checks) o in
       let here : at ≡ fieldPlace s (mainPlace s (inHand st)) (st .counts .main) = rw k at (t .place) in
-      record {
-        same = same-grown 2 h;
+      rw (grown-main (bodyAt s at) p (byte s at) e)
+      (record {
+        same = same-grown 2 e h ∙ ap countsOf (grown-main (bodyAt s at) p (byte s at) e);
         within = w;
         rules = t .rules;
         current = rw (t .current, k)
@@ -186,13 +217,14 @@ module _ (s : List ℕ) (at : ℕ) (p : Progress) (st : ScanState) (tests : List
           main-most = w .main;
           checks-most = w .checks;
         };
-      }
+      })
 
   on-end : Goes 7
-  unfolding grown advanced counted testFrom found testAt fieldPlace fieldsAt tabulate
+  unfolding advanced counted testFrom found testAt fieldPlace fieldsAt tabulate
   on-end e h o w l =
-      record {
-        same = same-grown 7 h;
+      rw (grown-end (bodyAt s at) p (byte s at) e)
+      (record {
+        same = same-grown 7 e h ∙ ap countsOf (grown-end (bodyAt s at) p (byte s at) e);
         within = w;
         rules = t .rules;
         current = refl;
@@ -205,21 +237,21 @@ module _ (s : List ℕ) (at : ℕ) (p : Progress) (st : ScanState) (tests : List
             (below-suc i (length tests) (rw (length-append tests (inHand st ∷ []), add-one (length tests)) at b));
         rules-in = t .rules-in;
         inside = inside-none s (fieldEnd s at) l;
-      }
+      })
 
   -- a check of any of the three forms
-  on-check : (tag : ℕ) → byte s at ≡ tag → (c : Counts) → c ≡ counts (st .counts .rules) (st .counts .tests) true (st .counts .initial) (st .counts .main) (st .counts .checks + 1)
-      → (p′ : Progress) → p′ ≡ progress (p .rules) (p .tests) true (test (p .current .initial) (p .current .main) (p .current .checks ++ (checkOf tag (bodyAt s at) ∷ [])))
-      → c ≡ countsOf p′ → Within c → isCheck tag ≡ true → fieldEnd s at ≤ length s
+  on-check : (c : Counts) → c ≡ counts (st .counts .rules) (st .counts .tests) true (st .counts .initial) (st .counts .main) (st .counts .checks + 1)
+      → (p′ : Progress) → p′ ≡ progress (p .rules) (p .tests) true (test (p .current .initial) (p .current .main) (p .current .checks ++ (checkOf (byte s at) (bodyAt s at) ∷ [])))
+      → c ≡ countsOf p′ → Within c → isCheck (byte s at) ≡ true → fieldEnd s at ≤ length s
       → Tracks s (fieldEnd s at) p′ (record { counts = c; from = st .from }) tests
   unfolding testAt checkField
-  on-check tag e c ec p′ ep same w k l =
+  on-check c ec p′ ep same w k l =
       let from = checksPlace s (inHand st) in
       record {
         same = same;
         within = w;
         rules = rw (ep, ec) (t .rules);
-        current = rw (ep, ec, t .current, ← e) (ap (λ cs. test (writesAt s (st .from) (st .counts .initial)) (writesAt s (mainPlace s (inHand st)) (st .counts .main)) cs) (fields-more s from at (st .counts .checks) (t .place) checkField));
+        current = rw (ep, ec, t .current) (ap (λ cs. test (writesAt s (st .from) (st .counts .initial)) (writesAt s (mainPlace s (inHand st)) (st .counts .main)) cs) (fields-more s from at (st .counts .checks) (t .place) checkField));
         place = rw ec (next-place s from at (st .counts .checks) (t .place));
         first = λ a b. absurd (true≢false (rw ec at b));
         before = rw ep (t .before);
@@ -229,26 +261,28 @@ module _ (s : List ℕ) (at : ℕ) (p : Progress) (st : ScanState) (tests : List
           at = t .inside .at;
           initial = t .inside .initial;
           main = t .inside .main;
-          checks = inside-more s from at (st .counts .checks) (t .place) isCheck (t .inside .checks) (rw e k) l;
+          checks = inside-more s from at (st .counts .checks) (t .place) isCheck (t .inside .checks) k l;
           initial-most = rw ec at (w .initial);
           main-most = rw ec at (w .main);
           checks-most = rw ec at (w .checks);
         });
       }
 
-  goes : (tag : ℕ) → isTag tag ≡ true → Goes tag
-  unfolding grown advanced counted testFrom found isCheck
+  goes : isTag (byte s at) ≡ true → Goes (kindOf (byte s at))
+  unfolding advanced counted testFrom found isCheck
   goes =
-      by-tag Goes on-initial on-main on-rule
-      (λ e h o w l. on-check 4 e _ refl _ refl (same-grown 4 h) w refl l)
-      (λ e h o w l. on-check 5 e _ refl _ refl (same-grown 5 h) w refl l)
-      (λ e h o w l. on-check 6 e _ refl _ refl (same-grown 6 h) w refl l)
+      by-kind Goes on-initial on-main on-rule
+      (λ e h o w l. on-check _ refl _ (grown-check (bodyAt s at) p (byte s at) 4 e refl refl refl refl) (same-grown 4 e h) w (check-tag (byte s at) h (rw e)) l)
+      (λ e h o w l. on-check _ refl _ (grown-check (bodyAt s at) p (byte s at) 5 e refl refl refl refl) (same-grown 5 e h) w (check-tag (byte s at) h (rw e)) l)
+      (λ e h o w l. on-check _ refl _ (grown-check (bodyAt s at) p (byte s at) 6 e refl refl refl refl) (same-grown 6 e h) w (check-tag (byte s at) h (rw e)) l)
       on-end
+      (byte s at)
 
-  tracks-on : faultOf s at (st .counts) ≡ 0 → Tracks s (fieldEnd s at) (grown (byte s at) (bodyAt s at) p) (advanced (byte s at) (fieldEnd s at) st) (found (byte s at) st tests)
+  tracks-on : faultOf s at (st .counts) ≡ 0
+      → Tracks s (fieldEnd s at) (grown (byte s at) (bodyAt s at) p) (advanced (kindOf (byte s at)) (fieldEnd s at) st) (found (kindOf (byte s at)) st tests)
   tracks-on z =
       let k = clean s at (st .counts) z in
-      goes (byte s at) (k .tag) refl (k .tag) (k .order) (within-counted (st .counts) (t .within) (byte s at) (k .tag) (k .limit)) (clean-fits s at (st .counts) k)
+      goes (k .tag) refl (k .tag) (k .order) (within-counted (st .counts) (t .within) (byte s at) (k .tag) (k .limit)) (clean-fits s at (st .counts) k)
 
   tells-end : Tells s (finished s p) (ended (length s) st tests)
   unfolding finished ended Tells
@@ -270,10 +304,10 @@ tells-from (suc f) s at p st tests t =
     (go (ltb at (length s)) (eqb (faultOf s at (countsOf p)) 0) refl (λ z. tells-from f s _ _ _ _ (tracks-on s at p st tests t (ap (faultOf s at) (t .same) ∙ z))))
   where
     go : (b d : Bool) → eqb (faultOf s at (countsOf p)) 0 ≡ d
-        → (faultOf s at (countsOf p) ≡ 0 → Tells s (readFrom f s (fieldEnd s at) (grown (byte s at) (bodyAt s at) p)) (scanFrom f s (fieldEnd s at) (advanced (byte s at) (fieldEnd s at) st) (found (byte s at) st tests)))
+        → (faultOf s at (countsOf p) ≡ 0 → Tells s (readFrom f s (fieldEnd s at) (grown (byte s at) (bodyAt s at) p)) (scanFrom f s (fieldEnd s at) (advanced (kindOf (byte s at)) (fieldEnd s at) st) (found (kindOf (byte s at)) st tests)))
         → Tells s
         (cond b (cond d (readFrom f s (fieldEnd s at) (grown (byte s at) (bodyAt s at) p)) (refused (faultOf s at (countsOf p)) at)) (finished s p))
-        (cond b (cond d (scanFrom f s (fieldEnd s at) (advanced (byte s at) (fieldEnd s at) st) (found (byte s at) st tests)) (refused (faultOf s at (countsOf p)) at)) (ended (length s) st tests))
+        (cond b (cond d (scanFrom f s (fieldEnd s at) (advanced (kindOf (byte s at)) (fieldEnd s at) st) (found (kindOf (byte s at)) st tests)) (refused (faultOf s at (countsOf p)) at)) (ended (length s) st tests))
     go false d e ih = tells-end s at p st tests t
     go true true e ih = ih (eqb-true _ _ e)
     go true false e ih = unfold Tells in refl

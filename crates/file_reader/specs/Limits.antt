@@ -8,7 +8,7 @@ use Rattle.model.specs.Limits.{mostRules, mostTests, mostInitial, mostMain, mos
 use Rattle.model.specs.Rules.{Known}
 use Rattle.model.specs.Test.{Test, File}
 use Rattle.file_format.specs.declared.Counts.{Counts}
-use Rattle.file_format.specs.File.{headLength, ruleLength, writeLength}
+use Rattle.file_format.specs.File.{headLength, wideRuleLength, wideWriteLength, pairLength}
 use Rattle.model.specs.Answer.{Outcome, answer, refused}
 
 -- counts that a file read without refusal can have
@@ -21,17 +21,23 @@ pub record Within (c : Counts) : Type 0 where
   pub checks : c .checks ≤ mostChecks
   pub none : c .begun ≡ false → (c .initial ≡ 0) × (c .main ≡ 0) × (c .checks ≡ 0)
 
--- no field is longer
+-- no field is longer than a write's with a name of two bytes, and no check's than a pair's
 abbrev pub longestField : ℕ
-longestField = headLength + writeLength
+longestField = headLength + wideWriteLength
 
--- nor is a test: all its fields, and its end
+abbrev pub longestCheck : ℕ
+longestCheck = headLength + pairLength
+
+abbrev pub longestRule : ℕ
+longestRule = headLength + wideRuleLength
+
+-- nor is a test longer: all its fields, and its end
 abbrev pub longestTest : ℕ
-longestTest = (mostInitial + mostMain + mostChecks) * longestField + headLength
+longestTest = (mostInitial + mostMain) * longestField + mostChecks * longestCheck + headLength
 
 -- the longest file that is accepted: rules and tests
 abbrev pub longest : ℕ
-longest = mostRules * (headLength + ruleLength) + mostTests * longestTest
+longest = mostRules * longestRule + mostTests * longestTest
 
 -- *most*, of a test and of a file
 pub record TestLimits (t : Test) : Type 0 where

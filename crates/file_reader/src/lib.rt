@@ -14,12 +14,12 @@ ghost use Rattle.file_format.specs.Scan.{counted, testFrom, inHand, advanced, e
 ghost use Rattle.file_format.specs.Held.{Scans};
 ghost use Rattle.file_reader.specs.Limits.{Within};
 
-// The counts after one more field.
-fn count_field(tag: u8, c: Counts) -> Counts
+// The counts after one more field of a kind.
+fn count_field(kind: u8, c: Counts) -> Counts
     requires { ⌜ Within c ⌝ }
-    ensures { λ r. ⌜ r ≡ counted tag c ⌝ }
+    ensures { λ r. ⌜ r ≡ counted kind c ⌝ }
 {
-    if tag == 3 {
+    if kind == 3 {
         return Counts {
             rules: c.rules + 1,
             tests: c.tests,
@@ -29,7 +29,7 @@ fn count_field(tag: u8, c: Counts) -> Counts
             checks: c.checks,
         };
     }
-    if tag == 1 {
+    if kind == 1 {
         return Counts {
             rules: c.rules,
             tests: c.tests,
@@ -39,7 +39,7 @@ fn count_field(tag: u8, c: Counts) -> Counts
             checks: c.checks,
         };
     }
-    if tag == 2 {
+    if kind == 2 {
         return Counts {
             rules: c.rules,
             tests: c.tests,
@@ -49,7 +49,7 @@ fn count_field(tag: u8, c: Counts) -> Counts
             checks: c.checks,
         };
     }
-    if tag == 7 {
+    if kind == 7 {
         return Counts {
             rules: c.rules,
             tests: c.tests + 1,
@@ -69,13 +69,13 @@ fn count_field(tag: u8, c: Counts) -> Counts
     }
 }
 
-fn begin_at(tag: u8, from: usize, next: usize) -> usize
-    ensures { λ r. ⌜ r ≡ testFrom tag from next ⌝ }
+fn begin_at(kind: u8, from: usize, next: usize) -> usize
+    ensures { λ r. ⌜ r ≡ testFrom kind from next ⌝ }
 {
-    if tag == 3 {
+    if kind == 3 {
         return next;
     }
-    if tag == 7 {
+    if kind == 7 {
         return next;
     }
     from
@@ -94,14 +94,14 @@ fn in_hand(st: ScanState) -> Extent
     }
 }
 
-fn advance(tag: u8, next: usize, st: ScanState) -> ScanState
+fn advance(kind: u8, next: usize, st: ScanState) -> ScanState
     requires { ⌜ Within (st .counts) ⌝ }
-    ensures { λ r. ⌜ r ≡ advanced tag next st ⌝ }
+    ensures { λ r. ⌜ r ≡ advanced kind next st ⌝ }
 {
     let c = st.counts;
     ScanState {
-        counts: count_field(tag, c),
-        from: begin_at(tag, st.from, next),
+        counts: count_field(kind, c),
+        from: begin_at(kind, st.from, next),
     }
 }
 
@@ -161,7 +161,7 @@ pub fn read(s: &[u8]) -> Scanned
         // The test in hand has its place behind the finished ones; its end makes it one of these.
         let t = c.tests;
         tests[t] = in_hand(st);
-        st = advance(tag, next, st);
+        st = advance(file_format::kind_of(tag), next, st);
         at = next;
     }
     end_scan(s.len(), tests, st)

@@ -7,7 +7,7 @@ use native.Mathlib.Omega.{arith}
 use lib.ListN.{length, set, length-append}
 use lib.Seq.{sets}
 use borrow.Author.Needs.{needs}
-use Rattle.file_format.specs.Bytes.{bytes4}
+use Rattle.file_format.specs.Bytes.{bytes2, bytes4}
 use Rattle.file_writing.specs.Writing.{Wrote}
 
 pub sets-append : (l : List ℕ) (i : ℕ) (vs ws : List ℕ) → sets l i (vs ++ ws) ≡ sets (sets l i vs) (i + length vs) ws
@@ -27,8 +27,11 @@ wrote-then l at a l₁ r₁ b l₂ r₂ p q =
 pub wrote-none : (l : List ℕ) (at : ℕ) → Wrote l at [] l at
 wrote-none l at = record { buffer = refl; place = omega arith; size = refl }
 
+pub half-wrote : (l : List ℕ) (at : ℕ) (l₁ l₂ : List ℕ) (r₁ r₂ n : ℕ) → Wrote l at ((n / 256) ∷ []) l₁ r₁ → Wrote l₁ r₁ ((n % 256) ∷ []) l₂ r₂ → Wrote l at (bytes2 n) l₂ r₂
+half-wrote l at l₁ l₂ r₁ r₂ n a b = wrote-then _ _ _ _ _ _ _ _ a b
+
 pub word-wrote : (l : List ℕ) (at : ℕ) (l₁ l₂ l₃ l₄ : List ℕ) (r₁ r₂ r₃ r₄ n : ℕ) → Wrote l at ((n / 16777216 % 256) ∷ []) l₁ r₁ → Wrote l₁ r₁ ((n / 65536 % 256) ∷ []) l₂ r₂
     → Wrote l₂ r₂ ((n / 256 % 256) ∷ []) l₃ r₃ → Wrote l₃ r₃ ((n % 256) ∷ []) l₄ r₄ → Wrote l at (bytes4 n) l₄ r₄
 word-wrote l at l₁ l₂ l₃ l₄ r₁ r₂ r₃ r₄ n a b c d = wrote-then _ _ _ _ _ _ _ _ a (wrote-then _ _ _ _ _ _ _ _ b (wrote-then _ _ _ _ _ _ _ _ c d))
 
-pub ruleset wrotes = (needs, word-wrote)
+pub ruleset wrotes = (needs, half-wrote, word-wrote)

@@ -2,7 +2,7 @@
 ghost use mathlib.Core.List.{_∷_, []};
 ghost use Prim.Native.Nat.{_+_, _<_, _≤_};
 ghost use lib.ListN.{length};
-ghost use Rattle.file_format.specs.Bytes.{bytes4};
+ghost use Rattle.file_format.specs.Bytes.{bytes2, bytes4};
 ghost use Rattle.file_writing.specs.Writing.{Wrote};
 
 // One byte at a place; answers the next place.
@@ -12,6 +12,15 @@ pub fn put(out: &mut [u8], at: usize, b: u8) -> usize
 {
     out[at] = b;
     at + 1
+}
+
+// A number in two bytes, big-endian.
+pub fn put_half(out: &mut [u8], at: usize, n: u16) -> usize
+    requires { ⌜ at + 2 ≤ length (now out) ⌝ }
+    ensures { λ r. ⌜ Wrote (now (out .entry)) at (bytes2 n) (now (out .exit)) r ⌝ }
+{
+    let a = put(out, at, (n / 256) as u8);
+    put(out, a, (n % 256) as u8)
 }
 
 // A number in four bytes, big-endian.

@@ -1,7 +1,7 @@
 -- The chosen rules as fields at the front of the buffer, and the answers and refusals of the call.
 use mathlib.Core.Path.{_≡_, refl, sym, ap, _∙_}
-use mathlib.Core.Bool.{Bool, true, false, cond}
-use mathlib.Core.List.{List, [], _∷_, _++_}
+use mathlib.Core.Bool.{Bool, true, false, cond, _&&_}
+use mathlib.Core.List.{List, [], _∷_, _++_, append-assoc, append-nil}
 use mathlib.Core.Option.{Option, none, some}
 use Prim.Native.Nat.{ℕ, _+_, _*_, _^_, _≤_, _<_}
 use native.Mathlib.Nat.{zero-add}
@@ -11,68 +11,106 @@ use lib.Dec.{ltb}
 use lib.ListN.{length, getD, take}
 use lib.Pow.{pow-mono}
 use lib.Seq.{sets-eq, take-suc, length-take-le}
-use borrow.Author.Tests.{lt-ltb, le-ltb}
+use borrow.Author.Needs.{needs}
+use borrow.Author.Tests.{ltb-true, lt-ltb, le-ltb}
 use Rattle.relation.specs.Lists.{any, anyBelow}
-use Rattle.relation.proofs.ListLaws.{bool-equal, anyBelow-true, anyBelow-intro, any-true, any-intro, mem-index, index-mem}
-use Rattle.model.specs.Limits.{words, mostRules, mostTests, mostFound, mostCandidates, candidateSets}
+use Rattle.relation.proofs.ListLaws.{and-left, and-right, bool-equal, anyBelow-true, anyBelow-intro, any-true, any-intro, mem-index, index-mem}
+use Rattle.model.specs.Limits.{narrowNames, words, mostRules, mostTests, mostFound, mostCandidates, candidateSets}
 use Rattle.model.specs.declared.Refusal.{Refusal}
 use Rattle.model.specs.declared.Rule.{Rule}
 use Rattle.model.specs.Answer.{refused, refusal, coded}
+use Rattle.model.specs.Rules.{Known}
 use Rattle.model.specs.Test.{Test}
 use Rattle.model.specs.Find.{candidatesOf, picked, Chosen, chosen}
 use Rattle.file_format.specs.declared.Extent.{Extent}
 use Rattle.file_format.specs.declared.Scan.{Scan}
 use Rattle.file_format.specs.declared.Scan.the-variants.{Accepted, Refused}
-use Rattle.file_format.specs.File.{ruleLength}
-use Rattle.file_format.specs.Bytes.{ruleBytes}
-use Rattle.file_format.specs.Encode.{fieldBytes, ruleFields}
+use Rattle.file_format.specs.File.{narrowRuleLength, wideRuleLength}
+use Rattle.file_format.specs.Bytes.{bytes2, narrowRuleBytes, wideRuleBytes}
+use Rattle.file_format.specs.Encode.{fieldBytes, ruleFieldBytes, ruleFields}
 use Rattle.file_format.specs.Scan.{ruleField, writeField, mainPlace, testAt, scanOf}
 use Rattle.file_format.specs.Held.{noTest, extentOf, ScansTo, Placed}
 use Rattle.file_writing.specs.Writing.{Wrote}
 use Rattle.file_writing.proofs.WroteLaws.{wrote-then, wrote-none}
+use Rattle.file_reader.specs.Limits.{longestRule}
 use Rattle.file_reader.proofs.CallerLaws.{refused-read, refused-most, accepted-file, accepted-read, accepted-at, accepted-placed}
 use Rattle.file_loading.proofs.LoadSteps.{fields-length}
 use Rattle.rule_match.specs.declared.Rules.{Rules}
 use Rattle.rule_match.specs.Held.{rulesOf}
 use Rattle.rule_match.specs.Held.{itemAt}
+use Rattle.rule_match.proofs.MatchSteps.{known-at}
 use Rattle.find_sets.specs.Kept.{Keeps}
 use Rattle.find_candidates.specs.Tests.{testsOf, testsIn, tooLong}
 use Rattle.find_sets.proofs.KeepLaws.{keeps-short, keeps-same, keeps-long}
-use Rattle.find_laws.proofs.ChosenLaws.{some-chosen}
+use Rattle.find_laws.proofs.ChosenLaws.{some-chosen, picked-known}
 use Rattle.find_choice.specs.Choice.{choiceCode}
-use Rattle.find_call.specs.Finder.{fieldLength, foundLength, longBelow, found, over, wrote, findAmong, findIn, findOf, findLeaves, foundCoded}
+use Rattle.find_call.specs.Finder.{foundLength, longBelow, found, over, wrote, findAmong, findIn, findOf, findLeaves, foundCoded}
 
 -- ---- put_rule
 
-pub rule-wrote : (l : List ℕ) (at : ℕ) (l₁ l₂ l₃ l₄ l₅ l₆ : List ℕ) (r₁ r₂ r₃ r₄ r₅ r₆ : ℕ) (r : Rule)
-    → Wrote l at (3 ∷ []) l₁ r₁ → Wrote l₁ r₁ (0 ∷ []) l₂ r₂ → Wrote l₂ r₂ (ruleLength ∷ []) l₃ r₃ → Wrote l₃ r₃ (r .first ∷ []) l₄ r₄ → Wrote l₄ r₄ (r .predicate ∷ []) l₅ r₅
-    → Wrote l₅ r₅ (r .second ∷ []) l₆ r₆ → Wrote l at (fieldBytes 3 (ruleBytes r)) l₆ r₆
-unfolding fieldBytes ruleBytes
-rule-wrote l at l₁ l₂ l₃ l₄ l₅ l₆ r₁ r₂ r₃ r₄ r₅ r₆ r a b c d e f =
+pub narrow-wrote : (l : List ℕ) (at : ℕ) (l₁ l₂ l₃ l₄ l₅ l₆ : List ℕ) (r₁ r₂ r₃ r₄ r₅ r₆ : ℕ) (r : Rule)
+    → Wrote l at (3 ∷ []) l₁ r₁ → Wrote l₁ r₁ (0 ∷ []) l₂ r₂ → Wrote l₂ r₂ (narrowRuleLength ∷ []) l₃ r₃ → Wrote l₃ r₃ (r .first ∷ []) l₄ r₄ → Wrote l₄ r₄ (r .predicate ∷ []) l₅ r₅
+    → Wrote l₅ r₅ (r .second ∷ []) l₆ r₆ → Wrote l at (fieldBytes 3 (narrowRuleBytes r)) l₆ r₆
+unfolding fieldBytes narrowRuleBytes
+narrow-wrote l at l₁ l₂ l₃ l₄ l₅ l₆ r₁ r₂ r₃ r₄ r₅ r₆ r a b c d e f =
     wrote-then _ _ _ _ _ _ _ _ a (wrote-then _ _ _ _ _ _ _ _ b (wrote-then _ _ _ _ _ _ _ _ c (wrote-then _ _ _ _ _ _ _ _ d (wrote-then _ _ _ _ _ _ _ _ e f))))
 
-pub rule-most : (l : List ℕ) (at : ℕ) (r : Rule) (l₁ : List ℕ) (n : ℕ) → Wrote l at (fieldBytes 3 (ruleBytes r)) l₁ n → n ≤ at + fieldLength
-unfolding fieldBytes ruleBytes
-rule-most l at r l₁ n w = let p = w .place in omega arith
+pub wide-wrote : (l : List ℕ) (at : ℕ) (l₁ l₂ l₃ l₄ l₅ l₆ : List ℕ) (r₁ r₂ r₃ r₄ r₅ r₆ : ℕ) (r : Rule)
+    → Wrote l at (10 ∷ []) l₁ r₁ → Wrote l₁ r₁ (0 ∷ []) l₂ r₂ → Wrote l₂ r₂ (wideRuleLength ∷ []) l₃ r₃ → Wrote l₃ r₃ (bytes2 (r .first)) l₄ r₄ → Wrote l₄ r₄ (r .predicate ∷ []) l₅ r₅
+    → Wrote l₅ r₅ (bytes2 (r .second)) l₆ r₆ → Wrote l at (fieldBytes 10 (wideRuleBytes r)) l₆ r₆
+unfolding fieldBytes wideRuleBytes
+wide-wrote l at l₁ l₂ l₃ l₄ l₅ l₆ r₁ r₂ r₃ r₄ r₅ r₆ r a b c d e f =
+    wrote-then _ _ _ _ _ _ _ _ a (wrote-then _ _ _ _ _ _ _ _ b (wrote-then _ _ _ _ _ _ _ _ c (wrote-then _ _ _ _ _ _ _ _ d (wrote-then _ _ _ _ _ _ _ _ e f))))
+
+-- a rule's field, with either kind of names
+module _ (r : Rule) (b : Bool) (e : b ≡ ltb (r .first) narrowNames && ltb (r .second) narrowNames) where
+  pub narrow-first : b ≡ true → r .first < narrowNames
+  narrow-first q = ltb-true _ _ (and-left (ltb (r .first) narrowNames) (ltb (r .second) narrowNames) (sym e ∙ q))
+
+  pub narrow-second : b ≡ true → r .second < narrowNames
+  narrow-second q = ltb-true _ _ (and-right (ltb (r .first) narrowNames) (ltb (r .second) narrowNames) (sym e ∙ q))
+
+  module _ (l : List ℕ) (at : ℕ) (l₁ : List ℕ) (n : ℕ) where
+    pub narrow-field : b ≡ true → Wrote l at (fieldBytes 3 (narrowRuleBytes r)) l₁ n → Wrote l at (ruleFieldBytes r) l₁ n
+    unfolding ruleFieldBytes
+    narrow-field q w = rw (← e, q) w
+
+    pub wide-field : b ≡ false → Wrote l at (fieldBytes 10 (wideRuleBytes r)) l₁ n → Wrote l at (ruleFieldBytes r) l₁ n
+    unfolding ruleFieldBytes
+    wide-field q w = rw (← e, q) w
+
+module _ (l : List ℕ) (at : ℕ) (r : Rule) (l₁ : List ℕ) (n : ℕ) where
+  pub narrow-most : Wrote l at (fieldBytes 3 (narrowRuleBytes r)) l₁ n → n ≤ at + longestRule
+  unfolding fieldBytes narrowRuleBytes
+  narrow-most w = let p = w .place in omega arith
+
+  pub wide-most : Wrote l at (fieldBytes 10 (wideRuleBytes r)) l₁ n → n ≤ at + longestRule
+  unfolding fieldBytes wideRuleBytes
+  wide-most w = let p = w .place in omega arith
+
+pub ruleset spelling = (needs, narrow-first, narrow-second, narrow-field, wide-field, narrow-most, wide-most)
 
 -- ---- put_rules
 
-fields-snoc : (l : List Rule) (r : Rule) → ruleFields (l ++ (r ∷ [])) ≡ ruleFields l ++ fieldBytes 3 (ruleBytes r)
-unfolding ruleFields fieldBytes ruleBytes
-fields-snoc [] r = refl
-fields-snoc (q ∷ qs) r = rw (fields-snoc qs r)
+fields-snoc : (l : List Rule) (r : Rule) → ruleFields (l ++ (r ∷ [])) ≡ ruleFields l ++ ruleFieldBytes r
+unfolding ruleFields
+fields-snoc [] r = append-nil (ruleFieldBytes r)
+fields-snoc (q ∷ qs) r = rw (fields-snoc qs r, append-assoc (ruleFieldBytes q) (ruleFields qs) (ruleFieldBytes r))
 
 module _ (set : Rules) (old : List ℕ) where
+  pub predicate-fits : (i : ℕ) → Known (rulesOf set) → length (set .items) ≡ mostRules → set .count ≤ mostCandidates → i < set .count → itemAt set i .predicate < 256
+  predicate-fits i known whole few h = known-at set i known whole (omega arith) h
+
   pub fields-none : Wrote old 0 (ruleFields (take 0 (set .items))) old 0
   unfolding ruleFields
   fields-none = wrote-none old 0
 
   pub fields-more : (i at r : ℕ) (new next : List ℕ) → Wrote old 0 (ruleFields (take i (set .items))) new at → length (set .items) ≡ mostRules → set .count ≤ mostCandidates → i < set .count
-      → Wrote new at (fieldBytes 3 (ruleBytes (itemAt set i))) next r → Wrote old 0 (ruleFields (take (i + 1) (set .items))) next r
+      → Wrote new at (ruleFieldBytes (itemAt set i)) next r → Wrote old 0 (ruleFields (take (i + 1) (set .items))) next r
   fields-more i at r new next w whole few h v =
       rw (add-one i, take-suc (set .items) i (record { first = 0; predicate = 0; second = 0 }) (omega arith), fields-snoc (take i (set .items)) (itemAt set i)) (wrote-then _ _ _ _ _ _ _ _ w v)
 
-  pub fields-done : (i at : ℕ) (new : List ℕ) → Wrote old 0 (ruleFields (take i (set .items))) new at → i ≤ set .count → set .count ≤ i → at ≤ fieldLength * i → set .count ≤ mostCandidates → foundLength ≤ length old
+  pub fields-done : (i at : ℕ) (new : List ℕ) → Wrote old 0 (ruleFields (take i (set .items))) new at → i ≤ set .count → set .count ≤ i → at ≤ longestRule * i → set .count ≤ mostCandidates → foundLength ≤ length old
       → new ≡ over (ruleFields (rulesOf set)) old
   unfolding over
   fields-done i at new w h l m few room =
@@ -122,6 +160,10 @@ module _ (tests : List Test) (cands : Rules) (buffer : List ℕ) (k : Keeps (can
     unfolding foundCoded wrote coded
     among-none r n q =
         rw (among-few tests short buffer, choice-none tests short (chosen tests (candidatesOf tests)) refl (sym code ∙ n), q)
+
+    -- the predicates of candidates are known
+    pub among-known : (set : Rules) → rulesOf set ≡ picked (rulesOf cands) best → Known (rulesOf set)
+    among-known set q = rw (q, same) (picked-known tests best)
 
     pub among-some : (set : Rules) (new : List ℕ) → (best ≡ 18446744073709551615 → ⊥) → length (set .items) ≡ mostRules → set .count ≤ cands .count
         → rulesOf set ≡ picked (rulesOf cands) best → new ≡ over (ruleFields (rulesOf set)) buffer → findLeaves (set .count) new ≡ foundCoded (findAmong tests buffer)

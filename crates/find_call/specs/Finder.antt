@@ -1,5 +1,5 @@
 -- Finding rules for a file's tests.
-use Prim.Native.Nat.{ℕ, _+_, _*_}
+use Prim.Native.Nat.{ℕ, _*_}
 use mathlib.Core.Bool.{Bool, cond}
 use mathlib.Core.List.{List, _++_}
 use mathlib.Core.Option.{Option, none, some}
@@ -13,16 +13,14 @@ use Rattle.model.specs.Test.{Test, File}
 use Rattle.model.specs.Find.{candidatesOf, picked, chosen}
 use Rattle.file_format.specs.declared.Extent.{Extent}
 use Rattle.file_format.specs.Encode.{ruleFields}
-use Rattle.file_format.specs.File.{headLength, ruleLength, readOf}
+use Rattle.file_format.specs.File.{readOf}
 use Rattle.file_format.specs.Held.{extentOf}
+use Rattle.file_reader.specs.Limits.{longestRule}
 use Rattle.find_candidates.specs.Tests.{tooLong}
 
--- the most bytes of a rule's field, and those that a buffer has to have: room for all candidates
-abbrev pub fieldLength : ℕ
-fieldLength = headLength + ruleLength
-
+-- the bytes that a buffer has to have: room for all candidates, with names of two bytes
 abbrev pub foundLength : ℕ
-foundLength = mostCandidates * fieldLength
+foundLength = mostCandidates * longestRule
 
 -- what a call leaves: its outcome and its buffer
 pub record Found : Type 0 where
@@ -36,7 +34,7 @@ found o b = record { outcome = o; buffer = b }
 unfoldable pub over : List ℕ → List ℕ → List ℕ
 over bytes buffer = bytes ++ drop (length bytes) buffer
 
--- the chosen set's tag 03 fields in candidate order, and how many; 13: no acyclic set makes all tests hold
+-- the chosen set's fields in candidate order, tag 03, or 0A only where a name exceeds 255 (02, [2]), and how many; 13: no acyclic set makes all tests hold
 unfoldable pub wrote : List Rule → Option ℕ → List ℕ → Found
 wrote candidates none buffer = found (refused 13 0) buffer
 wrote candidates (some m) buffer = found (answer (length (picked candidates m))) (over (ruleFields (picked candidates m)) buffer)

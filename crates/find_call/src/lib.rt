@@ -4,22 +4,25 @@ use file_format::Scan;
 use model::Rule;
 use rule_match::Rules;
 ghost use mathlib.Core.Path.{_≡_};
-ghost use mathlib.Core.Bool.{false};
-ghost use Prim.Native.Nat.{_+_, _≤_};
+ghost use mathlib.Core.Bool.{false, _&&_};
+ghost use Prim.Native.Nat.{_+_, _<_, _≤_};
+ghost use lib.Dec.{ltb};
 ghost use lib.ListN.{length};
-ghost use Rattle.model.specs.Limits.{mostTests, mostCandidates};
+ghost use Rattle.model.specs.Limits.{narrowNames, mostTests, mostCandidates};
 ghost use Rattle.model.specs.Find.{chosen};
-ghost use Rattle.file_format.specs.Bytes.{ruleBytes};
-ghost use Rattle.file_format.specs.Encode.{fieldBytes, ruleFields};
+ghost use Rattle.model.specs.Rules.{Known};
+ghost use Rattle.file_format.specs.Bytes.{narrowRuleBytes, wideRuleBytes};
+ghost use Rattle.file_format.specs.Encode.{fieldBytes, ruleFieldBytes, ruleFields};
 ghost use Rattle.file_format.specs.Held.{Placed};
 ghost use Rattle.file_writing.specs.Writing.{Wrote};
+ghost use Rattle.file_reader.specs.Limits.{longestRule};
 ghost use Rattle.rule_match.specs.Held.{rulesOf};
 ghost use Rattle.find_candidates.specs.Tests.{testsIn, tooLong};
 ghost use Rattle.find_choice.specs.Choice.{choiceCode};
-ghost use Rattle.find_call.specs.Finder.{fieldLength, foundLength, longBelow, over, findLeaves, foundCoded, findAmong, findOf};
+ghost use Rattle.find_call.specs.Finder.{foundLength, longBelow, over, findLeaves, foundCoded, findAmong, findOf};
 
 // The most bytes of a rule's field, and those that a buffer has to have.
-const FIELD_LENGTH: usize = file_format::HEAD_LENGTH + file_format::RULE_LENGTH;
+const FIELD_LENGTH: usize = file_format::HEAD_LENGTH + file_format::WIDE_RULE_LENGTH;
 
 const FOUND_LENGTH: usize = model::MOST_CANDIDATES * FIELD_LENGTH;
 
@@ -50,22 +53,56 @@ fn choice(cands: Rules, file: &[u8], tests: [Extent; model::MOST_TESTS], n: usiz
     find_choice::choose(&table, cands)
 }
 
-// A rule's field at a place; answers the next place.
-fn put_rule(buffer: &mut [u8], at: usize, rule: Rule) -> usize
-    requires { ⌜ at + fieldLength ≤ length (now buffer) ⌝ }
-    ensures { λ r. ⌜ Wrote (now (buffer .entry)) at (fieldBytes 3 (ruleBytes rule)) (now (buffer .exit)) r × (r ≤ at + fieldLength) ⌝ }
+// Whether both names of a rule are of one byte.
+fn is_narrow(rule: Rule) -> bool
+    ensures { λ r. ⌜ r ≡ ltb (rule .first) narrowNames && ltb (rule .second) narrowNames ⌝ }
+{
+    if model::NARROW_NAMES <= rule.first {
+        return false;
+    }
+    rule.second < model::NARROW_NAMES
+}
+
+// A rule's field at a place, with names of one byte; answers the next place.
+fn put_narrow_rule(buffer: &mut [u8], at: usize, rule: Rule) -> usize
+    requires { ⌜ (at + longestRule ≤ length (now buffer)) × ((rule .predicate < 256) × ((rule .first < narrowNames) × (rule .second < narrowNames))) ⌝ }
+    ensures { λ r. ⌜ Wrote (now (buffer .entry)) at (fieldBytes 3 (narrowRuleBytes rule)) (now (buffer .exit)) r ⌝ }
 {
     let a = file_writing::put(buffer, at, 3);
     let b = file_writing::put(buffer, a, 0);
-    let c = file_writing::put(buffer, b, file_format::RULE_LENGTH_BYTE);
-    let d = file_writing::put(buffer, c, rule.first);
-    let e = file_writing::put(buffer, d, rule.predicate);
-    file_writing::put(buffer, e, rule.second)
+    let c = file_writing::put(buffer, b, file_format::NARROW_RULE_LENGTH_BYTE);
+    let d = file_writing::put(buffer, c, rule.first as u8);
+    let e = file_writing::put(buffer, d, rule.predicate as u8);
+    file_writing::put(buffer, e, rule.second as u8)
+}
+
+// .., with names of two.
+fn put_wide_rule(buffer: &mut [u8], at: usize, rule: Rule) -> usize
+    requires { ⌜ (at + longestRule ≤ length (now buffer)) × (rule .predicate < 256) ⌝ }
+    ensures { λ r. ⌜ Wrote (now (buffer .entry)) at (fieldBytes 10 (wideRuleBytes rule)) (now (buffer .exit)) r ⌝ }
+{
+    let a = file_writing::put(buffer, at, 10);
+    let b = file_writing::put(buffer, a, 0);
+    let c = file_writing::put(buffer, b, file_format::WIDE_RULE_LENGTH_BYTE);
+    let d = file_writing::put_half(buffer, c, rule.first);
+    let e = file_writing::put(buffer, d, rule.predicate as u8);
+    file_writing::put_half(buffer, e, rule.second)
+}
+
+// .., with names of two bytes only where one exceeds 255.
+fn put_rule(buffer: &mut [u8], at: usize, rule: Rule) -> usize
+    requires { ⌜ (at + longestRule ≤ length (now buffer)) × (rule .predicate < 256) ⌝ }
+    ensures { λ r. ⌜ Wrote (now (buffer .entry)) at (ruleFieldBytes rule) (now (buffer .exit)) r × (r ≤ at + longestRule) ⌝ }
+{
+    if is_narrow(rule) {
+        return put_narrow_rule(buffer, at, rule);
+    }
+    put_wide_rule(buffer, at, rule)
 }
 
 // The rules' fields at the front of a buffer, one behind the other.
 fn put_rules(buffer: &mut [u8], set: Rules)
-    requires { ⌜ (set .count ≤ mostCandidates) × (foundLength ≤ length (now buffer)) ⌝ }
+    requires { ⌜ (set .count ≤ mostCandidates) × (Known (rulesOf set) × (foundLength ≤ length (now buffer))) ⌝ }
     ensures { λ _. ⌜ now (buffer .exit) ≡ over (ruleFields (rulesOf set)) (now (buffer .entry)) ⌝ }
 {
     let mut at: usize = 0;

@@ -13,7 +13,7 @@ ghost use Rattle.find_sets.specs.Kept.{Keeps, Follows};
 ghost use Rattle.find_candidates.specs.Tests.{paired, Pairs, Traces, testsIn};
 
 // The one rule that matches the labels (n, t) and (m, u).
-fn pairing(n: u8, t: u32, m: u8, u: u32) -> Rule
+fn pairing(n: u16, t: u32, m: u16, u: u32) -> Rule
     ensures { λ r. ⌜ r ≡ pairing (label n t) (label m u) ⌝ }
 {
     if t == u {

@@ -84,7 +84,7 @@ module _ (tests : List Test) (rules : List Rule) where
       go true e = absurd (h .0 (cyclic-true rules known e))
       go false e = refl
 
-picked-known : (tests : List Test) (m : ℕ) → Known (picked (candidatesOf tests) m)
+pub picked-known : (tests : List Test) (m : ℕ) → Known (picked (candidatesOf tests) m)
 unfolding Known Candidates Candidate
 picked-known tests m r k =
     let (t, n, i, j, hi, hj, d, e) = collected tests .1 r .0 (picked-member (candidatesOf tests) m r k) in

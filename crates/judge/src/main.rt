@@ -1,5 +1,5 @@
 // The judging program: a file on standard input, a line for each of its tests on standard output.
-// 21,504 bytes are enough: a longer file is refused as its first 21,053 bytes are (`enough`).
+// 22,528 bytes are enough: a longer file is refused as its first 22,462 bytes are (`enough`).
 ghost use mathlib.Core.List.{List};
 ghost use Prim.Native.Nat.{ℕ, _+_, _≤_};
 ghost use lib.ListN.{length};
@@ -8,7 +8,7 @@ ghost use Rattle.judge_text.specs.Theorem.{enough, Read};
 ghost use Rattle.file_writing.specs.Writing.{Wrote};
 
 // The buffer's bytes: `enough`, and some more.
-const BUFFER_LENGTH: usize = 21504;
+const BUFFER_LENGTH: usize = 22528;
 
 // Reads until the buffer is full or the input ends, and answers how many bytes it read; one more
 // than the buffer's length if a read fails.

@@ -25,7 +25,7 @@ use Rattle.rule_cyclelaws.proofs.CyclicLaws.{true-cyclic}
 use Rattle.rule_cyclelaws.proofs.Examples.{equal-cyclic}
 use Rattle.file_format.specs.Bytes.{half, word}
 use Rattle.file_format.specs.Held.{noTest}
-use Rattle.file_format.specs.File.{isTag, isCheck, bodyLength, ruleOf, writeOf, checkOf, countsOf, outOfOrder, overTest, overLimit, ruleFault, bodyFault, faultOf, grown, finished, readFrom, nothing, readOf}
+use Rattle.file_format.specs.File.{isTag, isWide, kindOf, isRule, isCheck, bodyLength, narrowRule, wideRule, ruleOf, narrowWrite, wideWrite, writeOf, checkOf, countsOf, outOfOrder, overTest, overLimit, ruleFault, bodyFault, faultOf, grown, finished, readFrom, nothing, readOf}
 use Rattle.judge_search.specs.Verdict.{verdictBy}
 use Rattle.judge_cases.specs.Judge.{caseIn, judgementOf, verdictOf}
 use Rattle.judge_cases.specs.Theorem.{NoSuchTest, caseOfTest, CaseFor}
@@ -35,7 +35,7 @@ use Rattle.judge_cases.proofs.TheoremLaws.{judged-as-meant}
 -- ---- what is computed: to unfold one of these is to unfold all that it unfolds
 
 fileRead : List ℕ → Outcome File
-unfolding K3-bytes K3-file K3-test ring-bytes readOf readFrom nothing finished grown faultOf bodyFault ruleFault overLimit overTest outOfOrder countsOf checkOf writeOf ruleOf bodyLength isCheck isTag word half block noTest
+unfolding K3-bytes K3-file K3-test ring-bytes readOf readFrom nothing finished grown faultOf bodyFault ruleFault overLimit overTest outOfOrder countsOf checkOf writeOf wideWrite narrowWrite ruleOf wideRule narrowRule bodyLength isCheck isRule kindOf isWide isTag word half block noTest
 fileRead s = readOf s
 
 counted : List Rule → Test → ℕ

@@ -26,10 +26,10 @@ pub fn pack_label(w: Write) -> u64
 }
 
 // The name and the epoch of such a number.
-pub fn name_of(label: u64) -> u8
+pub fn name_of(label: u64) -> u16
     ensures { λ r. ⌜ r ≡ labelled label .name ⌝ }
 {
-    (label / model::WORDS % model::NAMES) as u8
+    (label / model::WORDS % model::NAMES) as u16
 }
 
 pub fn epoch_of(label: u64) -> u32

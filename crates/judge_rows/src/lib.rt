@@ -10,7 +10,7 @@ ghost use Rattle.model.specs.Limits.{mostRules};
 ghost use Rattle.model.specs.Rules.{matches};
 ghost use Rattle.rule_match.specs.Held.{rulesOf};
 ghost use Rattle.judge_disks.specs.Packed.{labelled};
-ghost use Rattle.judge_rows.specs.Rows.{ruleRow, rowOf, rowsFrom};
+ghost use Rattle.judge_rows.specs.Rows.{ruleRow, rowsFrom};
 
 // mask, with bit j set where a rule pairs the one label with the other.
 fn with_match(mask: u64, j: usize, rule: Rule, one: u64, other: u64) -> u64
@@ -44,28 +44,21 @@ fn rule_row(rule: Rule, labels: &[u64; model::MOST_INITIAL], n: usize, one: u64)
     mask
 }
 
-// Which of the first n labels of a column one label depends on.
-fn row(rules: Rules, labels: &[u64; model::MOST_INITIAL], n: usize, one: u64) -> u64
-    requires { ⌜ (rules .count ≤ mostRules) × (n ≤ 64) ⌝ }
-    ensures { λ r. ⌜ r ≡ rowOf (rulesOf rules) (labelled one) (now (labels .entry)) n ⌝ }
-{
-    let mut mask: u64 = 0;
-    let mut k: usize = 0;
-    while k < rules.count {
-        mask = mask | rule_row(rules.items[k], labels, n, one);
-        k += 1;
-    }
-    mask
-}
-
-// The dependencies of the first n labels of a column, computed once.
+// The dependencies of the first n labels of a column, computed once. (The loop over rules stands here, and in no
+// function of its own, so that the rules are not copied for each label.)
 pub fn fill(rows: &mut [u64], rules: Rules, labels: &[u64; model::MOST_INITIAL], n: usize)
     requires { ⌜ (length (now rows) ≡ 64) × ((rules .count ≤ mostRules) × (n ≤ 64)) ⌝ }
     ensures { λ _. ⌜ take n (now (rows .exit)) ≡ rowsFrom (rulesOf rules) (now (labels .entry)) n n ⌝ }
 {
     let mut i: usize = 0;
-    while i < n {
-        rows[i] = row(rules, labels, n, labels[i]);
+    'labels: while i < n {
+        let mut mask: u64 = 0;
+        let mut k: usize = 0;
+        'rules: while k < rules.count {
+            mask = mask | rule_row(rules.items[k], labels, n, labels[i]);
+            k += 1;
+        }
+        rows[i] = mask;
         i += 1;
     }
 }

@@ -6,23 +6,22 @@ use native.Mathlib.Numerals.{add-one}
 use native.Mathlib.Omega.{arith}
 use borrow.Author.Needs.{needs}
 use Rattle.model.specs.declared.Write.{Write}
-use Rattle.file_format.specs.File.{writeLength}
-use Rattle.file_format.specs.Bytes.{word, bytes4, blockLength, writeBytes}
+use Rattle.file_format.specs.File.{narrowWriteLength}
+use Rattle.file_format.specs.Bytes.{word, bytes4, blockLength, narrowWriteBytes}
 use Rattle.file_format.specs.Encode.{fieldBytes}
 use Rattle.file_writing.specs.Writing.{Wrote}
 use Rattle.file_writing.proofs.WroteLaws.{wrote-then, wrote-none}
-use Rattle.log_puts.specs.Fields.{putFields, programFields, endFields}
+use Rattle.log_puts.specs.Fields.{putField, putFields, programFields, endFields}
 
 pub write-wrote : (l : List ℕ) (at : ℕ) (l₁ l₂ l₃ l₄ l₅ l₆ l₇ : List ℕ) (r₁ r₂ r₃ r₄ r₅ r₆ r₇ tag : ℕ) (w : Write)
-    → Wrote l at (tag ∷ []) l₁ r₁ → Wrote l₁ r₁ (0 ∷ []) l₂ r₂ → Wrote l₂ r₂ (writeLength ∷ []) l₃ r₃ → Wrote l₃ r₃ (w .address ∷ []) l₄ r₄ → Wrote l₄ r₄ (w .name ∷ []) l₅ r₅
-    → Wrote l₅ r₅ (bytes4 (w .epoch)) l₆ r₆ → Wrote l₆ r₆ (bytes4 (w .block)) l₇ r₇ → Wrote l at (fieldBytes tag (writeBytes w)) l₇ r₇
-unfolding fieldBytes writeBytes
+    → Wrote l at (tag ∷ []) l₁ r₁ → Wrote l₁ r₁ (0 ∷ []) l₂ r₂ → Wrote l₂ r₂ (narrowWriteLength ∷ []) l₃ r₃ → Wrote l₃ r₃ (w .address ∷ []) l₄ r₄ → Wrote l₄ r₄ (w .name ∷ []) l₅ r₅
+    → Wrote l₅ r₅ (bytes4 (w .epoch)) l₆ r₆ → Wrote l₆ r₆ (bytes4 (w .block)) l₇ r₇ → Wrote l at (fieldBytes tag (narrowWriteBytes w)) l₇ r₇
+unfolding fieldBytes narrowWriteBytes
 write-wrote l at l₁ l₂ l₃ l₄ l₅ l₆ l₇ r₁ r₂ r₃ r₄ r₅ r₆ r₇ tag w a b c d e f g =
     wrote-then _ _ _ _ _ _ _ _ a (wrote-then _ _ _ _ _ _ _ _ b (wrote-then _ _ _ _ _ _ _ _ c (wrote-then _ _ _ _ _ _ _ _ d (wrote-then _ _ _ _ _ _ _ _ e (wrote-then _ _ _ _ _ _ _ _ f g)))))
 
 pub put-wrote : (l : List ℕ) (at : ℕ) (l₁ l₂ : List ℕ) (r₁ r₂ tag tail epoch block : ℕ)
-    → Wrote l at (fieldBytes tag (writeBytes (record { address = tail; name = 1; epoch = epoch; block = block }))) l₁ r₁
-    → Wrote l₁ r₁ (fieldBytes tag (writeBytes (record { address = 0; name = 2; epoch = epoch; block = 65537 + tail }))) l₂ r₂
+    → Wrote l at (putField tag tail 1 epoch block) l₁ r₁ → Wrote l₁ r₁ (putField tag 0 2 epoch (65537 + tail)) l₂ r₂
     → Wrote l at (putFields tag tail epoch block) l₂ r₂
 unfolding putFields
 put-wrote l at l₁ l₂ r₁ r₂ tag tail epoch block a b = wrote-then _ _ _ _ _ _ _ _ a b

@@ -1,14 +1,16 @@
 -- The fields of puts, and the end of a trace.
 use Prim.Native.Nat.{ℕ, zero, suc, _+_, _*_}
 use mathlib.Core.List.{List, [], _∷_, _++_}
-use Rattle.file_format.specs.Bytes.{word, blockLength, writeBytes}
+use Rattle.file_format.specs.Bytes.{word, blockLength, narrowWriteBytes}
 use Rattle.file_format.specs.Encode.{fieldBytes}
+
+-- a write's field with a name of one byte
+abbrev pub putField : ℕ → ℕ → ℕ → ℕ → ℕ → List ℕ
+putField tag address name epoch block = fieldBytes tag (narrowWriteBytes (record { address = address; name = name; epoch = epoch; block = block }))
 
 -- the fields of one put of a block: log block at tail, superblock (1, tail + 1)
 unfoldable pub putFields : ℕ → ℕ → ℕ → ℕ → List ℕ
-putFields tag tail epoch block =
-    fieldBytes tag (writeBytes (record { address = tail; name = 1; epoch = epoch; block = block }))
-    ++ fieldBytes tag (writeBytes (record { address = 0; name = 2; epoch = epoch; block = 65537 + tail }))
+putFields tag tail epoch block = putField tag tail 1 epoch block ++ putField tag 0 2 epoch (65537 + tail)
 
 -- the fields of a program's first n puts
 unfoldable pub programFields : ℕ → ℕ → ℕ → List ℕ → ℕ → List ℕ

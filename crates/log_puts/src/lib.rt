@@ -1,27 +1,33 @@
 // The fields of puts, written into a lent buffer.
-use model::Write;
 ghost use mathlib.Core.Path.{_≡_};
 ghost use Prim.Native.Nat.{_+_, _*_, _<_, _≤_};
 ghost use lib.ListN.{length};
 ghost use Rattle.model.specs.Limits.{lastBlock, mostInitialPuts};
-ghost use Rattle.file_format.specs.File.{putLength, endLength, headLength, writeLength};
-ghost use Rattle.file_format.specs.Bytes.{blockLength, writeBytes};
-ghost use Rattle.file_format.specs.Encode.{fieldBytes};
+ghost use Rattle.file_format.specs.File.{putLength, endLength, headLength, narrowWriteLength};
+ghost use Rattle.file_format.specs.Bytes.{blockLength};
 ghost use Rattle.file_writing.specs.Writing.{Wrote};
-ghost use Rattle.log_puts.specs.Fields.{putFields, programFields, endFields};
+ghost use Rattle.log_puts.specs.Fields.{putField, putFields, programFields, endFields};
 
-// A write's field with a tag.
-fn put_write(out: &mut [u8], at: usize, tag: u8, w: Write) -> usize
-    requires { ⌜ at + (headLength + writeLength) ≤ length (now out) ⌝ }
-    ensures { λ r. ⌜ Wrote (now (out .entry)) at (fieldBytes tag (writeBytes w)) (now (out .exit)) r × (r ≡ at + (headLength + writeLength)) ⌝ }
+// A write's field with a tag and a name of one byte.
+fn put_write(
+    out: &mut [u8],
+    at: usize,
+    tag: u8,
+    address: u8,
+    name: u8,
+    epoch: u32,
+    block: u32,
+) -> usize
+    requires { ⌜ at + (headLength + narrowWriteLength) ≤ length (now out) ⌝ }
+    ensures { λ r. ⌜ Wrote (now (out .entry)) at (putField tag address name epoch block) (now (out .exit)) r × (r ≡ at + (headLength + narrowWriteLength)) ⌝ }
 {
     let a = file_writing::put(out, at, tag);
     let b = file_writing::put(out, a, 0);
-    let c = file_writing::put(out, b, file_format::WRITE_LENGTH_BYTE);
-    let d = file_writing::put(out, c, w.address);
-    let e = file_writing::put(out, d, w.name);
-    let f = file_writing::put_word(out, e, w.epoch);
-    file_writing::put_word(out, f, w.block)
+    let c = file_writing::put(out, b, file_format::NARROW_WRITE_LENGTH_BYTE);
+    let d = file_writing::put(out, c, address);
+    let e = file_writing::put(out, d, name);
+    let f = file_writing::put_word(out, e, epoch);
+    file_writing::put_word(out, f, block)
 }
 
 // A put of a block at tail: the block, then the superblock.
@@ -29,20 +35,8 @@ fn put_put(out: &mut [u8], at: usize, tag: u8, tail: u8, epoch: u32, block: u32)
     requires { ⌜ (at + putLength ≤ length (now out)) × (tail < lastBlock) ⌝ }
     ensures { λ r. ⌜ Wrote (now (out .entry)) at (putFields tag tail epoch block) (now (out .exit)) r × (r ≡ at + putLength) ⌝ }
 {
-    let first = Write {
-        address: tail,
-        name: 1,
-        epoch,
-        block,
-    };
-    let second = Write {
-        address: 0,
-        name: 2,
-        epoch,
-        block: 65537 + (tail as u32),
-    };
-    let next = put_write(out, at, tag, first);
-    put_write(out, next, tag, second)
+    let next = put_write(out, at, tag, tail, 1, epoch, block);
+    put_write(out, next, tag, 0, 2, epoch, 65537 + (tail as u32))
 }
 
 // The puts of a program, for a log with this tail and epoch.

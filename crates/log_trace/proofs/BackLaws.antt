@@ -16,7 +16,7 @@ use Rattle.model.specs.declared.Check.the-variants.{Range}
 use Rattle.model.specs.Answer.{Outcome, answer, refused}
 use Rattle.model.specs.Disk.{block}
 use Rattle.model.specs.Test.{file}
-use Rattle.file_format.specs.Bytes.{Small, half, word, blockLength, writeBytes}
+use Rattle.file_format.specs.Bytes.{Small, half, word, blockLength, narrowWriteBytes}
 use Rattle.file_format.specs.Encode.{fieldBytes, testBytes, WriteFits, CheckFits, TestFits}
 use Rattle.file_format.specs.File.{readOf, putLength}
 use Rattle.file_reader.specs.Limits.{TestLimits}
@@ -87,7 +87,7 @@ module _ (i m : List Put) (f : Fit i) (g : Fit m) (h : length i ≤ mostInitialP
 -- ---- its length
 
 put-length : (tag t e b : ℕ) → length (putFields tag t e b) ≡ putLength
-unfolding putFields fieldBytes writeBytes
+unfolding putFields fieldBytes narrowWriteBytes
 put-length tag t e b = refl
 
 program-length : (tag t e : ℕ) (s : List ℕ) (n : ℕ) → length (programFields tag t e s n) ≡ putLength * n

@@ -15,8 +15,8 @@ use Rattle.relation.proofs.ListLaws.{any-append, length-tabulate, and-left, and
 use Rattle.model.specs.Limits.{mostInitialPuts, mostMainPuts}
 use Rattle.model.specs.declared.Write.{Write}
 use Rattle.model.specs.Disk.{block}
-use Rattle.file_format.specs.Bytes.{half, word, blockLength, writeBytes}
-use Rattle.file_format.specs.Encode.{fieldBytes, writeFields, checkFieldBytes, checkFields, testBytes}
+use Rattle.file_format.specs.Bytes.{half, word, blockLength}
+use Rattle.file_format.specs.Encode.{fieldBytes, writeFieldBytes, writeFields, checkFieldBytes, checkFields, testBytes}
 use Rattle.log_get.specs.Puts.{Put, Log, log, start, putWrites, after, afterAll, writesOf, putsOf, emptyPut, logTest, traced, traceOf}
 use Rattle.model.specs.Answer.{answer, refused, refusal, coded}
 use Rattle.file_writing.specs.Writing.{Wrote}
@@ -31,7 +31,7 @@ putAt s i = record { key = half s (blockLength * i); value = half s (blockLength
 pub fields-append : (tag : ℕ) (a b : List Write) → writeFields tag (a ++ b) ≡ writeFields tag a ++ writeFields tag b
 unfolding writeFields
 fields-append tag [] b = refl
-fields-append tag (w ∷ ws) b = rw (fields-append tag ws b) (sym (append-assoc (fieldBytes tag (writeBytes w)) (writeFields tag ws) (writeFields tag b)))
+fields-append tag (w ∷ ws) b = rw (fields-append tag ws b) (sym (append-assoc (writeFieldBytes tag w) (writeFields tag ws) (writeFields tag b)))
 
 pub writes-append : (l : Log) (ps qs : List Put) → writesOf l (ps ++ qs) ≡ writesOf l ps ++ writesOf (afterAll l ps) qs
 unfolding writesOf afterAll
@@ -53,7 +53,7 @@ next-tail : (t : ℕ) → 1 * 65536 + (t + 1) ≡ 65537 + t
 next-tail t = omega arith
 
 one-put : (tag t e : ℕ) (s : List ℕ) (i : ℕ) → writeFields tag (writesOf (log 1 t e) (putAt s i ∷ [])) ≡ putFields tag t e (word s (blockLength * i))
-unfolding writeFields writesOf putWrites putFields word block
+unfolding writeFields writeFieldBytes writesOf putWrites putFields word block
 one-put tag t e s i = rw (next-tail t, append-nil)
 
 fields-none : (tag : ℕ) (l : Log) → [] ≡ writeFields tag (writesOf l [])

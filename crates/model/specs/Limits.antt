@@ -1,10 +1,15 @@
 -- The limits of documents 01 and 02, each by its name.
 use Prim.Native.Nat.{ℕ, _-_, _/_, _^_}
 
--- the names of structures, and the numbers of four bytes: a write's epoch, its block
+-- the names of structures, which are numbers of two bytes (02, [2])
 abbrev pub names : ℕ
-names = 256
+names = 65536
 
+-- those of one byte
+abbrev pub narrowNames : ℕ
+narrowNames = 256
+
+-- the numbers of four bytes: a write's epoch, its block
 abbrev pub words : ℕ
 words = 4294967296
 

@@ -5,7 +5,9 @@ ghost use Rattle.model.specs.Limits.{words};
 ghost use Rattle.model.specs.Answer.{refusal};
 
 // The limits of documents 01 and 02, each by its name (specs/Limits.antt says what they are of).
-pub const NAMES: u64 = 256;
+pub const NAMES: u64 = 65536;
+
+pub const NARROW_NAMES: u16 = 256;
 
 pub const WORDS: u64 = 4294967296;
 
@@ -40,16 +42,17 @@ pub const MOST_HELD: usize = 64;
 // A write: its address, its label (a name and an epoch) and its block, both halves in one number.
 pub struct Write {
     pub address: u8,
-    pub name: u8,
+    pub name: u16,
     pub epoch: u32,
     pub block: u32,
 }
 
-// A rule: writes named `first` depend on writes named `second` whose epochs are so related.
+// A rule: writes named `first` depend on writes named `second` whose epochs are so related. (The predicate is
+// of one byte everywhere else. With three numbers of one width there is no gap, and rules are copied as a whole.)
 pub struct Rule {
-    pub first: u8,
-    pub predicate: u8,
-    pub second: u8,
+    pub first: u16,
+    pub predicate: u16,
+    pub second: u16,
 }
 
 // A check of a disk, with its addresses and blocks.

@@ -38,7 +38,7 @@ pub extern "C" fn pelzhondy_drain(state: &mut [u8], disk: &mut [u8]) -> u64
 pub extern "C" fn pelzhondy_hand_in(
     state: &mut [u8],
     address: u8,
-    name: u8,
+    name: u16,
     epoch: u32,
     first: u16,
     second: u16,

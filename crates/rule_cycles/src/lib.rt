@@ -18,7 +18,7 @@ ghost use Rattle.rule_cycles.specs.Links.{starts, linked, Buckets, near,
 const ALL: u64 = 18446744073709551615;
 
 // The rules with a predicate.
-fn having(rules: Rules, predicate: u8) -> u64
+fn having(rules: Rules, predicate: u16) -> u64
     requires { ⌜ rules .count ≤ mostRules ⌝ }
     ensures { λ r. ⌜ r ≡ maskOf (has (rulesOf rules) predicate) (rules .count) ⌝ }
 {
@@ -32,7 +32,7 @@ fn having(rules: Rules, predicate: u8) -> u64
 }
 
 // The rules whose first name is a name.
-fn starting(rules: Rules, name: u8) -> u64
+fn starting(rules: Rules, name: u16) -> u64
     requires { ⌜ rules .count ≤ mostRules ⌝ }
     ensures { λ r. ⌜ r ≡ maskOf (starts (rulesOf rules) name) (rules .count) ⌝ }
 {
@@ -69,7 +69,7 @@ fn fill(rows: &mut [u64], rules: Rules, among: u64)
 }
 
 // The lowest six bits of a name.
-fn bucket(name: u8) -> usize
+fn bucket(name: u16) -> usize
     ensures { λ r. ⌜ (r ≡ name % 64) × (r < 64) ⌝ }
 {
     name as usize % 64
@@ -89,7 +89,7 @@ fn fill_buckets(buckets: &mut [u32], rules: Rules)
 }
 
 // A row of i, without i itself but where i is a = rule: a > or a < rule makes no ring by itself.
-fn apart(row: u64, i: usize, predicate: u8) -> u64
+fn apart(row: u64, i: usize, predicate: u16) -> u64
     requires { ⌜ i < 64 ⌝ }
     ensures { λ r. ⌜ r ≡ cond (eqb predicate 0) row (without row (2 ^ i)) ⌝ }
 {

@@ -10,10 +10,10 @@ use lib.Seq.{length-take-le, getD-take, take-suc}
 use borrow.Author.Needs.{needs}
 use borrow.Author.Tests.{eq-eqb, ne-eqb}
 use Rattle.relation.specs.Lists.{any}
-use Rattle.relation.proofs.ListLaws.{any-append}
+use Rattle.relation.proofs.ListLaws.{any-append, index-mem}
 use Rattle.model.specs.Limits.{mostRules}
 use Rattle.model.specs.declared.Rule.{Rule}
-use Rattle.model.specs.Rules.{Label, stands, matches, dependsOn}
+use Rattle.model.specs.Rules.{Label, stands, matches, dependsOn, Known}
 use Rattle.model.specs.Cyclic.{noRule, ruleAt}
 use Rattle.rule_match.specs.declared.Rules.{Rules}
 use Rattle.rule_match.specs.Held.{itemAt, rulesOf}
@@ -27,6 +27,13 @@ length-mapped X Y f l n e = sym (length-map l f) ∙ e
 module _ (rules : Rules) where
   pub held-length : length (rules .items) ≡ mostRules → rules .count ≤ mostRules → length (rulesOf rules) ≡ rules .count
   held-length all few = length-take-le (rules .count) (rules .items) (omega arith)
+
+  -- a known predicate is of one byte
+  pub known-at : (i : ℕ) → Known (rulesOf rules) → length (rules .items) ≡ mostRules → rules .count ≤ mostRules → i < rules .count → itemAt rules i .predicate < 256
+  unfolding Known
+  known-at i known whole few h =
+      let l = known (itemAt rules i) (index-mem (rulesOf rules) i (record { first = 0; predicate = 0; second = 0 }) (rw (held-length whole few) h) (getD-take (rules .count) (rules .items) i (record { first = 0; predicate = 0; second = 0 }) h)) in
+      omega arith
 
   pub held-at : (i : ℕ) → i < rules .count → ruleAt (rulesOf rules) i ≡ itemAt rules i
   unfolding noRule

@@ -26,7 +26,7 @@ pub fn none() -> Rules
 }
 
 // Whether epochs t and u stand in the relation of a predicate.
-fn epochs_stand(p: u8, t: u32, u: u32) -> bool
+fn epochs_stand(p: u16, t: u32, u: u32) -> bool
     ensures { λ r. ⌜ r ≡ stands p t u ⌝ }
 {
     if p == 0 {
@@ -42,7 +42,7 @@ fn epochs_stand(p: u8, t: u32, u: u32) -> bool
 }
 
 // Whether a rule pairs the label (n, t) with the label (m, u).
-pub fn matches(rule: Rule, n: u8, t: u32, m: u8, u: u32) -> bool
+pub fn matches(rule: Rule, n: u16, t: u32, m: u16, u: u32) -> bool
     ensures { λ r. ⌜ r ≡ matches rule (label n t) (label m u) ⌝ }
 {
     if n != rule.first {

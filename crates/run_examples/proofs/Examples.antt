@@ -1,5 +1,6 @@
 -- Runs that meet every hypothesis of the claim, with calls of every kind. One is cut inside a drain, with two puts of a longer test K stored and
 -- a write waiting, and its disk is consistent. K8, K9 and K11 of the bench sheet are runs too; K8's shows that the claim's last hypothesis is needed.
+-- The last has names of one byte and of two.
 use mathlib.Core.Path.{_≡_, refl, sym, ap, subst, _∙_}
 use mathlib.Core.Bool.{Bool, true, false, not, _&&_, false≢true}
 use mathlib.Core.List.{List, [], _∷_, _++_, List·Memᴰ, List·Memᴰ·not-nil, List·Memᴰ·cases-cons, List·Memᴰ·append-cases}
@@ -7,7 +8,7 @@ use mathlib.Core.Logic.{inl, inr, ⊎-elim}
 use Prim.{tt}
 use Prim.Native.Nat.{ℕ, _+_, _*_, _<_}
 use native.Mathlib.Omega.{arith}
-use lib.ListN.{length, replicate, getD-replicate}
+use lib.ListN.{length, take, drop, replicate, getD-replicate}
 use lib.Dec.{leb}
 use borrow.Author.Tests.{le-leb}
 use Rattle.relation.specs.Bits.{bit, withBit, maskOf}
@@ -28,8 +29,8 @@ use Rattle.model.specs.Test.{Test, test, file, initialDisk, bad, countBelow, ba
 use Rattle.model.proofs.RuleLaws.{dependsOn-true, true-dependsOn}
 use Rattle.model.proofs.CheckLaws.{true-consistent}
 use Rattle.model.proofs.TestLaws.{count-holds}
-use Rattle.file_format.specs.Bytes.{half, word, blockLength, diskLength, blockIn, blocksOf, writeBytes, ruleBytes}
-use Rattle.file_format.specs.File.{isTag, isCheck, bodyLength, ruleOf, writeOf, countsOf, outOfOrder, overTest, overLimit, ruleFault, bodyFault, faultOf, grown, finished, readFrom, nothing, readOf}
+use Rattle.file_format.specs.Bytes.{half, word, blockLength, diskLength, blockIn, blocksOf, wideWriteBytes, wideRuleBytes}
+use Rattle.file_format.specs.File.{isTag, isWide, kindOf, isRule, isCheck, bodyLength, narrowRule, wideRule, ruleOf, narrowWrite, wideWrite, writeOf, countsOf, outOfOrder, overTest, overLimit, ruleFault, bodyFault, faultOf, grown, finished, readFrom, nothing, readOf}
 use Rattle.file_reader.proofs.CallerLaws.{holding-limits}
 use Rattle.rule_cyclelaws.proofs.CyclicLaws.{cyclic-true}
 use Rattle.log_get.specs.Puts.{Put, writesOf, putWrites, afterAll, logTest, start as startLog, after as afterPut}
@@ -87,7 +88,7 @@ safe {bytes} {rules} {disk} {calls} r = demand3 bytes blank disk (file rules [])
 
 -- what the calls give
 unfoldable pub gave : List Rule → List Call → Moment → List (Outcome ℕ)
-unfolding next called calledBy ownAfter isRefused noted entered appended stepEntered stepsEntered waitingIn flagging flagAt opened bytesEach ruleBytes openOf openWith handInOf stepOf stepped drainOf drained stepsOf checked storing late sound ruled needsHold layout same stateOf front back entriesIn flagCount known cyclic meets equalLeads has leads noRule hasRing loops closed round joined rowsOf related countBelow met needs needsRing readyFrom ready rulesIn writesIn storedIn ruleIn writeIn handed marked storedOn entryBytes writeBytes block valued getOf damaged getFrom keyed valueCode blockIn empty firstOf secondOf isTag isCheck bodyLength ruleOf writeOf countsOf outOfOrder overTest overLimit ruleFault bodyFault faultOf grown finished readFrom nothing readOf half word noWrite dependsOn matches stands bit withBit maskOf allBelow anyBelow any all tabulate blank
+unfolding next called calledBy ownAfter isRefused noted entered appended stepEntered stepsEntered waitingIn flagging flagAt opened bytesEach wideRuleBytes openOf openWith handInOf stepOf stepped drainOf drained stepsOf checked storing late sound ruled needsHold layout same stateOf front back entriesIn flagCount known cyclic meets equalLeads has leads noRule hasRing loops closed round joined rowsOf related countBelow met needs needsRing readyFrom ready rulesIn writesIn storedIn ruleIn writeIn handed marked storedOn entryBytes wideWriteBytes block valued getOf damaged getFrom keyed valueCode blockIn empty firstOf secondOf isTag isWide kindOf isRule isCheck bodyLength narrowRule wideRule ruleOf narrowWrite wideWrite writeOf countsOf outOfOrder overTest overLimit ruleFault bodyFault faultOf grown finished readFrom nothing readOf half word noWrite dependsOn matches stands bit withBit maskOf allBelow anyBelow any all tabulate blank
 gave rules [] m = []
 gave rules (c ∷ cs) m = called c (m .held) .outcome ∷ gave rules cs (next rules c m)
 
@@ -118,7 +119,7 @@ log4 = given 5 1 4 4 60
 abbrev pub superblock4 : Write
 superblock4 = given 0 2 4 1 6
 
-hand-in : (address name epoch first second : ℕ) → address < 256 → name < 256 → epoch < 4294967296 → first < 65536 → second < 65536
+hand-in : (address name epoch first second : ℕ) → address < 256 → name < 65536 → epoch < 4294967296 → first < 65536 → second < 65536
     → Listed (onOwn (handIn (given address name epoch first second)))
 unfolding ListedAs
 hand-in address name epoch first second a n e f s = (widths address name epoch first second a n e f s, inl refl)
@@ -527,3 +528,88 @@ run-K11 =
 pub K11 : gave downRules downward (start downBytes blank) ≡ answer 1 ∷ answer 2 ∷ answer 2 ∷ []
 unfolding gave downRules downward
 K11 = ap (λ (s : List ℕ). gave downRules downward (begun s blank)) down-state
+
+-- ---- names of one byte and of two (02, [2])
+
+-- the rules (2,=,1), by tag 03, and (258,>,257), by tag 0A. The low bytes of 257 and 258 are 1 and 2
+pub namesBytes : List ℕ
+namesBytes = 3 ∷ 0 ∷ 3 ∷ 2 ∷ 0 ∷ 1 ∷ 10 ∷ 0 ∷ 5 ∷ 1 ∷ 2 ∷ 1 ∷ 1 ∷ 1 ∷ []
+
+pub namesRules : List Rule
+namesRules = record { first = 2; predicate = 0; second = 1 } ∷ record { first = 258; predicate = 1; second = 257 } ∷ []
+
+abbrev pub wide258 : Write
+wide258 = given 5 258 2 0 1
+
+abbrev pub wide257 : Write
+wide257 = given 6 257 1 0 2
+
+abbrev pub narrow2 : Write
+narrow2 = given 9 2 1 0 5
+
+abbrev pub narrow1 : Write
+narrow1 = given 7 1 1 0 3
+
+-- 258 needs 257, which is stored first
+pub namesBegun : List Call
+namesBegun = onOwn (handIn wide258) ∷ onOwn (handIn wide257) ∷ onOwn (handIn narrow2) ∷ onOwn (handIn narrow1) ∷ onOwn step ∷ []
+
+-- then 258, which needs nothing of 1, and then 1, since 2 needs it. Once 258 is stored, a 257 of an earlier epoch is late, and a 1 of that epoch is not
+pub namesThen : List Call
+namesThen = onOwn step ∷ onOwn step ∷ onOwn (handIn (given 8 257 0 0 4)) ∷ onOwn (handIn (given 8 1 0 0 4)) ∷ onOwn drain ∷ []
+
+names-read : readOf namesBytes ≡ answer (file namesRules [])
+unfolding namesBytes namesRules gave
+names-read = refl
+
+names-state : openOf namesBytes blank blank .state ≡ opened namesRules
+unfolding namesBytes namesRules gave
+names-state = refl
+
+names-opens : openOf namesBytes blank blank .outcome ≡ answer 0
+unfolding namesBytes gave
+names-opens = refl
+
+pub run-names : Run namesBytes namesRules blank (namesBegun ++ namesThen)
+unfolding blank namesBegun namesThen
+run-names =
+    record {
+      reads = names-read;
+      opens = names-opens;
+      size = refl;
+      listed =
+          hand-in 5 258 2 0 1 (omega arith) (omega arith) (omega arith) (omega arith) (omega arith)
+          also hand-in 6 257 1 0 2 (omega arith) (omega arith) (omega arith) (omega arith) (omega arith)
+          also hand-in 9 2 1 0 5 (omega arith) (omega arith) (omega arith) (omega arith) (omega arith)
+          also hand-in 7 1 1 0 3 (omega arith) (omega arith) (omega arith) (omega arith) (omega arith) also step-listed also step-listed also step-listed
+          also hand-in 8 257 0 0 4 (omega arith) (omega arith) (omega arith) (omega arith) (omega arith)
+          also hand-in 8 1 0 0 4 (omega arith) (omega arith) (omega arith) (omega arith) (omega arith) also drain-listed also none;
+    }
+
+pub gave-names : gave namesRules (namesBegun ++ namesThen) (start namesBytes blank)
+    ≡ answer 1 ∷ answer 2 ∷ answer 3 ∷ answer 4 ∷ answer 2 ∷ answer 1 ∷ answer 4 ∷ refused 17 0 ∷ answer 5 ∷ answer 2 ∷ []
+unfolding gave namesRules namesBegun namesThen
+gave-names = ap (λ (s : List ℕ). gave namesRules (namesBegun ++ namesThen) (begun s blank)) names-state
+
+-- the supply is cut after the first step
+pub begun-names : Moment
+begun-names = after namesRules namesBegun (start namesBytes blank)
+
+pub begun-book : begun-names .book ≡ entry wide258 false ∷ entry wide257 true ∷ entry narrow2 false ∷ entry narrow1 false ∷ []
+unfolding begun-names after gave namesRules namesBegun
+begun-book = ap (λ (s : List ℕ). after namesRules namesBegun (begun s blank) .book) names-state
+
+pub safe-names : Safe namesRules blank begun-names
+unfolding begun-names
+safe-names = safe run-names begun-names (cut-after namesRules namesBegun namesThen (start namesBytes blank))
+
+-- the state's bytes there: counts, two rules of 5 bytes from 4 on, and from 164 on four writes of 12
+pub begun-bytes : (take 14 (begun-names .held .state) ≡ 2 ∷ 4 ∷ 1 ∷ 0 ∷ 0 ∷ 2 ∷ 0 ∷ 0 ∷ 1 ∷ 1 ∷ 2 ∷ 1 ∷ 1 ∷ 1 ∷ [])
+    × (take 48 (drop 164 (begun-names .held .state))
+    ≡ 5 ∷ 1 ∷ 2 ∷ 0 ∷ 0 ∷ 0 ∷ 2 ∷ 0 ∷ 0 ∷ 0 ∷ 1 ∷ 0 ∷ 6 ∷ 1 ∷ 1 ∷ 0 ∷ 0 ∷ 0 ∷ 1 ∷ 0 ∷ 0 ∷ 0 ∷ 2 ∷ 1
+    ∷ 9 ∷ 0 ∷ 2 ∷ 0 ∷ 0 ∷ 0 ∷ 1 ∷ 0 ∷ 0 ∷ 0 ∷ 5 ∷ 0 ∷ 7 ∷ 0 ∷ 1 ∷ 0 ∷ 0 ∷ 0 ∷ 1 ∷ 0 ∷ 0 ∷ 0 ∷ 3 ∷ 0 ∷ [])
+unfolding begun-names after gave namesRules namesBegun
+begun-bytes = (
+  ap (λ (s : List ℕ). take 14 (after namesRules namesBegun (begun s blank) .held .state)) names-state,
+  ap (λ (s : List ℕ). take 48 (drop 164 (after namesRules namesBegun (begun s blank) .held .state))) names-state,
+)

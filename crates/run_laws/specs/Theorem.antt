@@ -87,10 +87,10 @@ RefusedOpenings =
     (file mine disk : List ℕ) (s d : Lent) → length mine ≡ stateSize
     → Listed (call (opening file) s d) ↔ (isRefused (openOf file (lentTo s mine) disk .outcome) ≡ true)
 
--- the write of hand-in's five values, which in C are numbers of 8, 8, 32, 16 and 16 bits, is one of the right widths
+-- the write of hand-in's five values, which in C are numbers of 8, 16, 32, 16 and 16 bits, is one of the right widths
 abbrev pub Widths : Type 0
 Widths =
-    (address name epoch first second : ℕ) → address < 256 → name < 256 → epoch < 4294967296 → first < 65536 → second < 65536
+    (address name epoch first second : ℕ) → address < 256 → name < 65536 → epoch < 4294967296 → first < 65536 → second < 65536
     → WriteFits (given address name epoch first second)
 
 -- openings and hand-ins take no disk: whatever disk stands beside them, they give the same, leave the same state, and leave that disk.

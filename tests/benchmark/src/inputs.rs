@@ -4,13 +4,14 @@ use reference::cache::{self, DISK, STATE};
 use reference::checks::Check;
 use reference::counts;
 use reference::crashes;
-use reference::file::{File, Test, LONGEST, MOST_CHECKS, MOST_INITIAL, MOST_MAIN, MOST_TESTS};
+use reference::file::{File, Test, LONGEST, LONGEST_NARROW};
+use reference::file::{MOST_CHECKS, MOST_INITIAL, MOST_MAIN, MOST_TESTS};
 use reference::generate::{self, Values};
 use reference::judge::judge_test;
 use reference::log;
 use reference::random::Random;
 use reference::samples::{log_rules, test_k};
-use reference::writes::{block, rule, write, Block, Predicate, Rule, Write};
+use reference::writes::{block, rule, write, Block, Name, Predicate, Rule, Write};
 
 /// The main writes of a test, but for those of 20 and the longest file: as many as finding takes.
 pub const MAIN: usize = 12;
@@ -51,8 +52,8 @@ const RANGES: u8 = 60;
 fn settings_test() -> Test {
     let (old, new) = (block(1, 1), block(2, 2));
     let first = |k: u8| (SETTINGS + 2 * k) as u16;
-    let setting = |i: u8, block| write(SETTINGS + i, i / 2, 0, block);
-    let mark = |k: u8, number| write(MARKS + k, 10 + k, 0, block(number, first(k)));
+    let setting = |i: u8, block| write(SETTINGS + i, Name::from(i / 2), 0, block);
+    let mark = |k: u8, number| write(MARKS + k, 10 + Name::from(k), 0, block(number, first(k)));
     let range = |k: u8| write(RANGES + k, 20, 0, block(first(k), first(k) + 2));
     let new_mark_has = |i: u8| Check::Pair {
         a: MARKS + i / 2,
@@ -79,7 +80,7 @@ fn settings_test() -> Test {
 }
 
 /// 12 main writes and 16 checks under the first so many of four rules, one for each mark.
-pub fn settings_file(rules: u8) -> Vec<u8> {
+pub fn settings_file(rules: Name) -> Vec<u8> {
     let rules: Vec<Rule> = (0..rules)
         .map(|k| rule(10 + k, Predicate::Equal, k))
         .collect();
@@ -87,23 +88,23 @@ pub fn settings_file(rules: u8) -> Vec<u8> {
 }
 
 /// The names of a mark and of its settings.
-const FIRST: u8 = 1;
-const SECOND: u8 = 2;
-const THIRD: u8 = 3;
-const MARK: u8 = 4;
+const FIRST: Name = 1;
+const SECOND: Name = 2;
+const THIRD: Name = 3;
+const MARK: Name = 4;
 
 /// Five marks, each for three settings: 15 settings are written, then the marks, where there were
 /// none. A mark is a range of its first setting, which is not there before; with a mark the others
 /// are new. A pointer of the first mark is never broken.
 fn marks_test() -> Test {
     let (old, new) = (block(1, 1), block(2, 2));
-    let setting = |k: u8, name: u8| SETTINGS + 3 * k + name - FIRST;
+    let setting = |k: u8, name: Name| SETTINGS + 3 * k + (name - FIRST) as u8;
     let range = |k: u8| {
         let first = setting(k, FIRST) as u16;
         block(first, first + 1)
     };
     let settings = || (0..5).flat_map(|k| [FIRST, SECOND, THIRD].map(|name| (k, name)));
-    let is_new = |(k, name): (u8, u8)| Check::Pair {
+    let is_new = |(k, name): (u8, Name)| Check::Pair {
         a: MARKS + k,
         v: range(k),
         b: setting(k, name),
@@ -266,13 +267,40 @@ pub fn superblocks_file() -> Vec<u8> {
     file_of(&[rule(1, Predicate::Greater, 1)], vec![test])
 }
 
-/// The longest file that reading accepts, with rules that are not cyclic; in some of its tests the
-/// rules leave hundreds of schedules valid, some hold and some fail. Every fourth test asks of what a
-/// write leaves that it is that, and holds.
+/// The longest file with names of one byte that reading accepts, with rules that are not cyclic; in some
+/// of its tests the rules leave hundreds of schedules valid, some hold and some fail. Every fourth test
+/// asks of what a write leaves that it is that, and holds.
+pub fn longest_narrow_file() -> Vec<u8> {
+    longest().to_bytes()
+}
+
+/// The same with names above 255: no file is longer.
 pub fn longest_file() -> Vec<u8> {
+    let mut file = longest();
+    let above = |name| 256 + name;
+    rename(&mut file.rules, &mut [], above);
+    for test in &mut file.tests {
+        rename(&mut [], &mut test.initial, above);
+        rename(&mut [], &mut test.main, above);
+    }
+    let bytes = file.to_bytes();
+    assert_eq!(bytes.len(), LONGEST);
+    bytes
+}
+
+/// Gives rules and writes other names.
+fn rename(rules: &mut [Rule], writes: &mut [Write], other: fn(Name) -> Name) {
+    let of_rules = rules.iter_mut().flat_map(|r| [&mut r.name, &mut r.second]);
+    let of_writes = writes.iter_mut().map(|write| &mut write.name);
+    for name in of_rules.chain(of_writes) {
+        *name = other(*name);
+    }
+}
+
+fn longest() -> File {
     let longest = |seed| {
         let mut random = Random::new(seed);
-        let values = Values::small(&mut random);
+        let values = Values::narrow(&mut random);
         let few = crashes::acyclic_rules(&mut random, &values, 8);
         let rules = crashes::padded(&mut random, &values, &few);
         let mut test = |k: usize| {
@@ -291,9 +319,9 @@ pub fn longest_file() -> Vec<u8> {
         let judged: Vec<_> = tests.iter().map(judged).collect();
         let valid: u64 = judged.iter().map(|judgement| judgement.valid).sum();
         let hold = judged.iter().filter(|judgement| judgement.bad == 0).count();
-        let bytes = file_of(&rules, tests);
+        let file = File { rules, tests };
         let is_telling = (2000..3000).contains(&valid) && (1..MOST_TESTS).contains(&hold);
-        (is_telling && bytes.len() == LONGEST).then_some(bytes)
+        (is_telling && file.to_bytes().len() == LONGEST_NARROW).then_some(file)
     };
     (0..).find_map(longest).expect("seeds without end")
 }
@@ -303,7 +331,7 @@ pub fn longest_file() -> Vec<u8> {
 pub fn dense_file() -> Vec<u8> {
     let dense = |seed| {
         let mut random = Random::new(seed);
-        let values = Values::small(&mut random);
+        let values = Values::narrow(&mut random);
         let rules = crashes::acyclic_rules(&mut random, &values, 16);
         let mut test = generate::test_of(&mut random, &values, 16, MAIN, 0);
         let start = test.initial_disk();
@@ -331,7 +359,7 @@ pub fn hopeless_file() -> Vec<u8> {
     let test = |turn: usize| {
         let write = |i: usize| Write {
             address: i as u8,
-            name: ((i + turn) % 4) as u8,
+            name: ((i + turn) % 4) as Name,
             epoch: 0,
             block: there,
         };
@@ -356,7 +384,7 @@ pub fn hopeless_file() -> Vec<u8> {
 
 /// Writes of one epoch to blocks of their own, with these names, and a check for each two of them
 /// that the second is there if the first is.
-fn tied(names: &[u8], ties: &[(usize, usize)]) -> Test {
+fn tied(names: &[Name], ties: &[(usize, usize)]) -> Test {
     let there = block(0, 1);
     let tie = |&(one, two): &(usize, usize)| Check::Pair {
         a: one as u8,
@@ -389,7 +417,7 @@ pub fn chains_file() -> Vec<u8> {
         .filter(|i| i % 4 != 0)
         .map(|i| (i, i - 1))
         .collect();
-    let names: Vec<u8> = (0..MAIN).map(|i| (i % 4) as u8).collect();
+    let names: Vec<Name> = (0..MAIN).map(|i| (i % 4) as Name).collect();
     let mut test = tied(&names, &ties);
     test.initial = (0..8)
         .map(|i| write(SETTINGS + i, 9, 0, block(1, 1)))
@@ -405,7 +433,7 @@ pub fn chains_file() -> Vec<u8> {
 /// Eight tests of two main writes with names of their own, and so 16 candidates: one of the writes
 /// asks for the other, so that eight rules do.
 pub fn couples_file() -> Vec<u8> {
-    let couple = |k: u8| tied(&[2 * k, 2 * k + 1], &[(1, 0)]);
+    let couple = |k: Name| tied(&[2 * k, 2 * k + 1], &[(1, 0)]);
     file_of(&[], (0..8).map(couple).collect())
 }
 
@@ -451,7 +479,7 @@ fn load_of(on_itself: [Predicate; 4], epoch: fn(u8) -> u32) -> Load {
     Load {
         rules,
         writes: (0..64)
-            .map(|i| write(3 * i, i % 8, epoch(i), block(i as u16, 1)))
+            .map(|i| write(3 * i, Name::from(i % 8), epoch(i), block(i as u16, 1)))
             .collect(),
     }
 }
@@ -463,14 +491,21 @@ pub fn names_load() -> Load {
             .map(|name| rule(name, Predicate::Equal, name + 32))
             .collect(),
         writes: (0..64)
-            .map(|i| write(3 * i, i, (i % 32) as u32, block(i as u16, 1)))
+            .map(|i| write(3 * i, Name::from(i), (i % 32) as u32, block(i as u16, 1)))
             .collect(),
     }
 }
 
+/// The same with names above 255 that agree in their low byte.
+pub fn wide_names_load() -> Load {
+    let mut load = names_load();
+    rename(&mut load.rules, &mut load.writes, |name| (name + 1) << 8);
+    load
+}
+
 /// One name, whose writes depend on those of lower epochs, which come in no order, by each of 32 rules.
 pub fn one_name_load() -> Load {
-    const NAME: u8 = 7;
+    const NAME: Name = 7;
     let epoch = |i: u8| (37 * i as u32 + 5) % 64;
     Load {
         rules: vec![rule(NAME, Predicate::Greater, NAME); 32],
@@ -543,6 +578,7 @@ mod tests {
             changing_load(),
             both_ways_load(),
             names_load(),
+            wide_names_load(),
             one_name_load(),
         ] {
             let (mut state, mut disk) = (state_of(&load, 0, 0), [0; DISK]);

@@ -1,6 +1,6 @@
 // The rows of the table: a proved routine and its counterpart, ready to be called again and again.
 
-use reference::file::LONGEST;
+use reference::file::{LONGEST, LONGEST_NARROW};
 use reference::samples::log_rules;
 use reference::writes::Write;
 
@@ -43,7 +43,7 @@ type OnTest = unsafe extern "C" fn(*const u8, usize, u64) -> u64;
 type Read = unsafe extern "C" fn(*const u8, usize) -> u64;
 type OnFile = unsafe extern "C" fn(*const u8, usize, *mut u8, usize) -> u64;
 type OnState = unsafe extern "C" fn(*mut u8, usize, *mut u8, usize) -> u64;
-type HandIn = unsafe extern "C" fn(*mut u8, usize, u8, u8, u32, u16, u16) -> u64;
+type HandIn = unsafe extern "C" fn(*mut u8, usize, u8, u16, u32, u16, u16) -> u64;
 type Get = unsafe extern "C" fn(*const u8, usize, u16) -> u64;
 
 fn on_tests(routine: &'static str, proved: OnTest, rust: fn(&[u8], u64) -> u64) -> Vec<Row> {
@@ -140,17 +140,29 @@ fn on_file(
     }
 }
 
-/// The longest file in words, with its length as the tables write numbers.
-fn longest_in_words() -> String {
-    let (thousands, rest) = (LONGEST / 1000, LONGEST % 1000);
-    format!("longest file, {thousands},{rest:03} bytes, 16 tests")
+/// The longest files in words, with their lengths as the tables write numbers: that of names of one
+/// byte, and the longest of all.
+fn longest_files() -> [(String, Vec<u8>); 2] {
+    let in_words = |which: &str, length: usize| {
+        let (thousands, rest) = (length / 1000, length % 1000);
+        format!("{which}, {thousands},{rest:03} bytes, 16 tests")
+    };
+    [
+        (
+            in_words("longest file of old tags", LONGEST_NARROW),
+            inputs::longest_narrow_file(),
+        ),
+        (in_words("longest file", LONGEST), inputs::longest_file()),
+    ]
 }
 
 fn lines(proved: OnFile) -> Vec<Row> {
     let text = fast::program::judge_lines;
     let row = |input: &str, file| on_file("program's text", input, file, proved, text);
+    let [old, longest] = longest_files();
     vec![
-        row(&longest_in_words(), inputs::longest_file()),
+        row(&old.0, old.1),
+        row(&longest.0, longest.1),
         row(
             "16 tests of 20 writes, 16 checks, no rules",
             inputs::marks_file(0, 16),
@@ -163,15 +175,17 @@ fn lines(proved: OnFile) -> Vec<Row> {
 }
 
 fn read(proved: Read) -> Vec<Row> {
-    let file = inputs::longest_file();
-    let same = file.clone();
-    vec![Row {
-        routine: "reading",
-        input: longest_in_words(),
-        calls: 1,
-        proved: Box::new(move || unsafe { proved(file.as_ptr(), file.len()) }),
-        rust: Box::new(move || fast::file::read(&same)),
-    }]
+    let row = |(input, file): (String, Vec<u8>)| {
+        let same = file.clone();
+        Row {
+            routine: "reading",
+            input,
+            calls: 1,
+            proved: Box::new(move || unsafe { proved(file.as_ptr(), file.len()) }),
+            rust: Box::new(move || fast::file::read(&same)),
+        }
+    };
+    longest_files().map(row).into()
 }
 
 fn find(proved: OnFile) -> Vec<Row> {
@@ -352,6 +366,10 @@ fn hand_in(proved: HandIn) -> Vec<Row> {
         row(
             "the 64th write, all of different names, 32 rules",
             &inputs::names_load(),
+        ),
+        row(
+            "the 64th write, all of different names alike in a byte, 32 rules",
+            &inputs::wide_names_load(),
         ),
         row(
             "the 64th write, all of one name, 32 rules on it",

@@ -2,10 +2,10 @@
 
 use reference::cyclic::{cyclic, labels_form_ring};
 use reference::damage;
-use reference::file::{bytes_of, read, Field, MOST_RULES};
+use reference::file::{read, File, MOST_RULES};
 use reference::generate::{self, Values};
 use reference::random::Random;
-use reference::writes::{Rule, PREDICATES};
+use reference::writes::{Name, Rule, PREDICATES};
 
 use crate::answer;
 use crate::around::{file_with, AROUND};
@@ -34,9 +34,12 @@ fn same_answer_for(random: &mut Random, file: &[u8]) -> Outcome {
     lent.unchanged("file")
 }
 
-fn file_of(rules: &[Rule]) -> Vec<u8> {
-    let fields: Vec<Field> = rules.iter().map(Field::of_rule).collect();
-    bytes_of(&fields)
+fn file_of(random: &mut Random, rules: &[Rule]) -> Vec<u8> {
+    let file = File {
+        rules: rules.to_vec(),
+        tests: vec![],
+    };
+    file.to_mixed_bytes(random)
 }
 
 /// Rule sets of which both answers must occur often.
@@ -47,7 +50,8 @@ fn both_answers(run: &mut Run, cases: u64, make: fn(&mut Random) -> Vec<Rule>) -
         let mut random = run.next_case();
         let rules = make(&mut random);
         found += cyclic(&rules) as u64;
-        same_answer_for(&mut random, &file_of(&rules))?;
+        let bytes = file_of(&mut random, &rules);
+        same_answer_for(&mut random, &bytes)?;
     }
     run.note(format!("{found} of them cyclic"));
     require(
@@ -81,7 +85,7 @@ fn near_rings(run: &mut Run) -> Outcome {
 }
 
 /// All rules over these names.
-fn rules_over(names: &[u8]) -> Vec<Rule> {
+fn rules_over(names: &[Name]) -> Vec<Rule> {
     let mut rules = Vec::new();
     for &name in names {
         for predicate in PREDICATES {
@@ -98,7 +102,7 @@ fn rules_over(names: &[u8]) -> Vec<Rule> {
 /// The definition itself, with epochs enough for rules over three names.
 fn same_by_labels(run: &mut Run, rules: &[Rule]) -> Outcome {
     let mut random = run.next_case();
-    let file = file_of(rules);
+    let file = file_of(&mut random, rules);
     let by_labels = labels_form_ring(rules, 7) as u64;
     same_answer(
         "cyclic, of the reference",
@@ -110,7 +114,7 @@ fn same_by_labels(run: &mut Run, rules: &[Rule]) -> Outcome {
 }
 
 fn every_set(run: &mut Run) -> Outcome {
-    for names in [[1, 2], [0, 255]] {
+    for names in [[1, 2], [0, 255], [1, 257], [255, 65_535]] {
         let all = rules_over(&names);
         for set in 0..1u32 << all.len() {
             let rules: Vec<Rule> = (0..all.len())
@@ -125,7 +129,7 @@ fn every_set(run: &mut Run) -> Outcome {
 
 /// In any order and with repeats: over two names, and over three.
 fn every_list(run: &mut Run) -> Outcome {
-    for names in [&[2, 1][..], &[0, 128, 255]] {
+    for names in [&[2, 1][..], &[0, 128, 255], &[256, 1, 257]] {
         let all = rules_over(names);
         same_by_labels(run, &[])?;
         for &one in &all {
@@ -145,8 +149,7 @@ fn every_list(run: &mut Run) -> Outcome {
 /// that go one way along the names but for a single rule, often the first or the last.
 fn most_rules(run: &mut Run) -> Outcome {
     fn make(random: &mut Random) -> Vec<Rule> {
-        let mut names: Vec<u8> = (0..=255).collect();
-        random.shuffle(&mut names);
+        let mut names = generate::many_names(random);
         let kinds = random.between(1, 3);
         let rule = |random: &mut Random, name, second| Rule {
             name,
@@ -191,7 +194,7 @@ fn most_rules(run: &mut Run) -> Outcome {
 fn files_with_tests(run: &mut Run) -> Outcome {
     for _ in 0..run.times(3_000) {
         let mut random = run.next_case();
-        let bytes = generate::file(&mut random).to_bytes();
+        let bytes = generate::file(&mut random).to_mixed_bytes(&mut random);
         same_answer_for(&mut random, &bytes)?;
     }
     Ok(())
@@ -202,11 +205,12 @@ fn around_20(run: &mut Run) -> Outcome {
     for main in AROUND {
         for _ in 0..run.times(60) {
             let mut random = run.next_case();
-            let (mut file, _) = file_with(&mut random, main);
+            let (mut file, mut bytes, _) = file_with(&mut random, main);
             if random.one_in(2) {
                 file.rules = generate::nearly_cyclic_rules(&mut random);
+                bytes = file.to_mixed_bytes(&mut random);
             }
-            same_answer_for(&mut random, &file.to_bytes())?;
+            same_answer_for(&mut random, &bytes)?;
         }
     }
     Ok(())

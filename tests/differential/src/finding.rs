@@ -37,7 +37,7 @@ pub fn suites() -> Vec<Suite> {
         suite("find: 24, over 12 main writes", over_12),
         suite("find: 24 or 6, 12 to 21 main writes anywhere", around_20),
         suite("find: damaged files", damaged_files),
-        suite("find: 12, buffers around 96 bytes", buffers),
+        suite("find: 12, buffers around 128 bytes", buffers),
     ]
 }
 
@@ -56,6 +56,12 @@ fn same_rules(
     finder: Finder,
 ) -> Result<u64, Failure> {
     same_rules_left(random, file, length, finder).map(|(got, _)| got)
+}
+
+/// Likewise, of a file in old and new tags, into the least buffer.
+fn same_rules_of(random: &mut Random, file: &File, finder: Finder) -> Result<u64, Failure> {
+    let bytes = file.to_mixed_bytes(random);
+    same_rules(random, &bytes, LEAST_BUFFER, finder)
 }
 
 /// Likewise, and gives what is left in the buffer too.
@@ -108,10 +114,10 @@ fn bench_sheet(run: &mut Run) -> Outcome {
         rules: vec![],
         tests: vec![samples::test_k()],
     };
-    let mut buffer = Lent::new(&mut random, &[0xEE; 96]);
+    let mut buffer = Lent::new(&mut random, &[0xEE; LEAST_BUFFER]);
     let file = Lent::new(&mut random, &k.to_bytes());
     same_answer_on("find", &[], 2, calls::find(&file, &mut buffer))?;
-    let mut expected = [0xEE; 96];
+    let mut expected = [0xEE; LEAST_BUFFER];
     expected[..12].copy_from_slice(&[3, 0, 3, 2, 0, 1, 3, 0, 3, 2, 1, 2]);
     buffer.became("buffer", &expected)?;
     // K7.
@@ -121,7 +127,7 @@ fn bench_sheet(run: &mut Run) -> Outcome {
     };
     let write = |at: u8| Write {
         address: at,
-        name: at,
+        name: at.into(),
         epoch: 0,
         block: there,
     };
@@ -140,7 +146,12 @@ fn bench_sheet(run: &mut Run) -> Outcome {
         }],
     };
     let mut random = run.next_case();
-    let got = same_rules(&mut random, &both_ways.to_bytes(), 96, of_reference)?;
+    let got = same_rules(
+        &mut random,
+        &both_ways.to_bytes(),
+        LEAST_BUFFER,
+        of_reference,
+    )?;
     let refused = answer::of(Err(refusal::plain(NO_SET_DOES)));
     same_answer_on("find", &[], refused, got)
 }
@@ -176,13 +187,9 @@ fn few_writes(run: &mut Run) -> Outcome {
             rules: vec![],
             tests,
         };
-        let length = random.pick(&[96, 97, 200]);
-        answers.count(same_rules(
-            &mut random,
-            &file.to_bytes(),
-            length,
-            of_reference,
-        )?);
+        let length = random.pick(&[LEAST_BUFFER, LEAST_BUFFER + 1, 200]);
+        let bytes = file.to_mixed_bytes(&mut random);
+        answers.count(same_rules(&mut random, &bytes, length, of_reference)?);
     }
     answers.include(run, &["0 rules", "1 rules", "2 rules", "refused 13"])
 }
@@ -199,7 +206,7 @@ fn without_rules(
         let mut random = run.next_case();
         let mut file = make(&mut random);
         file.rules.clear();
-        answers.count(same_rules(&mut random, &file.to_bytes(), 96, of_reference)?);
+        answers.count(same_rules_of(&mut random, &file, of_reference)?);
     }
     answers.include(run, keys)
 }
@@ -221,7 +228,7 @@ fn many_writes(run: &mut Run) -> Outcome {
         let mut random = run.next_case();
         let names = random.between(2, 4);
         let mut values = Values::small(&mut random);
-        values.names = random.bytes(names);
+        values.names = generate::names(&mut random, names);
         values.epochs.truncate(random.between(1, 3));
         let most = random.pick(&[2, 5, MOST_TESTS]);
         let main = random.between(5, MOST_MAIN);
@@ -232,12 +239,7 @@ fn many_writes(run: &mut Run) -> Outcome {
             rules: vec![],
             tests,
         };
-        answers.count(same_rules(
-            &mut random,
-            &file.to_bytes(),
-            96,
-            fast::find::find,
-        )?);
+        answers.count(same_rules_of(&mut random, &file, fast::find::find)?);
     }
     answers.include(
         run,
@@ -253,7 +255,7 @@ fn set_by_set(run: &mut Run) -> Outcome {
         let mut random = run.next_case();
         let file = loop {
             let of = |random: &mut Random, names, epochs: u32| Values {
-                names: random.bytes(names),
+                names: generate::names(random, names),
                 epochs: (0..epochs).collect(),
                 ..Values::small(random)
             };
@@ -301,7 +303,7 @@ fn many_rules(run: &mut Run) -> Outcome {
         let mut random = run.next_case();
         let (names, epochs) = random.pick(&[(4, 1), (4, 1), (2, 3)]);
         let values = Values {
-            names: random.bytes(names),
+            names: generate::names(&mut random, names),
             epochs: (0..epochs).collect(),
             ..Values::small(&mut random)
         };
@@ -315,8 +317,7 @@ fn many_rules(run: &mut Run) -> Outcome {
             rules: vec![],
             tests,
         };
-        let got = same_rules(&mut random, &file.to_bytes(), 96, fast::find::find)?;
-        answers.count(got);
+        answers.count(same_rules_of(&mut random, &file, fast::find::find)?);
     }
     answers.include(run, &["2 rules", "3 rules", "4 rules", "refused 13"])
 }
@@ -382,7 +383,7 @@ impl Kinds {
 
 /// The answer and the buffer are the reference's, and what is found has the largest number.
 fn same_and_largest(random: &mut Random, file: &File, kinds: &mut Kinds) -> Outcome {
-    let bytes = file.to_bytes();
+    let bytes = file.to_mixed_bytes(random);
     let (got, left) = same_rules_left(random, &bytes, LEAST_BUFFER, of_reference)?;
     kinds.count(file, got, &left)
 }
@@ -449,7 +450,7 @@ fn around_16(run: &mut Run) -> Outcome {
         let mut random = run.next_case();
         let names = random.between(2, 5);
         let values = Values {
-            names: random.bytes(names),
+            names: generate::names(&mut random, names),
             epochs: (0..random.between(1, 3) as u32).collect(),
             ..Values::small(&mut random)
         };
@@ -485,8 +486,9 @@ fn files_with_rules(run: &mut Run) -> Outcome {
         if file.rules.is_empty() {
             file.rules = generate::nearly_cyclic_rules(&mut random);
         }
-        let length = random.pick(&[0, 95, 96]);
-        same_rules(&mut random, &file.to_bytes(), length, of_reference)?;
+        let length = random.pick(&[0, LEAST_BUFFER - 1, LEAST_BUFFER]);
+        let bytes = file.to_mixed_bytes(&mut random);
+        same_rules(&mut random, &bytes, length, of_reference)?;
     }
     Ok(())
 }
@@ -495,7 +497,7 @@ fn files_with_rules(run: &mut Run) -> Outcome {
 fn over_12(run: &mut Run) -> Outcome {
     let one_name = |random: &mut Random, main: usize| {
         let values = Values {
-            names: vec![random.byte()],
+            names: vec![generate::name(random)],
             ..Values::small(random)
         };
         let initial = random.below(4);
@@ -518,7 +520,8 @@ fn over_12(run: &mut Run) -> Outcome {
                 } else {
                     Ok(0)
                 };
-                let got = same_rules(&mut random, &file.to_bytes(), length, of_reference)?;
+                let bytes = file.to_mixed_bytes(&mut random);
+                let got = same_rules(&mut random, &bytes, length, of_reference)?;
                 same_answer_on("find", &[], answer::of(known), got)?;
             }
         }
@@ -532,12 +535,12 @@ fn around_20(run: &mut Run) -> Outcome {
     for main in AROUND {
         for _ in 0..run.times(60) {
             let mut random = run.next_case();
-            let (mut file, _) = file_with(&mut random, main);
+            let (mut file, mut bytes, _) = file_with(&mut random, main);
             if !random.one_in(4) {
                 file.rules.clear();
+                bytes = file.to_mixed_bytes(&mut random);
             }
-            let length = random.pick(&[0, 95, 96, 200]);
-            let bytes = file.to_bytes();
+            let length = random.pick(&[0, LEAST_BUFFER - 1, LEAST_BUFFER, 200]);
             answers.count(same_rules(&mut random, &bytes, length, fast::find::find)?);
         }
     }
@@ -557,7 +560,7 @@ fn damaged_files(run: &mut Run) -> Outcome {
     for _ in 0..run.times(2_000) {
         let mut random = run.next_case();
         let bytes = damage::any(&mut random).bytes;
-        let length = random.pick(&[0, 95, 96]);
+        let length = random.pick(&[0, LEAST_BUFFER - 1, LEAST_BUFFER]);
         same_rules(&mut random, &bytes, length, of_reference)?;
     }
     Ok(())
@@ -572,7 +575,8 @@ fn buffers(run: &mut Run) -> Outcome {
             rules: vec![],
             tests: vec![hopeful_test(&mut random, &values, 3)],
         };
-        same_rules(&mut random, &file.to_bytes(), length, of_reference)?;
+        let bytes = file.to_mixed_bytes(&mut random);
+        same_rules(&mut random, &bytes, length, of_reference)?;
     }
     Ok(())
 }

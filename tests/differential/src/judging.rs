@@ -13,7 +13,9 @@ use reference::refusal::Refusal;
 use reference::samples;
 use reference::schedule::flags;
 use reference::smallest::{self as made, four_not_three};
-use reference::writes::{block, rule, write, Block, Predicate, Rule, Write, EMPTY, PREDICATES};
+use reference::writes::{
+    block, rule, write, Block, Name, Predicate, Rule, Write, EMPTY, PREDICATES,
+};
 
 use crate::answer;
 use crate::around::{file_with, AROUND};
@@ -145,9 +147,15 @@ fn same_on(lent: &Lent, file: &Result<File, Refusal>, number: u64) -> Outcome {
     lent.unchanged("file")
 }
 
+/// A file in old and new tags.
+fn lend(random: &mut Random, file: &File) -> Lent {
+    let bytes = file.to_mixed_bytes(random);
+    Lent::new(random, &bytes)
+}
+
 /// Both routines on a file of one test whose judgement is known.
 fn same_as_known(random: &mut Random, file: &File, known: &Judgement) -> Outcome {
-    let lent = Lent::new(random, &file.to_bytes());
+    let lent = lend(random, file);
     same_judgement(lent.content(), 1, known, calls::judge(&lent, 1))?;
     same_verdict(lent.content(), 1, known, calls::verdict(&lent, 1))?;
     lent.unchanged("file")
@@ -169,7 +177,13 @@ fn numbers(tests: usize) -> Vec<u64> {
 }
 
 fn same_on_file(random: &mut Random, file: &File) -> Outcome {
-    same_on_each(random, &file.to_bytes(), &numbers(file.tests.len()))
+    let bytes = file.to_mixed_bytes(random);
+    same_on_each(random, &bytes, &numbers(file.tests.len()))
+}
+
+fn same_on_first(random: &mut Random, file: &File) -> Outcome {
+    let bytes = file.to_mixed_bytes(random);
+    same_on_each(random, &bytes, &[1])
 }
 
 fn bench_sheet(run: &mut Run) -> Outcome {
@@ -216,7 +230,7 @@ fn bench_sheet(run: &mut Run) -> Outcome {
                     ..Test::default()
                 }],
             };
-            let lent = Lent::new(&mut random, &file.to_bytes());
+            let lent = lend(&mut random, &file);
             let expected = if holds { 0 } else { 1 + 1 };
             same_answer(
                 "verdict",
@@ -305,7 +319,7 @@ fn chains(run: &mut Run) -> Outcome {
     for _ in 0..run.times(500) {
         let mut random = run.next_case();
         let (file, bad) = crashes::chain(&mut random);
-        let lent = Lent::new(&mut random, &file.to_bytes());
+        let lent = lend(&mut random, &file);
         let known = Judgement {
             valid: file.tests[0].main.len() as u64 + 1,
             bad: 1,
@@ -429,11 +443,17 @@ fn bad_from_the_start(run: &mut Run) -> Outcome {
 
 /// Two main writes of any two labels, and each rule or none.
 fn every_two_labels(run: &mut Run) -> Outcome {
-    const NAMES: [u8; 2] = [1, 2];
+    for names in [[1, 2], [1, 257], [256, 65_535]] {
+        every_two_labels_of(run, names)?;
+    }
+    Ok(())
+}
+
+fn every_two_labels_of(run: &mut Run, names: [Name; 2]) -> Outcome {
     const EPOCHS: [u32; 6] = [0, 1, 65_535, 65_536, i32::MAX as u32 + 1, u32::MAX];
     let mut rules: Vec<Vec<Rule>> = vec![vec![]];
-    for name in NAMES {
-        for second in NAMES {
+    for name in names {
+        for second in names {
             rules.extend(PREDICATES.map(|predicate| {
                 vec![Rule {
                     name,
@@ -444,7 +464,7 @@ fn every_two_labels(run: &mut Run) -> Outcome {
         }
     }
     let mut labels = Vec::new();
-    for name in NAMES {
+    for name in names {
         labels.extend(EPOCHS.map(|epoch| (name, epoch)));
     }
     for rules in &rules {
@@ -455,7 +475,7 @@ fn every_two_labels(run: &mut Run) -> Outcome {
                     rules: rules.clone(),
                     tests: vec![two_writes(one, two)],
                 };
-                same_on_each(&mut random, &file.to_bytes(), &[1])?;
+                same_on_first(&mut random, &file)?;
             }
         }
     }
@@ -463,7 +483,7 @@ fn every_two_labels(run: &mut Run) -> Outcome {
 }
 
 /// A test of two writes, the first of which has to be there if the second is.
-fn two_writes(one: (u8, u32), two: (u8, u32)) -> Test {
+fn two_writes(one: (Name, u32), two: (Name, u32)) -> Test {
     let write = |address, (name, epoch)| Write {
         address,
         name,
@@ -490,7 +510,7 @@ fn twelve_main_writes(run: &mut Run) -> Outcome {
             tests: vec![crashes::test(&mut random, &values, 12)],
         };
         kinds.count(&file);
-        same_on_each(&mut random, &file.to_bytes(), &[1])?;
+        same_on_first(&mut random, &file)?;
     }
     kinds.spread(run)
 }
@@ -503,7 +523,7 @@ fn of_every_kind(run: &mut Run, cases: u64, mains: &[usize]) -> Outcome {
             let mut random = run.next_case();
             let file = crashes::file_of(&mut random, main);
             kinds.count(&file);
-            same_on_each(&mut random, &file.to_bytes(), &[1])?;
+            same_on_first(&mut random, &file)?;
         }
     }
     kinds.spread(run)
@@ -576,7 +596,7 @@ fn against_open_checks(run: &mut Run) -> Outcome {
             0 => crashes::tangled_file_of(&mut random, main),
             _ => crashes::file_of(&mut random, main),
         };
-        let lent = Lent::new(&mut random, &file.to_bytes());
+        let lent = lend(&mut random, &file);
         let known = judgement_of(fast::judge::judge_settled(lent.content(), 1));
         kinds.add(&file.tests[0], &known);
         same_judgement(lent.content(), 1, &known, calls::judge(&lent, 1))?;
@@ -604,14 +624,14 @@ fn long_logs(run: &mut Run) -> Outcome {
                     rules: rules.to_vec(),
                     tests: vec![log::test_of(&initial, &main)],
                 };
-                let lent = Lent::new(&mut random, &file.to_bytes());
+                let lent = lend(&mut random, &file);
                 let found = judgement_of(calls::judge(&lent, 1));
                 require(
                     (found.valid, found.bad) == (valid, bad),
                     &format!("{valid} valid and {bad} bad schedules of {puts} puts"),
                     format!("{found:?}"),
                 )?;
-                same_on_each(&mut random, &file.to_bytes(), &[1])?;
+                same_on_first(&mut random, &file)?;
             }
         }
     }
@@ -628,9 +648,9 @@ fn around_20(run: &mut Run) -> Outcome {
     for main in AROUND {
         for _ in 0..run.times(60) {
             let mut random = run.next_case();
-            let (file, refusal) = file_with(&mut random, main);
+            let (file, bytes, refusal) = file_with(&mut random, main);
             if let Some(refusal) = refusal {
-                let lent = Lent::new(&mut random, &file.to_bytes());
+                let lent = Lent::new(&mut random, &bytes);
                 let (known, bytes) = (answer::of(Err(refusal)), lent.content());
                 same_answer("judge test 1", bytes, known, calls::judge(&lent, 1))?;
                 same_answer("verdict on test 1", bytes, known, calls::verdict(&lent, 1))?;
@@ -659,7 +679,7 @@ fn schedules_shown(run: &mut Run) -> Outcome {
             let shown = smallest(&bad);
             many += u64::from(shown.map_or(0, flags) > 1);
             not_lowest += u64::from(shown != bad.first().copied());
-            let lent = Lent::new(&mut random, &file.to_bytes());
+            let lent = lend(&mut random, &file);
             let known = shown.map_or(0, |schedule| 1 + schedule);
             same_answer("verdict", lent.content(), known, calls::verdict(&lent, 1))?;
             let judged = calls::judge(&lent, 1) >> 42;
@@ -676,7 +696,7 @@ fn schedules_shown(run: &mut Run) -> Outcome {
 /// none.
 fn shown_by_both(random: &mut Random, file: &File, known: &Judgement) -> Outcome {
     same_as_known(random, file, known)?;
-    let lent = Lent::exact(&file.to_bytes());
+    let lent = Lent::exact(&file.to_mixed_bytes(random));
     same_judgement(lent.content(), 1, known, calls::judge(&lent, 1))?;
     same_verdict(lent.content(), 1, known, calls::verdict(&lent, 1))?;
     lent.unchanged("file")
@@ -796,14 +816,14 @@ fn judge_and_verdict(run: &mut Run) -> Outcome {
         let (make, least) = random.pick(&MADE);
         let main = random.between(least, MOST_MAIN);
         let mut file = make(&mut random, main);
-        let (mut bytes, mut number) = (file.to_bytes(), 1);
+        let (mut bytes, mut number) = (file.to_mixed_bytes(&mut random), 1);
         match i % 12 {
             0 => bytes = damage::any(&mut random).bytes,
             1 => bytes.truncate(random.below(bytes.len())),
             2 => number = random.pick(&[0, 2, 17, u64::MAX]),
             3 => {
                 file.rules = generate::nearly_cyclic_rules(&mut random);
-                bytes = file.to_bytes();
+                bytes = file.to_mixed_bytes(&mut random);
             }
             _ => {}
         }
@@ -843,7 +863,7 @@ fn known_schedules(run: &mut Run) -> Outcome {
             rules: rules.to_vec(),
             tests: vec![test],
         };
-        let lent = Lent::new(&mut random, &file.to_bytes());
+        let lent = lend(&mut random, &file);
         let bytes = lent.content();
         let verdict = shown.map_or(0, |schedule| 1 + schedule);
         same_answer("verdict", bytes, verdict, calls::verdict(&lent, 1))?;
@@ -923,7 +943,7 @@ fn most_rules(run: &mut Run) -> Outcome {
             rules,
             tests: vec![test],
         };
-        same_on_each(&mut random, &file.to_bytes(), &[1])?;
+        same_on_first(&mut random, &file)?;
     }
     run.note(format!("the last rule decides {decided}"));
     require(

@@ -62,6 +62,11 @@ impl Lent {
         &self.before[self.from..self.from + self.length]
     }
 
+    /// What is lent, as the call has left it.
+    pub fn left(&self) -> &[u8] {
+        &self.bytes[self.from..self.from + self.length]
+    }
+
     /// Fails if the call changed any byte, lent or beside it.
     pub fn unchanged(&self, name: &str) -> Outcome {
         self.compare(name, &self.before)

@@ -72,7 +72,9 @@ fn each(run: &mut Run, cases: u64, make: fn(&mut Random) -> Vec<u8>) -> Outcome 
 }
 
 fn telling_files(run: &mut Run) -> Outcome {
-    each(run, 1_500, |random| crashes::file(random).to_bytes())
+    each(run, 1_500, |random| {
+        crashes::file(random).to_mixed_bytes(random)
+    })
 }
 
 fn tangled_files(run: &mut Run) -> Outcome {
@@ -81,12 +83,14 @@ fn tangled_files(run: &mut Run) -> Outcome {
         for _ in 0..random.below(3) {
             file.tests.extend(crashes::tangled_file(random).tests);
         }
-        file.to_bytes()
+        file.to_mixed_bytes(random)
     })
 }
 
 fn random_files(run: &mut Run) -> Outcome {
-    each(run, 500, |random| generate::file(random).to_bytes())
+    each(run, 500, |random| {
+        generate::file(random).to_mixed_bytes(random)
+    })
 }
 
 /// 16 lines, with counts of four digits where there are no rules.
@@ -107,7 +111,7 @@ fn full_of_tests(random: &mut Random, main: usize) -> Vec<u8> {
     while file.tests.len() < MOST_TESTS {
         file.tests.push(crashes::test(random, &values, main));
     }
-    file.to_bytes()
+    file.to_mixed_bytes(random)
 }
 
 /// 16 tests without rules of which every schedule is bad: no text is longer, and it fits into the
@@ -133,7 +137,7 @@ fn longest_text(run: &mut Run) -> Outcome {
             rules: vec![],
             tests: (0..MOST_TESTS).map(|_| test(&mut random)).collect(),
         };
-        let bytes = file.to_bytes();
+        let bytes = file.to_mixed_bytes(&mut random);
         let text: String = (1..=MOST_TESTS)
             .map(|number| format!("{number} 1048576 1048576 fails\n"))
             .collect();
@@ -154,8 +158,7 @@ fn around_20(run: &mut Run) -> Outcome {
     for main in AROUND {
         for _ in 0..run.times(40) {
             let mut random = run.next_case();
-            let (file, refusal) = file_with(&mut random, main);
-            let bytes = file.to_bytes();
+            let (_, bytes, refusal) = file_with(&mut random, main);
             if let Some(refusal) = refusal {
                 let known = format!("refused {} {}\n", refusal.number, refusal.place);
                 let text = program::output(&bytes);
@@ -172,7 +175,7 @@ fn refused_files(run: &mut Run) -> Outcome {
         if random.one_in(4) {
             let mut file = crashes::file(random);
             file.rules = generate::nearly_cyclic_rules(random);
-            return file.to_bytes();
+            return file.to_mixed_bytes(random);
         }
         damage::any(random).bytes
     })
@@ -192,7 +195,7 @@ fn short_buffers(run: &mut Run) -> Outcome {
         let mut random = run.next_case();
         let bytes = match random.below(3) {
             0 => damage::any(&mut random).bytes,
-            _ => generate::small_file(&mut random).to_bytes(),
+            _ => generate::small_file(&mut random).to_mixed_bytes(&mut random),
         };
         same_lines_in(&mut random, &bytes, length)?;
     }

@@ -62,7 +62,7 @@ fn same_places(run: &mut Run, random: &mut Random, file: &[u8]) -> Outcome {
 fn random_files(run: &mut Run) -> Outcome {
     for _ in 0..run.times(1_500) {
         let mut random = run.next_case();
-        let bytes = generate::file(&mut random).to_bytes();
+        let bytes = generate::file(&mut random).to_mixed_bytes(&mut random);
         same_places(run, &mut random, &bytes)?;
     }
     Ok(())
@@ -78,8 +78,10 @@ fn files_at_limits(run: &mut Run) -> Outcome {
     }
     for pairs_only in [false, true] {
         let mut random = run.next_case();
-        let bytes = generate::full_file(&mut random, pairs_only).to_bytes();
-        same_places(run, &mut random, &bytes)?;
+        let file = generate::full_file(&mut random, pairs_only);
+        for bytes in [file.to_wide_bytes(), file.to_mixed_bytes(&mut random)] {
+            same_places(run, &mut random, &bytes)?;
+        }
     }
     Ok(())
 }
@@ -88,8 +90,8 @@ fn around_20(run: &mut Run) -> Outcome {
     for main in AROUND {
         for _ in 0..run.times(60) {
             let mut random = run.next_case();
-            let (file, _) = file_with(&mut random, main);
-            same_places(run, &mut random, &file.to_bytes())?;
+            let (_, bytes, _) = file_with(&mut random, main);
+            same_places(run, &mut random, &bytes)?;
         }
     }
     Ok(())

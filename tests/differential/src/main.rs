@@ -12,6 +12,7 @@ mod judging;
 mod lent;
 mod lines;
 mod locate;
+mod names;
 mod paths;
 mod precedence;
 mod program;
@@ -49,6 +50,7 @@ fn parts() -> Vec<Part> {
     parts.extend(receiver::parts());
     let all = parts.iter().all(|part| part.is_there);
     parts.push(part("precedence of refusals", all, precedence::suites()));
+    parts.push(part("names of two bytes", all, names::suites()));
     parts
 }
 

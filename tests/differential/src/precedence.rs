@@ -1,18 +1,21 @@
 // Which refusal comes first: calls that meet several conditions at once, in every combination of
 // each call's list. The answer is known from how the call was made; the reference is asked too.
 
-use reference::cache::{self, DISK, STATE};
+use reference::cache::{self, DISK, FLAG, STATE, WRITES_AT};
 use reference::checks::Check;
 use reference::damage;
-use reference::file::{File, Test, MOST_CHECKS, MOST_INITIAL, MOST_MAIN, MOST_RULES, MOST_TESTS};
-use reference::file::{END, INITIAL, MAIN, RANGE, RULE};
+use reference::file::{
+    File, Test, HEADER, MOST_CHECKS, MOST_INITIAL, MOST_MAIN, MOST_RULES, MOST_TESTS,
+};
+use reference::file::{END, INITIAL, LAST_TAG, MAIN, RANGE, RULE, RULE_FIELD};
+use reference::file::{WIDE_INITIAL, WIDE_MAIN, WIDE_RULE};
 use reference::find::{self, LEAST_BUFFER, MOST_MAIN as MOST_TO_FIND};
 use reference::judge;
 use reference::log::{self, MOST_INITIAL_PUTS, MOST_MAIN_PUTS, PUT};
 use reference::random::Random;
 use reference::refusal::{self, Refusal};
 use reference::samples;
-use reference::writes::{rule, Block, Predicate, Write};
+use reference::writes::{rule, Block, Name, Predicate, Write};
 
 use crate::answer;
 use crate::calls;
@@ -75,7 +78,7 @@ const THERE: Block = Block {
     second: 1,
 };
 
-fn write(address: u8, name: u8, epoch: u32) -> Write {
+fn write(address: u8, name: Name, epoch: u32) -> Write {
     Write {
         address,
         name,
@@ -97,15 +100,24 @@ fn damaged(file: &File) -> Vec<(Vec<u8>, Option<Refusal>)> {
     add(refusal::CUT, end, &[END]);
     add(refusal::CUT, end, &[RULE, 0]);
     add(refusal::CUT, end, &[INITIAL, 0, 10, 1, 2, 3]);
-    add(refusal::UNKNOWN_TAG, end, &[8, 0, 0]);
+    add(refusal::CUT, end, &[WIDE_INITIAL, 0, 11, 1, 2, 3]);
+    add(refusal::UNKNOWN_TAG, end, &[LAST_TAG + 1, 0, 0]);
     add(refusal::WRONG_LENGTH, end, &[END, 0, 1, 0]);
+    add(refusal::WRONG_LENGTH, end, &[WIDE_MAIN, 0, 10]);
     add(refusal::TEST_NOT_ENDED, end + 4, &[RANGE, 0, 1, 0]);
     if file.tests.is_empty() {
         add(refusal::UNKNOWN_PREDICATE, end, &[RULE, 0, 3, 1, 3, 2]);
+        let wide = [WIDE_RULE, 0, 5, 1, 0, 3, 0, 2];
+        add(refusal::UNKNOWN_PREDICATE, end, &wide);
         let more = [RULE, 0, 3, 1, 0, 2].repeat(MOST_RULES + 1 - file.rules.len());
-        add(refusal::OVER_LIMIT, 6 * MOST_RULES, &more);
+        add(refusal::OVER_LIMIT, RULE_FIELD * MOST_RULES, &more);
     } else {
         add(refusal::OUT_OF_ORDER, end, &[RULE, 0, 3, 1, 0, 2]);
+        add(
+            refusal::OUT_OF_ORDER,
+            end,
+            &[WIDE_RULE, 0, 5, 1, 0, 0, 0, 2],
+        );
         let more = [END, 0, 0].repeat(MOST_TESTS + 1 - file.tests.len());
         let place = end + more.len() - 3;
         add(refusal::OVER_LIMIT, place, &more);
@@ -113,91 +125,127 @@ fn damaged(file: &File) -> Vec<(Vec<u8>, Option<Refusal>)> {
     all
 }
 
-/// One field that meets several of reading's conditions, the earliest of the list first.
+/// The tags of a rule, an initial and a main write, in names of one byte and of two.
+const NARROW: [u8; 3] = [RULE, INITIAL, MAIN];
+const WIDE: [u8; 3] = [WIDE_RULE, WIDE_INITIAL, WIDE_MAIN];
+
+/// One field that meets several of reading's conditions, the earliest of the list first: in each of its
+/// tags, behind fields of the old tags, of the new ones, and of both in turn.
 fn reading(run: &mut Run) -> Outcome {
+    for before in [[NARROW, NARROW], [WIDE, WIDE], [NARROW, WIDE]] {
+        for damaged in [NARROW, WIDE] {
+            reading_in(run, before, damaged)?;
+        }
+    }
+    Ok(())
+}
+
+fn reading_in(run: &mut Run, before: [[u8; 3]; 2], damaged: [u8; 3]) -> Outcome {
     let mut random = run.next_case();
-    let mut fields = |tag: u8, count: usize| {
+    let mut fields = |tags: [u8; 2], count: usize| {
         let mut bytes = Vec::new();
-        for _ in 0..count {
-            damage::field(&mut random, tag).append_to(&mut bytes);
+        for i in 0..count {
+            damage::field(&mut random, tags[i % 2]).append_to(&mut bytes);
         }
         bytes
     };
-    let rules = fields(RULE, MOST_RULES);
-    let initial = fields(INITIAL, MOST_INITIAL);
-    let main = fields(MAIN, MOST_MAIN);
-    let checks = fields(RANGE, MOST_CHECKS);
-    let tests = fields(END, MOST_TESTS);
-    let one_main = fields(MAIN, 1);
-    let one_check = fields(RANGE, 1);
+    let [rule, initial, main] = [0, 1, 2].map(|kind| before.map(|tags| tags[kind]));
+    let rules = fields(rule, MOST_RULES);
+    let initial = fields(initial, MOST_INITIAL);
+    let one_main = fields(main, 1);
+    let main = fields(main, MOST_MAIN);
+    let checks = fields([RANGE; 2], MOST_CHECKS);
+    let tests = fields([END; 2], MOST_TESTS);
+    let one_check = fields([RANGE; 2], 1);
+    let [a_rule, an_initial, a_main] = damaged;
+    // The right length of a rule, and a body of it with a wrong predicate.
+    let length = reference::file::body_length(a_rule).unwrap_or(0) as u8;
+    let wrong = vec![9; length as usize];
+    let rule_of = |claimed: u8, there: usize| [&[a_rule, 0, claimed][..], &wrong[..there]].concat();
     let after = |one: &[u8], two: &[u8]| [one, two].concat();
     // What stands before, and the number of the field behind it.
     let cases: Vec<(Vec<u8>, u32, Vec<Vec<u8>>)> = vec![
         // 1, one or two bytes left, before 2.
-        (vec![], refusal::CUT, vec![vec![9], vec![9, 0], vec![0]]),
+        (
+            vec![],
+            refusal::CUT,
+            vec![vec![UNKNOWN], vec![UNKNOWN, 0], vec![0], vec![a_rule, 0]],
+        ),
         // 2 before 3 and 1.
         (
             rules.clone(),
             refusal::UNKNOWN_TAG,
-            vec![vec![9, 0, 5], vec![0, 255, 255, 1]],
+            vec![vec![UNKNOWN, 0, 5], vec![0, 255, 255, 1]],
         ),
         // 4 before 6, and both before 3, 1 and 5.
         (
             after(&rules, &one_main),
             refusal::OUT_OF_ORDER,
-            every_damage(RULE),
+            every_damage(a_rule),
         ),
         (
             after(&rules, &tests),
             refusal::OUT_OF_ORDER,
-            every_damage(RULE),
+            every_damage(a_rule),
         ),
         (
             after(&initial, &one_main),
             refusal::OUT_OF_ORDER,
-            every_damage(INITIAL),
+            every_damage(an_initial),
         ),
         (
             after(&initial, &one_check),
             refusal::OUT_OF_ORDER,
-            every_damage(INITIAL),
+            every_damage(an_initial),
         ),
         (
             after(&main, &one_check),
             refusal::OUT_OF_ORDER,
-            every_damage(MAIN),
+            every_damage(a_main),
         ),
         // 6 before 3, 1 and 5.
-        (rules.clone(), refusal::OVER_LIMIT, every_damage(RULE)),
-        (initial, refusal::OVER_LIMIT, every_damage(INITIAL)),
-        (main, refusal::OVER_LIMIT, every_damage(MAIN)),
+        (rules.clone(), refusal::OVER_LIMIT, every_damage(a_rule)),
+        (initial, refusal::OVER_LIMIT, every_damage(an_initial)),
+        (main, refusal::OVER_LIMIT, every_damage(a_main)),
         (checks, refusal::OVER_LIMIT, every_damage(RANGE)),
         (tests.clone(), refusal::OVER_LIMIT, every_damage(END)),
-        (tests.clone(), refusal::OVER_LIMIT, every_damage(INITIAL)),
-        (tests.clone(), refusal::OVER_LIMIT, every_damage(MAIN)),
+        (tests.clone(), refusal::OVER_LIMIT, every_damage(an_initial)),
+        (tests.clone(), refusal::OVER_LIMIT, every_damage(a_main)),
         (tests, refusal::OVER_LIMIT, every_damage(RANGE)),
         // 3 before 1, body cut, and 5.
         (
             vec![],
             refusal::WRONG_LENGTH,
-            vec![vec![RULE, 0, 4, 1, 9], vec![RULE, 0, 4, 1, 9, 2, 3]],
-        ),
-        (
-            vec![],
-            refusal::WRONG_LENGTH,
-            vec![vec![RULE, 0, 2, 1, 9], vec![MAIN, 255, 255]],
+            vec![
+                rule_of(4, 3),
+                rule_of(length + 1, 2),
+                rule_of(length - 1, 3),
+                rule_of(8 - length, 3),
+                vec![a_main, 255, 255],
+            ],
         ),
         // 1, body cut, before 5.
         (
             vec![],
             refusal::CUT,
-            vec![vec![RULE, 0, 3, 1, 9], vec![RULE, 0, 3, 1]],
+            (0..length as usize)
+                .map(|there| rule_of(length, there))
+                .collect(),
+        ),
+        (
+            vec![],
+            refusal::UNKNOWN_PREDICATE,
+            vec![rule_of(length, length as usize)],
         ),
         // Any of them before 7, which waits for the end.
         (
             one_main,
             refusal::CUT,
-            vec![vec![END], vec![END, 0], vec![MAIN, 0, 10, 1]],
+            vec![
+                vec![END],
+                vec![END, 0],
+                every_damage(a_main).swap_remove(CUT),
+            ],
         ),
     ];
     for (before, number, fields) in cases {
@@ -215,6 +263,12 @@ fn reading(run: &mut Run) -> Outcome {
     Ok(())
 }
 
+/// A tag that is not known.
+const UNKNOWN: u8 = LAST_TAG + 1;
+
+/// Which one of every damage is a body cut.
+const CUT: usize = 3;
+
 /// A field of this tag: as it should be, of a wrong length, cut, and with a wrong predicate.
 fn every_damage(tag: u8) -> Vec<Vec<u8>> {
     let length = reference::file::body_length(tag).unwrap_or(0) as u8;
@@ -231,8 +285,10 @@ fn every_damage(tag: u8) -> Vec<Vec<u8>> {
     if length > 0 {
         all.extend([field(length, length - 1), field(length - 1, length)]);
     }
-    if tag == RULE {
-        all.push(vec![RULE, 0, 3, 1, 0, 2]);
+    if let Some(at) = reference::file::predicate_at(tag) {
+        let mut right = field(length, length);
+        right[HEADER + at] = 0;
+        all.push(right);
     }
     all
 }
@@ -334,7 +390,7 @@ fn finding(run: &mut Run) -> Outcome {
             (false, true) => MOST_TO_FIND,
             (false, false) => 2,
         };
-        let name = |i: u8| if many { i } else { i % 2 };
+        let name = |i: u8| 255 + Name::from(if many { i } else { i % 2 });
         let main: Vec<Write> = (0..count as u8).map(|i| write(i, name(i), 0)).collect();
         // Each of two writes only with the other: rules would have to be cyclic.
         let both = |a, b| Check::Pair {
@@ -424,9 +480,10 @@ fn opening(run: &mut Run) -> Outcome {
     Ok(())
 }
 
-const LOW: u8 = 1;
-const HIGH: u8 = 2;
-const OTHER: u8 = 3;
+/// Names of which a byte does not tell two apart.
+const LOW: Name = 1;
+const HIGH: Name = 2;
+const OTHER: Name = 257;
 
 /// The write that is handed in, by name LOW: at the address of the one that waits.
 const HANDED: Write = Write {
@@ -464,7 +521,7 @@ fn state(full: bool, late: bool, ring: bool) -> Vec<u8> {
 
 /// Bytes of which each makes a state unsound if it is another: byte 3, the stored count, an unused
 /// byte, a flag.
-const BYTES: [usize; 4] = [3, 2, 900, 110];
+const BYTES: [usize; 4] = [3, 2, 1000, WRITES_AT + FLAG];
 
 /// A state of another length: with a byte taken away, or put behind it.
 fn resized(state: &[u8], length: usize) -> Vec<u8> {

@@ -8,7 +8,7 @@ use std::time::Duration;
 
 use reference::crashes;
 use reference::damage;
-use reference::file::{File, LONGEST};
+use reference::file::{File, LAST_TAG, LONGEST};
 use reference::generate;
 use reference::program::output;
 use reference::random::Random;
@@ -139,19 +139,23 @@ fn sample_files(run: &mut Run) -> Outcome {
 }
 
 fn telling_files(run: &mut Run) -> Outcome {
-    each(run, 150, |random| crashes::file(random).to_bytes())
+    each(run, 150, |random| {
+        crashes::file(random).to_mixed_bytes(random)
+    })
 }
 
 fn random_files(run: &mut Run) -> Outcome {
-    each(run, 150, |random| generate::file(random).to_bytes())
+    each(run, 150, |random| {
+        generate::file(random).to_mixed_bytes(random)
+    })
 }
 
 fn around_20(run: &mut Run) -> Outcome {
     for main in AROUND {
         for _ in 0..run.times(20) {
             let mut random = run.next_case();
-            let (file, _) = file_with(&mut random, main);
-            same_output(&file.to_bytes())?;
+            let (_, bytes, _) = file_with(&mut random, main);
+            same_output(&bytes)?;
         }
     }
     Ok(())
@@ -162,23 +166,23 @@ fn refused_files(run: &mut Run) -> Outcome {
         if random.one_in(4) {
             let mut file = crashes::file(random);
             file.rules = generate::nearly_cyclic_rules(random);
-            return file.to_bytes();
+            return file.to_mixed_bytes(random);
         }
         damage::any(random).bytes
     })
 }
 
 /// A file as long as one can be, without cyclic rules.
-fn longest_file(random: &mut Random) -> File {
+fn longest_file(random: &mut Random) -> Vec<u8> {
     let mut file = generate::full_file(random, true);
     let values = generate::Values::small(random);
     file.rules = crashes::padded(random, &values, &[]);
-    file
+    file.to_wide_bytes()
 }
 
 /// Accepted, and refused where the 17th test would begin or just before.
 fn longest(run: &mut Run) -> Outcome {
-    let file = longest_file(&mut run.next_case()).to_bytes();
+    let file = longest_file(&mut run.next_case());
     require(
         file.len() == LONGEST && !output(&file).starts_with("refused"),
         "an accepted file of that length",
@@ -187,7 +191,7 @@ fn longest(run: &mut Run) -> Outcome {
     same_output(&file)?;
     same_output(&file[..LONGEST - 1])?;
     for longer in [1, 2, 3, 4, 12, 13, 14, 15, 16, 100, 4096] {
-        for tag in 1..=8 {
+        for tag in 1..=LAST_TAG + 1 {
             let mut random = run.next_case();
             let mut bytes = file.clone();
             while bytes.len() < LONGEST + longer {
@@ -202,7 +206,7 @@ fn longest(run: &mut Run) -> Outcome {
 
 /// `length` bytes of a file that reading gets far into, and of what follows.
 fn over_long(random: &mut Random, length: usize) -> Vec<u8> {
-    let mut bytes = longest_file(random).to_bytes();
+    let mut bytes = longest_file(random);
     if random.one_in(2) {
         // A test not ended, with too many checks.
         bytes.truncate(LONGEST - 3);
@@ -227,7 +231,7 @@ fn endless(run: &mut Run) -> Outcome {
     run.next_case();
     let ended = child::by_shell("exec \"$0\" </dev/zero", &[]);
     prints("the program on /dev/zero", &[], "refused 2 0\n", &ended)?;
-    let file = longest_file(&mut run.next_case()).to_bytes();
+    let file = longest_file(&mut run.next_case());
     for (first, then) in [
         (vec![], vec![3, 0, 3, 2, 0, 1]),
         (vec![], vec![7, 0, 0]),
@@ -264,7 +268,7 @@ fn tiny_pieces(run: &mut Run) -> Outcome {
     in_pieces(&k1, k1.chunks(1).map(<[u8]>::to_vec).collect(), 1)?;
     for _ in 0..run.times(6) {
         let mut random = run.next_case();
-        let file = generate::small_file(&mut random).to_bytes();
+        let file = generate::small_file(&mut random).to_mixed_bytes(&mut random);
         let (mut pieces, mut at) = (Vec::new(), 0);
         while at < file.len() {
             let end = file.len().min(at + random.between(1, 9));
@@ -274,7 +278,7 @@ fn tiny_pieces(run: &mut Run) -> Outcome {
         in_pieces(&file, pieces, 1)?;
     }
     // The longest file, in pieces that end anywhere in a field.
-    let file = longest_file(&mut run.next_case()).to_bytes();
+    let file = longest_file(&mut run.next_case());
     in_pieces(&file, file.chunks(997).map(<[u8]>::to_vec).collect(), 2)
 }
 

@@ -1,7 +1,7 @@
 // Reading: random files, each kind of damage, limits, cuts and lengths.
 
 use reference::damage::{self, Damaged, Limit, LIMITS};
-use reference::file::{read, File, HEADER, LONGEST};
+use reference::file::{read, File, LAST_TAG, LONGEST, LONGEST_FIELD};
 use reference::generate;
 use reference::random::Random;
 use reference::refusal::Refusal;
@@ -75,7 +75,7 @@ fn valid_files(run: &mut Run) -> Outcome {
     for _ in 0..run.times(15_000) {
         let mut random = run.next_case();
         let file = generate::file(&mut random);
-        let bytes = file.to_bytes();
+        let bytes = file.to_mixed_bytes(&mut random);
         let known = counts(&file);
         same_answer(
             "read, of the reference",
@@ -144,7 +144,8 @@ fn at_limit(run: &mut Run) -> Outcome {
     for pairs_only in [false, true] {
         for _ in 0..run.times(50) {
             let mut random = run.next_case();
-            let bytes = generate::full_file(&mut random, pairs_only).to_bytes();
+            let file = generate::full_file(&mut random, pairs_only);
+            let bytes = file.to_mixed_bytes(&mut random);
             let full = counts(&generate::full_file(&mut random, true));
             same_answer(
                 "read, of the reference",
@@ -163,8 +164,7 @@ fn around_20(run: &mut Run) -> Outcome {
     for main in AROUND {
         for _ in 0..run.times(200) {
             let mut random = run.next_case();
-            let (file, refusal) = file_with(&mut random, main);
-            let bytes = file.to_bytes();
+            let (file, bytes, refusal) = file_with(&mut random, main);
             match refusal {
                 Some(refusal) => same_refusal(&mut random, &bytes, refusal)?,
                 None => {
@@ -177,8 +177,8 @@ fn around_20(run: &mut Run) -> Outcome {
         }
     }
     require(
-        LONGEST == 21_040,
-        "the longest file has 21,040 bytes",
+        LONGEST == 22_448,
+        "the longest file has 22,448 bytes",
         LONGEST.to_string(),
     )
 }
@@ -190,10 +190,10 @@ fn same_reading_cut(lent: &mut Lent, length: usize) -> Outcome {
     same_answer("read", file, expected_reading(file), calls::read(lent))
 }
 
-fn cut_everywhere(run: &mut Run, files: u64, make: fn(&mut Random) -> File) -> Outcome {
+fn cut_everywhere(run: &mut Run, files: u64, make: fn(&mut Random) -> Vec<u8>) -> Outcome {
     for _ in 0..run.times(files) {
         let mut random = run.next_case();
-        let bytes = make(&mut random).to_bytes();
+        let bytes = make(&mut random);
         let mut lent = Lent::new(&mut random, &bytes);
         for length in 0..=bytes.len() {
             run.next_case();
@@ -205,11 +205,15 @@ fn cut_everywhere(run: &mut Run, files: u64, make: fn(&mut Random) -> File) -> O
 }
 
 fn cut_at_every_length(run: &mut Run) -> Outcome {
-    cut_everywhere(run, 250, generate::small_file)
+    cut_everywhere(run, 250, |random| {
+        generate::small_file(random).to_mixed_bytes(random)
+    })
 }
 
 fn longest_file_cut(run: &mut Run) -> Outcome {
-    cut_everywhere(run, 1, |random| generate::full_file(random, true))
+    cut_everywhere(run, 1, |random| {
+        generate::full_file(random, true).to_wide_bytes()
+    })
 }
 
 fn changed(run: &mut Run, cases: u64, make: fn(&mut Random, &File) -> Vec<u8>) -> Outcome {
@@ -247,14 +251,16 @@ fn any_fields(run: &mut Run) -> Outcome {
     Ok(())
 }
 
-/// All sequences of up to five fields, of the seven tags and an unknown one.
+/// All sequences of up to five fields, of the ten tags and an unknown one.
 fn every_order(run: &mut Run) -> Outcome {
-    for length in 0..=5u32 {
-        for number in 0..8usize.pow(length) {
+    const TAGS: usize = LAST_TAG as usize + 1;
+    for length in 0..=5 {
+        for number in 0..TAGS.pow(length) {
             let mut random = run.next_case();
-            let mut bytes = Vec::new();
-            for i in 0..length {
-                let tag = (number >> (3 * i) & 7) as u8 + 1;
+            let (mut bytes, mut left) = (Vec::new(), number);
+            for _ in 0..length {
+                let tag = (left % TAGS) as u8 + 1;
+                left /= TAGS;
                 damage::field(&mut random, tag).append_to(&mut bytes);
             }
             same_reading(&mut random, &bytes)?;
@@ -272,12 +278,12 @@ fn huge_lengths(run: &mut Run) -> Outcome {
     Ok(())
 }
 
-/// Files longer than any accepted one, also up to 13 bytes past the longest: the same refusal.
+/// Files longer than any accepted one, also up to a field past the longest: the same refusal.
 fn over_long(run: &mut Run) -> Outcome {
     for _ in 0..run.times(1_000) {
         let mut random = run.next_case();
         let bytes = damage::over_long(&mut random);
-        let start = &bytes[..bytes.len().min(LONGEST + HEADER + 10)];
+        let start = &bytes[..bytes.len().min(LONGEST + LONGEST_FIELD)];
         let whole = expected_reading(&bytes);
         require(
             read(&bytes).is_err(),
@@ -312,12 +318,13 @@ fn short_files(run: &mut Run) -> Outcome {
 
 /// A first field of each tag and many lengths, its body missing, short, there, or followed.
 fn headers(run: &mut Run) -> Outcome {
-    const LENGTHS: [u16; 20] = [
-        0, 1, 2, 3, 4, 5, 9, 10, 11, 12, 13, 255, 256, 257, 259, 266, 2560, 32768, 65534, 65535,
+    const LENGTHS: [u16; 24] = [
+        0, 1, 2, 3, 4, 5, 6, 9, 10, 11, 12, 13, 14, 255, 256, 257, 259, 261, 266, 267, 2560, 32768,
+        65534, 65535,
     ];
     for tag in 0..=255 {
         for length in LENGTHS {
-            for body in [0, 1, 2, 3, 9, 10, 11] {
+            for body in [0, 1, 2, 3, 4, 5, 6, 9, 10, 11, 12] {
                 let mut random = run.next_case();
                 let mut bytes = vec![tag];
                 bytes.extend(length.to_be_bytes());
@@ -336,7 +343,7 @@ fn random_bytes(run: &mut Run) -> Outcome {
         let mut bytes = random.bytes(length);
         if random.one_in(2) {
             for byte in bytes.iter_mut() {
-                *byte %= 11;
+                *byte %= LAST_TAG + 2;
             }
         }
         same_reading(&mut random, &bytes)?;

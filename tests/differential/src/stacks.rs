@@ -52,7 +52,7 @@ fn any_file(random: &mut Random, i: u64) -> Vec<u8> {
     if random.one_in(2) {
         file.rules.clear();
     }
-    file.to_bytes()
+    file.to_mixed_bytes(random)
 }
 
 fn log_file(random: &mut Random) -> File {
@@ -120,7 +120,7 @@ fn stack_of_verdict(run: &mut Run) -> Outcome {
 /// their own.
 fn short_file(random: &mut Random, _: u64) -> Vec<u8> {
     let main = random.between(0, MOST_TO_FIND);
-    crashes::file_of(random, main).to_bytes()
+    crashes::file_of(random, main).to_mixed_bytes(random)
 }
 
 fn stack_of_short_verdict(run: &mut Run) -> Outcome {
@@ -174,7 +174,7 @@ fn file_to_find_for(random: &mut Random, i: u64) -> Vec<u8> {
     };
     let tests = (0..1 + i as usize % MOST_TESTS).map(&mut test).collect();
     let rules = vec![];
-    File { rules, tests }.to_bytes()
+    File { rules, tests }.to_mixed_bytes(random)
 }
 
 fn stack_of_find(run: &mut Run) -> Outcome {

@@ -152,6 +152,7 @@ impl Sources {
         let is = |path: &&String| {
             path.ends_with("/specs/Theorem.antt")
                 || *path == "bench/specs/Sheet.antt"
+                || *path == "file_encoding/specs/Examples.antt"
                 || *path == "judge_cases/specs/Examples.antt"
                 || *path == "judge_rows/specs/Examples.antt"
         };

@@ -1,23 +1,26 @@
 // The cache: each call decodes the state once, into columns, with needs as masks.
 
-use crate::file::{scan, word, MOST_RULES};
+use crate::file::{each_rule, half, scan, word, MOST_RULES};
 use crate::refused;
 use crate::rules::{has_ring, Rules, MOST_WRITES};
 use crate::sources::members;
 
 pub const SIZE: usize = 1024;
 const RULES_AT: usize = 4;
-const RULE_SIZE: usize = 3;
-const WRITES_AT: usize = 100;
+const RULE_SIZE: usize = 5;
+const WRITES_AT: usize = RULES_AT + RULE_SIZE * MOST_RULES;
 const WRITE_SIZE: usize = 12;
-const FLAG: usize = 10;
+/// Where a write's entry has its epoch, its block and its flag.
+const EPOCH: usize = 3;
+const BLOCK: usize = 7;
+const FLAG: usize = 11;
 
 /// A state of the right layout, with acyclic rules.
 struct State {
     rules: Rules,
     count: usize,
     address: [u8; MOST_WRITES],
-    name: [u8; MOST_WRITES],
+    name: [u16; MOST_WRITES],
     epoch: [u32; MOST_WRITES],
     stored: u64,
     /// For each write what it needs. Of the earlier writes to its address only the last is there:
@@ -72,10 +75,10 @@ impl State {
     /// Is false if a predicate is not known, or the rules are cyclic.
     fn decode_rules(&mut self, entries: &[u8]) -> bool {
         for entry in entries.chunks_exact(RULE_SIZE) {
-            if entry[1] > 2 {
+            if entry[2] > 2 {
                 return false;
             }
-            self.rules.push(entry[0], entry[1], entry[2]);
+            self.rules.push(half(entry), entry[2], half(&entry[3..]));
         }
         !self.rules.cyclic()
     }
@@ -88,9 +91,9 @@ impl State {
         let entries = entries.chunks_exact(WRITE_SIZE);
         for (i, (((address, name), epoch), entry)) in columns.zip(entries).enumerate() {
             *address = entry[0];
-            *name = entry[1];
-            *epoch = word(&entry[2..6]);
-            let flag = u16::from_le_bytes([entry[FLAG], entry[FLAG + 1]]);
+            *name = half(&entry[1..]);
+            *epoch = word(&entry[EPOCH..]);
+            let flag = entry[FLAG];
             flags |= flag;
             self.stored |= (flag as u64 & 1) << i;
         }
@@ -136,7 +139,7 @@ impl State {
     }
 
     /// Appends a waiting write, where there is a place.
-    fn append(&mut self, address: u8, name: u8, epoch: u32) {
+    fn append(&mut self, address: u8, name: u16, epoch: u32) {
         let i = self.count;
         self.address[i] = address;
         self.name[i] = name;
@@ -170,7 +173,7 @@ impl State {
     fn store(&mut self, i: usize, bytes: &mut [u8], disk: &mut [u8]) {
         let entry = &mut bytes[WRITES_AT + WRITE_SIZE * i..][..WRITE_SIZE];
         let at = 4 * self.address[i] as usize;
-        disk[at..at + 4].copy_from_slice(&entry[6..10]);
+        disk[at..at + 4].copy_from_slice(&entry[BLOCK..FLAG]);
         entry[FLAG] = 1;
         bytes[2] += 1;
         self.stored |= 1 << i;
@@ -235,16 +238,19 @@ pub fn open(bytes: &mut [u8], file: &[u8]) -> u64 {
     }
     bytes.fill(0);
     bytes[0] = scan.rules as u8;
-    let entries = bytes[RULES_AT..].chunks_exact_mut(RULE_SIZE);
-    // A file without tests is rules alone.
-    for (entry, field) in entries.zip(file.chunks_exact(3 + RULE_SIZE)) {
-        entry.copy_from_slice(&field[3..]);
-    }
+    let mut at = RULES_AT;
+    each_rule(file, &scan, |name, predicate, second| {
+        let entry = &mut bytes[at..at + RULE_SIZE];
+        entry[..2].copy_from_slice(&name.to_be_bytes());
+        entry[2] = predicate;
+        entry[3..].copy_from_slice(&second.to_be_bytes());
+        at += RULE_SIZE;
+    });
     0
 }
 
 #[inline(never)]
-pub fn hand_in(bytes: &mut [u8], address: u8, name: u8, epoch: u32, block: u32) -> u64 {
+pub fn hand_in(bytes: &mut [u8], address: u8, name: u16, epoch: u32, block: u32) -> u64 {
     if bytes.len() != SIZE {
         return refused(14, 0);
     }
@@ -274,9 +280,9 @@ pub fn hand_in(bytes: &mut [u8], address: u8, name: u8, epoch: u32, block: u32) 
     }
     let entry = &mut bytes[WRITES_AT + WRITE_SIZE * i..][..FLAG];
     entry[0] = address;
-    entry[1] = name;
-    entry[2..6].copy_from_slice(&epoch.to_be_bytes());
-    entry[6..].copy_from_slice(&block.to_be_bytes());
+    entry[1..EPOCH].copy_from_slice(&name.to_be_bytes());
+    entry[EPOCH..BLOCK].copy_from_slice(&epoch.to_be_bytes());
+    entry[BLOCK..].copy_from_slice(&block.to_be_bytes());
     bytes[1] += 1;
     i as u64 + 1
 }

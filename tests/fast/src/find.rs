@@ -2,6 +2,7 @@
 // makes this invalid, one that pairs a flagged write with an unflagged one.
 
 use crate::file::{scan, Main, Scan, Test};
+use crate::names::Names;
 use crate::order::Order;
 use crate::refused;
 use crate::rules::{EQUAL, GREATER, LESS};
@@ -12,7 +13,7 @@ use crate::words::{each_word, FLAGGED, LOW};
 const MOST_CANDIDATES: usize = 16;
 /// Candidates have at most so many names.
 const MOST_NAMES: usize = 2 * MOST_CANDIDATES;
-const LEAST_BUFFER: usize = 96;
+const LEAST_BUFFER: usize = 128;
 
 /// A test that finding takes has at most so many main writes, and so many schedules.
 const MOST_MAIN: usize = 12;
@@ -23,17 +24,31 @@ type Set = u16;
 
 #[derive(Clone, Copy, Default)]
 struct Rule {
-    name: u8,
-    second: u8,
+    name: u16,
+    second: u16,
     predicate: u8,
+    /// The numbers of its names, from 0.
+    ends: (u8, u8),
+}
+
+impl Rule {
+    /// Its field in the front of a buffer. Answers the length.
+    fn write(&self, buffer: &mut [u8]) -> usize {
+        let ([high, name], [more, second]) = (self.name.to_be_bytes(), self.second.to_be_bytes());
+        if high | more == 0 {
+            buffer[..6].copy_from_slice(&[3, 0, 3, name, self.predicate, second]);
+            return 6;
+        }
+        buffer[..8].copy_from_slice(&[10, 0, 5, high, name, self.predicate, more, second]);
+        8
+    }
 }
 
 /// The candidates, in order, with their names numbered.
 struct Candidates {
     rules: [Rule; MOST_CANDIDATES],
     count: usize,
-    number: [u8; 256],
-    names: usize,
+    names: Names,
     /// The position of the candidate of two numbered names and a predicate, from 1; 0 if there is
     /// none.
     position: [[[u8; 3]; MOST_NAMES]; MOST_NAMES],
@@ -54,8 +69,7 @@ impl Candidates {
         let mut found = Candidates {
             rules: [Rule::default(); MOST_CANDIDATES],
             count: 0,
-            number: [u8::MAX; 256],
-            names: 0,
+            names: Names::NONE,
             position: [[[0; 3]; MOST_NAMES]; MOST_NAMES],
         };
         for place in &scan.places[..scan.tests] {
@@ -72,35 +86,46 @@ impl Candidates {
         if main.count < 2 {
             return Some(());
         }
+        for &name in &main.name[..main.count] {
+            self.add_name(name)?;
+        }
+        let numbers = self.numbers(main);
+        let rule = |one: usize, two: usize, predicate| Rule {
+            name: main.name[one],
+            second: main.name[two],
+            predicate,
+            ends: (numbers[one], numbers[two]),
+        };
         for i in 0..main.count {
-            self.add_name(main.name[i])?;
             for j in 0..i {
                 let (forth, back) = predicates(main.epoch[i], main.epoch[j]);
-                self.add_rule(main.name[i], main.name[j], forth)?;
-                self.add_rule(main.name[j], main.name[i], back)?;
+                self.add_rule(rule(i, j, forth))?;
+                self.add_rule(rule(j, i, back))?;
             }
         }
         Some(())
     }
 
     /// Each name is that of a candidate, so that with too many of them there are too many of these.
-    fn add_name(&mut self, name: u8) -> Option<()> {
-        if self.number[name as usize] == u8::MAX {
-            if self.names == MOST_NAMES {
-                return None;
-            }
-            self.number[name as usize] = self.names as u8;
-            self.names += 1;
+    fn add_name(&mut self, name: u16) -> Option<()> {
+        if self.names.count == MOST_NAMES && self.names.number(name) == 0 {
+            return None;
         }
+        self.names.numbered(name);
         Some(())
     }
 
-    fn add_rule(&mut self, name: u8, second: u8, predicate: u8) -> Option<()> {
-        let rule = Rule {
-            name,
-            second,
-            predicate,
-        };
+    /// The numbers of the names of main writes, from 0; each is one that was added, if these are two or
+    /// more.
+    fn numbers(&self, main: &Main) -> [u8; MOST_MAIN] {
+        let mut numbers = [0; MOST_MAIN];
+        for (number, &name) in numbers.iter_mut().zip(&main.name[..main.count]) {
+            *number = self.names.number(name).wrapping_sub(1);
+        }
+        numbers
+    }
+
+    fn add_rule(&mut self, rule: Rule) -> Option<()> {
         if *self.place(&rule) == 0 {
             if self.count == MOST_CANDIDATES {
                 return None;
@@ -113,14 +138,8 @@ impl Candidates {
     }
 
     fn place(&mut self, rule: &Rule) -> &mut u8 {
-        let (from, to) = self.ends(rule);
-        &mut self.position[from][to][rule.predicate as usize]
-    }
-
-    /// The numbers of a candidate's names.
-    fn ends(&self, rule: &Rule) -> (usize, usize) {
-        let number = |name: u8| self.number[name as usize] as usize;
-        (number(rule.name), number(rule.second))
+        let (from, to) = rule.ends;
+        &mut self.position[from as usize][to as usize][rule.predicate as usize]
     }
 
     fn sort(&mut self) {
@@ -132,15 +151,9 @@ impl Candidates {
         }
     }
 
-    /// The set of the one candidate of two names and a predicate.
-    fn set(&self, name: u8, second: u8, predicate: u8) -> Set {
-        let rule = Rule {
-            name,
-            second,
-            predicate,
-        };
-        let (from, to) = self.ends(&rule);
-        1 << (self.position[from][to][predicate as usize] - 1)
+    /// The set of the one candidate of two numbered names and a predicate.
+    fn set(&self, from: u8, to: u8, predicate: u8) -> Set {
+        1 << (self.position[from as usize][to as usize][predicate as usize] - 1)
     }
 
     fn all(&self) -> Set {
@@ -172,8 +185,9 @@ impl Objections {
     /// Fills the table by doubling it, write by write.
     fn fill(&mut self, main: &Main, candidates: &Candidates) {
         self.of[0] = 0;
+        let numbers = candidates.numbers(main);
         for k in 0..main.count {
-            self.fill_pairs(main, candidates, k);
+            self.fill_pairs(main, &numbers, candidates, k);
             let (without, with) = self.of[..2 << k].split_at_mut(1 << k);
             let added = self.with.iter().zip(&self.without);
             for ((of, of_more), (more_with, more)) in without.iter_mut().zip(with).zip(added) {
@@ -185,13 +199,13 @@ impl Objections {
 
     /// For each schedule of the first k writes the candidates that pair write k with one of these:
     /// with an unflagged one if k is flagged, and a flagged one with it if not.
-    fn fill_pairs(&mut self, main: &Main, candidates: &Candidates, k: usize) {
+    fn fill_pairs(&mut self, main: &Main, numbers: &[u8], candidates: &Candidates, k: usize) {
         self.with[0] = 0;
         self.without[0] = 0;
         for j in 0..k {
             let (forth, back) = predicates(main.epoch[k], main.epoch[j]);
-            let on_j = candidates.set(main.name[k], main.name[j], forth);
-            let j_on = candidates.set(main.name[j], main.name[k], back);
+            let on_j = candidates.set(numbers[k], numbers[j], forth);
+            let j_on = candidates.set(numbers[j], numbers[k], back);
             let (low, high) = self.with[..2 << j].split_at_mut(1 << j);
             for (unflagged, flagged) in low.iter_mut().zip(high) {
                 *flagged = *unflagged;
@@ -249,9 +263,9 @@ pub fn find(file: &[u8], buffer: &mut [u8]) -> u64 {
     match found(file, buffer.len()) {
         Err(refusal) => refusal,
         Ok((candidates, set)) => {
-            for (field, i) in buffer.chunks_exact_mut(6).zip(members(set as u64)) {
-                let rule = candidates.rules[i];
-                field.copy_from_slice(&[3, 0, 3, rule.name, rule.predicate, rule.second]);
+            let mut length = 0;
+            for i in members(set as u64) {
+                length += candidates.rules[i].write(&mut buffer[length..]);
             }
             set.count_ones() as u64
         }
@@ -362,9 +376,9 @@ impl Search<'_> {
     /// What an acyclic set reaches with one more candidate, or none if that makes it cyclic. Only
     /// closed walks with the new rule are new.
     fn with(&self, set: Set, i: usize, reached: &Reach) -> Option<Reach> {
-        let names = self.candidates.names;
+        let names = self.candidates.names.count;
         let rule = self.candidates.rules[i];
-        let (from, to) = self.candidates.ends(&rule);
+        let (from, to) = (rule.ends.0 as usize, rule.ends.1 as usize);
         let mut more = reached.clone();
         if rule.predicate == EQUAL {
             reach(&mut more.by_equal[..names], from, to);
@@ -384,7 +398,7 @@ impl Search<'_> {
     fn has_both(&self, set: Set, names: u32) -> bool {
         let mut found = [false; 3];
         for rule in members(set as u64).map(|i| self.candidates.rules[i]) {
-            let (from, to) = self.candidates.ends(&rule);
+            let (from, to) = rule.ends;
             found[rule.predicate as usize] |= names >> from & names >> to & 1 == 1;
         }
         found[GREATER as usize] && found[LESS as usize]

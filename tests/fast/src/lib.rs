@@ -11,6 +11,7 @@ pub mod file;
 pub mod find;
 pub mod judge;
 pub mod log;
+mod names;
 mod order;
 pub mod program;
 mod rules;

@@ -1,26 +1,22 @@
 // Rules: whether a set of them is cyclic, and what they make writes depend on, by the names' masks.
 
 use crate::file::MOST_RULES;
+use crate::names::{Names, MOST_NAMES};
 
 pub const EQUAL: u8 = 0;
 pub const GREATER: u8 = 1;
 pub const LESS: u8 = 2;
 
-/// Rules mention at most so many names.
-const MOST_NAMES: usize = 2 * MOST_RULES;
-
 /// As many writes as a mask has bits.
 pub const MOST_WRITES: usize = 64;
 
-/// Rules, with the names that they mention numbered in the order in which they come.
+/// Rules, with the names that they mention numbered.
 pub struct Rules {
     pub count: usize,
     predicate: [u8; MOST_RULES],
     /// The numbers of a rule's two names.
     ends: [(u8, u8); MOST_RULES],
-    /// The number of each name that is mentioned, from 1; 0 for the others.
-    number: [u8; 256],
-    names: usize,
+    names: Names,
 }
 
 impl Rules {
@@ -28,24 +24,14 @@ impl Rules {
         count: 0,
         predicate: [0; MOST_RULES],
         ends: [(0, 0); MOST_RULES],
-        number: [0; 256],
-        names: 0,
+        names: Names::NONE,
     };
 
-    pub fn push(&mut self, name: u8, predicate: u8, second: u8) {
-        let ends = (self.numbered(name), self.numbered(second));
+    pub fn push(&mut self, name: u16, predicate: u8, second: u16) {
+        let ends = (self.names.numbered(name), self.names.numbered(second));
         self.predicate[self.count] = predicate;
         self.ends[self.count] = ends;
         self.count += 1;
-    }
-
-    fn numbered(&mut self, name: u8) -> u8 {
-        let number = &mut self.number[name as usize];
-        if *number == 0 {
-            self.names += 1;
-            *number = self.names as u8;
-        }
-        *number
     }
 
     /// Each rule's predicate and the numbers of its names.
@@ -67,7 +53,7 @@ impl Rules {
             }
         }
         let [equal, greater, less] = to_itself;
-        equal != 0 || greater & less != 0 || has_ring(&rows[..self.names]) && self.closes()
+        equal != 0 || greater & less != 0 || has_ring(&rows[..self.names.count]) && self.closes()
     }
 
     /// The same, by all walks.
@@ -80,12 +66,13 @@ impl Rules {
                 equal[from - 1] |= 1 << (to - 1);
             }
         }
-        let (equal, any) = (&mut equal[..self.names], &mut any[..self.names]);
+        let names = self.names.count;
+        let (equal, any) = (&mut equal[..names], &mut any[..names]);
         close(any);
         // The names that are on a closed walk with a rule: none if it is on none.
         let around = |from: usize, to: usize| {
             let is_there = |i: usize| any[i] >> (from - 1) & any[to - 1] >> i & 1 == 1;
-            let others = (0..self.names).filter(|&i| is_there(i));
+            let others = (0..names).filter(|&i| is_there(i));
             others.fold(0u64, |mask, i| mask | 1 << i)
         };
         let with = |wanted: u8| self.all().filter(move |rule| rule.0 == wanted);
@@ -98,13 +85,15 @@ impl Rules {
     }
 
     /// Adds to each write's row the writes that it depends on.
-    pub fn add_dependencies(&self, names: &[u8], epochs: &[u32], rows: &mut [u64]) {
+    pub fn add_dependencies(&self, names: &[u16], epochs: &[u32], rows: &mut [u64]) {
         if self.count == 0 {
             return;
         }
+        let mut numbers = [0; MOST_WRITES];
         let mut with_name = [0; MOST_NAMES + 1];
-        for (i, &name) in names.iter().enumerate() {
-            with_name[self.number[name as usize] as usize] |= 1 << i;
+        for (i, (number, &name)) in numbers.iter_mut().zip(names).enumerate() {
+            *number = self.names.number(name);
+            with_name[*number as usize] |= 1 << i;
         }
         // The writes that rules pair with a name, by predicate. A name that no rule mentions has
         // the number 0, and none.
@@ -113,8 +102,8 @@ impl Rules {
             paired[from][predicate as usize] |= with_name[to];
         }
         let ranks = Ranks::of(epochs);
-        for ((row, &name), &rank) in rows.iter_mut().zip(names).zip(&ranks.rank) {
-            let [on_equal, on_lower, on_higher] = paired[self.number[name as usize] as usize];
+        for ((row, &number), &rank) in rows.iter_mut().zip(&numbers).zip(&ranks.rank) {
+            let [on_equal, on_lower, on_higher] = paired[number as usize];
             let (equal, lower) = ranks.masks(rank);
             *row |= on_equal & equal | on_lower & lower | on_higher & !(equal | lower);
         }

@@ -4,7 +4,7 @@ use reference::checks::Check;
 use reference::counts;
 use reference::crashes;
 use reference::damage;
-use reference::file::{File, Test, MOST_MAIN};
+use reference::file::{File, Test, LONGEST, MOST_MAIN};
 use reference::find::MOST_MAIN as MOST_TO_FIND;
 use reference::generate::{self, Values};
 use reference::judge::{numbered, readable, Judgement};
@@ -22,17 +22,16 @@ fn answer(of: Result<u64, Refusal>) -> u64 {
 }
 
 fn any_file(random: &mut Random) -> Vec<u8> {
-    match random.below(8) {
-        0 => damage::any(random).bytes,
-        1 => generate::file(random).to_bytes(),
-        2 => crashes::log_file(random).to_bytes(),
-        3 => {
-            let mut file = crashes::file(random);
-            file.rules = generate::nearly_cyclic_rules(random);
-            file.to_bytes()
-        }
-        _ => crashes::file(random).to_bytes(),
+    let mut file = match random.below(8) {
+        0 => return damage::any(random).bytes,
+        1 => generate::file(random),
+        2 => crashes::log_file(random),
+        _ => crashes::file(random),
+    };
+    if random.one_in(8) {
+        file.rules = generate::nearly_cyclic_rules(random);
     }
+    file.to_mixed_bytes(random)
 }
 
 /// A file whose bytes or fields are changed, or that is at a limit or beyond all of them.
@@ -75,8 +74,15 @@ fn reading() {
 /// The longest file, and each of its beginnings: what is cut off is seen wherever that is.
 #[test]
 fn reading_beginnings() {
-    let bytes = generate::full_file(&mut Random::new(1), true).to_bytes();
-    assert_eq!(bytes.len(), reference::file::LONGEST);
+    let mut random = Random::new(1);
+    let file = generate::full_file(&mut random, true);
+    assert_eq!(file.to_wide_bytes().len(), LONGEST);
+    for bytes in [file.to_wide_bytes(), file.to_mixed_bytes(&mut random)] {
+        same_beginnings(&bytes);
+    }
+}
+
+fn same_beginnings(bytes: &[u8]) {
     for length in (0..3000).chain(bytes.len() - 3000..=bytes.len()) {
         let expected = reference::file::read(&bytes[..length]);
         let counts = expected.map(|file| (file.rules.len() + 256 * file.tests.len()) as u64);
@@ -134,19 +140,21 @@ fn judging_up_to_the_limit() {
         let rules = crashes::acyclic_rules(&mut random, &values, most);
         let main = seed as usize % (MOST_MAIN + 1);
         let tests = vec![crashes::test(&mut random, &values, main)];
-        same_judgements(&File { rules, tests }.to_bytes(), [1], seed);
+        let file = File { rules, tests };
+        same_judgements(&file.to_mixed_bytes(&mut random), [1], seed);
     }
     for seed in 0..200 {
         let mut random = Random::new(seed);
-        let ranges = crashes::range_file(&mut random).to_bytes();
-        same_judgements(&ranges, [1], seed);
-        same_judgements(&crashes::chain(&mut random).0.to_bytes(), [1], seed);
+        let ranges = crashes::range_file(&mut random);
+        same_judgements(&ranges.to_mixed_bytes(&mut random), [1], seed);
+        let (chain, _) = crashes::chain(&mut random);
+        same_judgements(&chain.to_mixed_bytes(&mut random), [1], seed);
     }
     for seed in 0..4 {
         let mut random = Random::new(seed);
         let mut file = generate::full_file(&mut random, false);
         file.rules.truncate(3 * seed as usize);
-        same_judgements(&file.to_bytes(), 0..=17, seed);
+        same_judgements(&file.to_mixed_bytes(&mut random), 0..=17, seed);
     }
 }
 
@@ -166,7 +174,7 @@ fn judging_of_every_kind() {
             0 => hold += 1,
             _ => fail += 1,
         }
-        same_judgements(&file.to_bytes(), [1], seed);
+        same_judgements(&file.to_mixed_bytes(&mut random), [1], seed);
     }
     assert!(hold > 500 && fail > 500, "{hold} {fail}");
 }
@@ -183,11 +191,14 @@ fn judging_the_smallest() {
             _ => random.between(2, 12),
         };
         for kind in kinds {
-            same_judgements(&kind(&mut random, main).to_bytes(), [1], seed);
+            let file = kind(&mut random, main);
+            same_judgements(&file.to_mixed_bytes(&mut random), [1], seed);
         }
         for main in [0, 1] {
-            same_judgements(&bad_at_start(&mut random, main).to_bytes(), [1], seed);
-            same_judgements(&at_limits(&mut random, main).to_bytes(), [1], seed);
+            for kind in [bad_at_start, at_limits] {
+                let file = kind(&mut random, main);
+                same_judgements(&file.to_mixed_bytes(&mut random), [1], seed);
+            }
         }
     }
 }
@@ -214,7 +225,7 @@ fn verdicts_on_twenty_writes() {
         };
         hold += u64::from(told == 0);
         most = most.max(expected.shown.count_ones());
-        let bytes = file.to_bytes();
+        let bytes = file.to_mixed_bytes(&mut random);
         for verdict in VERDICTS {
             assert_eq!(verdict(&bytes, 1), told, "seed {seed}");
         }
@@ -307,8 +318,8 @@ fn finding() {
         if !random.one_in(20) {
             file.rules.clear();
         }
-        let bytes = file.to_bytes();
-        let length = random.pick(&[96, 95, 100]);
+        let bytes = file.to_mixed_bytes(&mut random);
+        let length = random.pick(&[128, 127, 140]);
         let (mut one, mut two) = (vec![0xEE; length], vec![0xEE; length]);
         let expected = reference::find::find(&bytes, &mut one).map(|count| count as u64);
         found += u64::from(expected.is_ok());
@@ -330,7 +341,7 @@ fn finding_up_to_the_limit() {
         let mut random = Random::new(seed);
         let (names, epochs) = random.pick(&[(4, 1), (2, 3), (2, 2), (3, 2), (1, 4)]);
         let values = Values {
-            names: random.bytes(names),
+            names: generate::names(&mut random, names),
             epochs: (0..epochs).collect(),
             ..Values::small(&mut random)
         };
@@ -352,8 +363,8 @@ fn finding_up_to_the_limit() {
                 .map(|_| test(&mut random))
                 .collect(),
         };
-        let bytes = file.to_bytes();
-        let (mut one, mut two) = ([0xEE; 96], [0xEE; 96]);
+        let bytes = file.to_mixed_bytes(&mut random);
+        let (mut one, mut two) = ([0xEE; 128], [0xEE; 128]);
         let expected = reference::find::find(&bytes, &mut one);
         match expected {
             Ok(count) => rules[count] += 1,
@@ -392,8 +403,8 @@ fn finding_beyond_the_limit() {
         if random.one_in(4) {
             file.rules = generate::rules_of(&mut random, &values, 1);
         }
-        let bytes = file.to_bytes();
-        let length = random.pick(&[0, 95, 96, 100]);
+        let bytes = file.to_mixed_bytes(&mut random);
+        let length = random.pick(&[0, 127, 128, 140]);
         let (mut one, mut two) = (vec![0xEE; length], vec![0xEE; length]);
         let expected = reference::find::find(&bytes, &mut one).map(|count| count as u64);
         if let Err(refusal) = expected {
@@ -416,6 +427,10 @@ fn finding_many_rules() {
     let mut rules = [0; 17];
     for seed in 0..30 {
         let mut random = Random::new(seed);
+        let mut names = generate::alike_names(&mut random);
+        if seed % 2 == 0 {
+            names = (0..16).collect();
+        }
         let test = |random: &mut Random, k: u8| {
             let there = Block {
                 first: 0,
@@ -423,7 +438,7 @@ fn finding_many_rules() {
             };
             let write = |random: &mut Random, i: u8| Write {
                 address: i,
-                name: 2 * k + i,
+                name: names[(2 * k + i) as usize],
                 epoch: random.below(3) as u32,
                 block: there,
             };
@@ -447,8 +462,8 @@ fn finding_many_rules() {
             rules: vec![],
             tests: (0..8).map(|k| test(&mut random, k)).collect(),
         };
-        let bytes = file.to_bytes();
-        let (mut one, mut two) = ([0xEE; 96], [0xEE; 96]);
+        let bytes = file.to_mixed_bytes(&mut random);
+        let (mut one, mut two) = ([0xEE; 128], [0xEE; 128]);
         let expected = reference::find::find(&bytes, &mut one).expect("rules that do");
         rules[expected] += 1;
         assert_eq!(find::find(&bytes, &mut two), expected as u64, "seed {seed}");
@@ -471,14 +486,14 @@ fn caching() {
         if !random.one_in(8) {
             file.tests.clear();
         }
-        let (bytes, before) = (file.to_bytes(), random.bytes(1024));
+        let (bytes, before) = (file.to_mixed_bytes(&mut random), random.bytes(1024));
         let (mut one, mut two) = (before.clone(), before);
         let opened = reference::cache::open(&bytes, &mut one).map(|()| 0);
         assert_eq!(cache::open(&mut two, &bytes), answer(opened), "seed {seed}");
         let (mut disk_one, mut disk_two) = ([0; 1024], [0; 1024]);
         for _ in 0..random.below(80) {
             if random.one_in(40) {
-                let at = random.below(140);
+                let at = random.below(240);
                 one[at] ^= 1;
                 two[at] ^= 1;
             }
@@ -580,7 +595,7 @@ fn caching_far_epochs() {
         let mut random = Random::new(seed);
         let apart = random.pick(&[1, 2, 1_000, 50_000_000]);
         let values = Values {
-            names: (0..4).collect(),
+            names: generate::names(&mut random, 4),
             addresses: random.bytes(40),
             epochs: (0..70).map(|i| i * apart).collect(),
             ..Values::small(&mut random)

@@ -44,7 +44,7 @@ routines! {
     /// Of a state and a file: 0.
     "open" OPEN = pelzhondy_open(Buffer, usize, Bytes, usize);
     /// Of a state and a write's address, name, epoch, first and second number: its place, from 1.
-    "hand_in" HAND_IN = pelzhondy_hand_in(Buffer, usize, u8, u8, u32, u16, u16);
+    "hand_in" HAND_IN = pelzhondy_hand_in(Buffer, usize, u8, u16, u32, u16, u16);
     /// Of a state and a disk: the place of the write that was stored, or 0.
     "step" STEP = pelzhondy_step(Buffer, usize, Buffer, usize);
     /// Of a state and a disk: how many writes were stored.

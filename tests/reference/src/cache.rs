@@ -1,20 +1,23 @@
 // The cache: its state of 1,024 bytes, when that is sound, and its four calls.
 
 use crate::cyclic::cyclic;
-use crate::file::{read, write_body, write_of, MOST_RULES};
+use crate::file::{read, rule_body, rule_of, write_body, write_of, Width, MOST_RULES};
 use crate::needs::{earliest_ready, needs};
 use crate::refusal::{self, Refusal};
 use crate::ring::has_ring;
-use crate::writes::{depends_on, Predicate, Rule, Write};
+use crate::writes::{depends_on, Rule, Write};
 
 pub const STATE: usize = 1024;
 pub const DISK: usize = 1024;
 pub const MOST_WRITES: usize = 64;
 
 pub const RULES_AT: usize = 4;
-pub const RULE_SIZE: usize = 3;
-pub const WRITES_AT: usize = 100;
+/// The body of tag 0A.
+pub const RULE_SIZE: usize = 5;
+pub const WRITES_AT: usize = RULES_AT + MOST_RULES * RULE_SIZE;
+/// The body of tag 09, and the stored flag.
 pub const WRITE_SIZE: usize = 12;
+pub const FLAG: usize = 11;
 pub const WRITES_END: usize = WRITES_AT + MOST_WRITES * WRITE_SIZE;
 
 /// The parts of soundness, in the document's order.
@@ -39,28 +42,22 @@ fn write_entry(state: &[u8], i: usize) -> &[u8] {
 
 /// The rules of a state, if their predicates are known.
 fn rules_of(state: &[u8]) -> Option<Vec<Rule>> {
-    let rule = |i| {
-        let entry = rule_entry(state, i);
-        Predicate::from_byte(entry[1]).map(|predicate| Rule {
-            name: entry[0],
-            predicate,
-            second: entry[2],
-        })
-    };
-    (0..state[0] as usize).map(rule).collect()
+    (0..state[0] as usize)
+        .map(|i| rule_of(rule_entry(state, i), Width::Two))
+        .collect()
 }
 
 /// The accepted writes of a state.
 pub fn accepted(state: &[u8]) -> Vec<Write> {
     (0..state[1] as usize)
-        .map(|i| write_of(write_entry(state, i)))
+        .map(|i| write_of(write_entry(state, i), Width::Two))
         .collect()
 }
 
 /// The stored flags of the accepted writes.
 pub fn stored(state: &[u8]) -> Vec<bool> {
     (0..state[1] as usize)
-        .map(|i| write_entry(state, i)[10] == 1)
+        .map(|i| write_entry(state, i)[FLAG] == 1)
         .collect()
 }
 
@@ -75,11 +72,8 @@ pub fn broken_clause(state: &[u8]) -> Option<Clause> {
     let zero = |bytes: &[u8]| bytes.iter().all(|&byte| byte == 0);
     let unused_rules = (rule_count..MOST_RULES).all(|i| zero(rule_entry(state, i)));
     let unused_writes = (accepted_count..MOST_WRITES).all(|i| zero(write_entry(state, i)));
-    let entries = (0..accepted_count).all(|i| {
-        let entry = write_entry(state, i);
-        entry[10] <= 1 && entry[11] == 0
-    });
-    if state[3] != 0 || !unused_rules || !unused_writes || !entries || !zero(&state[WRITES_END..]) {
+    let flags = (0..accepted_count).all(|i| write_entry(state, i)[FLAG] <= 1);
+    if state[3] != 0 || !unused_rules || !unused_writes || !flags || !zero(&state[WRITES_END..]) {
         return Some(Clause::Layout);
     }
     let rules = match rules_of(state) {
@@ -110,10 +104,9 @@ pub fn sound(state: &[u8]) -> bool {
 
 /// The rules of a sound state.
 fn sound_rules(state: &[u8]) -> Result<Vec<Rule>, Refusal> {
-    match rules_of(state) {
-        Some(rules) if sound(state) => Ok(rules),
-        _ => Err(refusal::plain(refusal::NOT_SOUND)),
-    }
+    // One that is not may count more rules than it has bytes for.
+    let rules = if sound(state) { rules_of(state) } else { None };
+    rules.ok_or(refusal::plain(refusal::NOT_SOUND))
 }
 
 /// Starts a state with the file's rules and no writes.
@@ -132,9 +125,7 @@ pub fn open(file: &[u8], state: &mut [u8]) -> Result<(), Refusal> {
     state[0] = file.rules.len() as u8;
     for (i, rule) in file.rules.iter().enumerate() {
         let at = RULES_AT + i * RULE_SIZE;
-        state[at] = rule.name;
-        state[at + 1] = rule.predicate.to_byte();
-        state[at + 2] = rule.second;
+        state[at..at + RULE_SIZE].copy_from_slice(&rule_body(rule, Width::Two));
     }
     Ok(())
 }
@@ -160,7 +151,7 @@ pub fn hand_in(state: &mut [u8], write: &Write) -> Result<(), Refusal> {
         return Err(refusal::plain(refusal::RING_OF_NEEDS));
     }
     let at = WRITES_AT + count * WRITE_SIZE;
-    state[at..at + 10].copy_from_slice(&write_body(write));
+    state[at..at + FLAG].copy_from_slice(&write_body(write, Width::Two));
     state[1] += 1;
     Ok(())
 }
@@ -178,7 +169,7 @@ pub fn step(state: &mut [u8], disk: &mut [u8]) -> Result<usize, Refusal> {
     };
     let block_at = 4 * writes[ready].address as usize;
     disk[block_at..block_at + 4].copy_from_slice(&writes[ready].block.to_bytes());
-    state[WRITES_AT + ready * WRITE_SIZE + 10] = 1;
+    state[WRITES_AT + ready * WRITE_SIZE + FLAG] = 1;
     state[2] += 1;
     Ok(ready + 1)
 }

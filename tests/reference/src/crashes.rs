@@ -9,7 +9,7 @@ use crate::log;
 use crate::random::Random;
 use crate::samples::log_rules;
 use crate::schedule::dependencies;
-use crate::writes::{block, write, Block, Predicate, Rule, Write, EMPTY, PREDICATES};
+use crate::writes::{block, write, Block, Name, Predicate, Rule, Write, EMPTY, PREDICATES};
 
 /// Up to `most` rules that are not cyclic.
 pub fn acyclic_rules(random: &mut Random, values: &Values, most: usize) -> Vec<Rule> {
@@ -24,9 +24,12 @@ pub fn acyclic_rules(random: &mut Random, values: &Values, most: usize) -> Vec<R
 }
 
 /// As many rules as a file can have: these, and others that have none of the names, in any
-/// order, so that one which matters is often the last.
+/// order, so that one which matters is often the last. They are of one byte if all those names are.
 pub fn padded(random: &mut Random, values: &Values, rules: &[Rule]) -> Vec<Rule> {
-    let unused: Vec<u8> = (0..=255).filter(|n| !values.names.contains(n)).collect();
+    let largest = values.names.iter().copied().max().unwrap_or(0);
+    let unused: Vec<Name> = (0..=largest.clamp(255, 1023))
+        .filter(|n| !values.names.contains(n))
+        .collect();
     let mut all = rules.to_vec();
     while all.len() < MOST_RULES {
         let i = random.below(unused.len() - 1);
@@ -44,6 +47,14 @@ pub fn padded(random: &mut Random, values: &Values, rules: &[Rule]) -> Vec<Rule>
         }
     }
     all
+}
+
+/// So many names: 1, 2 and so on, or any that are alike.
+fn few_names(random: &mut Random, count: usize) -> Vec<Name> {
+    match random.one_in(2) {
+        true => generate::names(random, count),
+        false => (1..=count as Name).collect(),
+    }
 }
 
 /// A check about where writes of the test go and what they leave there.
@@ -184,7 +195,7 @@ pub fn range_file(random: &mut Random) -> File {
 pub fn range_file_of(random: &mut Random, main: usize) -> File {
     const NEAR: [u8; 9] = [1, 2, 3, 4, 5, 252, 253, 254, 255];
     let at = random.pick(&[0, 7, 255]);
-    let names: Vec<u8> = (1..4).collect();
+    let names = few_names(random, 3);
     let values = Values {
         names,
         addresses: NEAR.iter().copied().filter(|&near| near != at).collect(),
@@ -259,7 +270,8 @@ pub fn long_ranges_file_of(random: &mut Random, main: usize) -> File {
             _ => in_row(random),
         })
         .collect();
-    let label = |random: &mut Random| (random.between(1, 3) as u8, random.below(3) as u32);
+    let names = few_names(random, 3);
+    let label = |random: &mut Random| (random.pick(&names), random.below(3) as u32);
     let mut initial: Vec<Write> = (from..from + many)
         .filter(|_| !random.one_in(60))
         .map(|at| write(at as u8, 1, 0, block(7, at)))
@@ -283,7 +295,7 @@ pub fn long_ranges_file_of(random: &mut Random, main: usize) -> File {
         })
         .collect();
     let values = Values {
-        names: vec![1, 2, 3],
+        names: names.clone(),
         ..Values::small(random)
     };
     let most = random.pick(&[0, 2, 6]);
@@ -314,8 +326,9 @@ pub fn tangled_file_of(random: &mut Random, main: usize) -> File {
     if random.one_in(4) {
         halves.push(random.pick(&[0, 1, 256, 257, 65_535]));
     }
+    let few = random.between(1, 4);
     let values = Values {
-        names: (1..=random.between(1, 4) as u8).collect(),
+        names: few_names(random, few),
         addresses: (from..from + many).map(|address| address as u8).collect(),
         epochs: (0..random.between(1, 4) as u32).collect(),
         halves,
@@ -345,7 +358,7 @@ pub fn tangled_file_of(random: &mut Random, main: usize) -> File {
 /// valid schedules are the starts of the trace; and one of these, the last in half of the cases,
 /// leaves the only block that the check objects to. With it the number of that schedule.
 pub fn chain(random: &mut Random) -> (File, u64) {
-    let (name, address, other) = (random.byte(), random.byte(), random.byte());
+    let (name, address, other) = (generate::name(random), random.byte(), random.byte());
     let from = random.number() as u32 >> 1;
     let count = random.between(1, MOST_MAIN);
     let main: Vec<Write> = (0..count)

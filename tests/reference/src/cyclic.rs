@@ -1,7 +1,9 @@
 // Cyclic rule sets, by closed walks over the names; and by rings of labels, for comparison.
 
+use std::collections::BTreeSet;
+
 use crate::ring::has_ring;
-use crate::writes::{depends_on, Label, Predicate, Rule};
+use crate::writes::{depends_on, Label, Name, Predicate, Rule};
 
 /// Is there a closed walk of one or more rules that uses only = rules, or both a > and a < rule?
 pub fn cyclic(rules: &[Rule]) -> bool {
@@ -10,11 +12,11 @@ pub fn cyclic(rules: &[Rule]) -> bool {
 
 /// Is there such a walk from `start` back to it? The search goes over pairs of the name that was
 /// reached and which of > and < were used on the way.
-fn closes(rules: &[Rule], start: u8) -> bool {
+fn closes(rules: &[Rule], start: Name) -> bool {
     const NONE: usize = 0;
     const GREATER: usize = 1;
     const LESS: usize = 2;
-    let mut reached = [[false; 4]; 256];
+    let mut reached = BTreeSet::new();
     let mut todo = vec![(start, NONE)];
     while let Some((name, used)) = todo.pop() {
         for rule in rules.iter().filter(|rule| rule.name == name) {
@@ -23,19 +25,18 @@ fn closes(rules: &[Rule], start: u8) -> bool {
                 Predicate::Greater => used | GREATER,
                 Predicate::Less => used | LESS,
             };
-            if !reached[rule.second as usize][used] {
-                reached[rule.second as usize][used] = true;
+            if reached.insert((rule.second, used)) {
                 todo.push((rule.second, used));
             }
         }
     }
-    reached[start as usize][NONE] || reached[start as usize][GREATER | LESS]
+    reached.contains(&(start, NONE)) || reached.contains(&(start, GREATER | LESS))
 }
 
 /// Do labels with epochs below `epochs` form a ring, each depending on the next? This is the
 /// document's definition itself, up to the bound on the epochs.
 pub fn labels_form_ring(rules: &[Rule], epochs: u32) -> bool {
-    let mut names: Vec<u8> = rules.iter().flat_map(|r| [r.name, r.second]).collect();
+    let mut names: Vec<Name> = rules.iter().flat_map(|r| [r.name, r.second]).collect();
     names.sort_unstable();
     names.dedup();
     let mut labels = Vec::new();

@@ -4,9 +4,10 @@
 // A damaged field may have further damage that stands later in the document's list, and anything
 // may follow it: neither changes the refusal.
 
-use crate::file::{body_length, bytes_of, Field, File, Test};
-use crate::file::{END, INITIAL, LONGEST, MAIN, PAIR, POINTER, RANGE, RULE};
+use crate::file::{body_length, bytes_of, predicate_at, Field, File, Test, LAST_TAG, LONGEST};
+use crate::file::{END, INITIAL, MAIN, PAIR, POINTER, RANGE, RULE};
 use crate::file::{MOST_CHECKS, MOST_INITIAL, MOST_MAIN, MOST_RULES, MOST_TESTS};
+use crate::file::{WIDE_INITIAL, WIDE_MAIN, WIDE_RULE};
 use crate::generate::{self, Values};
 use crate::random::Random;
 use crate::refusal::{self, Refusal};
@@ -18,16 +19,61 @@ pub struct Damaged {
     pub refusal: Refusal,
 }
 
-const TEST_TAGS: [u8; 6] = [INITIAL, MAIN, RANGE, PAIR, POINTER, END];
+const RULE_TAGS: [u8; 2] = [RULE, WIDE_RULE];
+const INITIAL_TAGS: [u8; 2] = [INITIAL, WIDE_INITIAL];
+const MAIN_TAGS: [u8; 2] = [MAIN, WIDE_MAIN];
 const CHECK_TAGS: [u8; 3] = [RANGE, PAIR, POINTER];
+const TEST_TAGS: [u8; 8] = [
+    INITIAL,
+    MAIN,
+    RANGE,
+    PAIR,
+    POINTER,
+    END,
+    WIDE_INITIAL,
+    WIDE_MAIN,
+];
+
+fn is_rule(field: &Field) -> bool {
+    RULE_TAGS.contains(&field.tag)
+}
+
+/// The tag of what this one is, in names of the other width; others are as they are.
+fn other_spelling(tag: u8) -> u8 {
+    for [narrow, wide] in [RULE_TAGS, INITIAL_TAGS, MAIN_TAGS] {
+        if tag == narrow {
+            return wide;
+        }
+        if tag == wide {
+            return narrow;
+        }
+    }
+    tag
+}
+
+fn any_tag(random: &mut Random) -> u8 {
+    random.between(1, LAST_TAG as usize) as u8
+}
+
+/// A known tag, or one beside them.
+fn tag_or_beside(random: &mut Random) -> u8 {
+    random.between(0, LAST_TAG as usize + 1) as u8
+}
 
 /// A field with a right length and any body; of an unknown tag, with no body.
 pub fn field(random: &mut Random, tag: u8) -> Field {
     let mut body = random.bytes(body_length(tag).unwrap_or(0));
-    if tag == RULE {
-        body[1] %= 3;
+    if let Some(at) = predicate_at(tag) {
+        body[at] %= 3;
     }
     Field::new(tag, body)
+}
+
+/// Any predicate, of a rule whose body has one.
+fn any_predicate(random: &mut Random, field: &mut Field) {
+    if let Some(predicate) = predicate_at(field.tag).and_then(|at| field.body.get_mut(at)) {
+        *predicate = random.byte();
+    }
 }
 
 /// A file with at least one field that has this property, and the index of such a field.
@@ -38,7 +84,7 @@ fn file_with(random: &mut Random, has: impl Fn(&Field) -> bool) -> (Vec<Field>, 
         } else {
             generate::small_file(random)
         };
-        let fields = file.fields();
+        let fields = file.mixed_fields(random);
         let found: Vec<usize> = (0..fields.len()).filter(|&i| has(&fields[i])).collect();
         if !found.is_empty() {
             let index = random.pick(&found);
@@ -81,8 +127,8 @@ fn assemble_with_more(
     after: &[Field],
 ) -> Damaged {
     let mut damaged = damaged.clone();
-    if random.one_in(4) && damaged.tag == RULE {
-        damaged.body[1] = random.byte();
+    if random.one_in(4) {
+        any_predicate(random, &mut damaged);
     }
     if random.one_in(4) {
         damaged.length = any_length(random);
@@ -96,7 +142,7 @@ fn assemble_with_more(
 }
 
 fn any_length(random: &mut Random) -> u16 {
-    const LENGTHS: [u16; 12] = [0, 1, 2, 3, 4, 9, 10, 11, 255, 256, 65534, 65535];
+    const LENGTHS: [u16; 15] = [0, 1, 2, 3, 4, 5, 6, 9, 10, 11, 12, 255, 256, 65534, 65535];
     if random.one_in(4) {
         random.number() as u16
     } else {
@@ -128,8 +174,8 @@ pub fn one_or_two_left(random: &mut Random) -> Damaged {
 pub fn body_cut(random: &mut Random) -> Damaged {
     let (fields, k) = file_with(random, |f| !f.body.is_empty());
     let mut cut = fields[k].clone();
-    if cut.tag == RULE && random.one_in(2) {
-        cut.body[1] = random.byte();
+    if random.one_in(2) {
+        any_predicate(random, &mut cut);
     }
     let length = random.below(cut.body.len());
     cut.body.truncate(length);
@@ -146,11 +192,12 @@ pub fn body_cut(random: &mut Random) -> Damaged {
 pub fn unknown_tag(random: &mut Random) -> Damaged {
     let (fields, k) = file_with(random, |_| true);
     let mut damaged = fields[k].clone();
+    let first = LAST_TAG + 1;
     damaged.tag = match random.below(4) {
         0 => 0,
-        1 => 8,
+        1 => first,
         2 => 255,
-        _ => random.between(8, 255) as u8,
+        _ => random.between(first as usize, 255) as u8,
     };
     assemble_with_more(
         random,
@@ -167,15 +214,17 @@ pub fn wrong_length(random: &mut Random) -> Damaged {
     let mut damaged = fields[k].clone();
     let right = damaged.length;
     while damaged.length == right {
-        damaged.length = match random.below(4) {
+        damaged.length = match random.below(5) {
             0 => right.wrapping_add(1),
             1 => right.wrapping_sub(1),
             2 => right ^ 1 << random.below(16),
+            // What would be right in names of the other width.
+            3 => body_length(other_spelling(damaged.tag)).unwrap_or(0) as u16,
             _ => any_length(random),
         };
     }
-    if damaged.tag == RULE && random.one_in(4) {
-        damaged.body[1] = random.byte();
+    if random.one_in(4) {
+        any_predicate(random, &mut damaged);
     }
     match random.below(4) {
         0 => {
@@ -204,7 +253,7 @@ pub fn wrong_length(random: &mut Random) -> Damaged {
 }
 
 /// 4, out of order: a rule once a test has begun, an 01 after its test's 02 or check, an 02 after
-/// its test's check. In some of the files the field is over its limit too.
+/// its test's check, each in either of its tags. In some of the files the field is over its limit too.
 pub fn out_of_order(random: &mut Random) -> Damaged {
     let values = Values::random(random);
     let tag = random.pick(&[RULE, INITIAL, MAIN]);
@@ -230,7 +279,7 @@ pub fn out_of_order(random: &mut Random) -> Damaged {
         }
     }
     // From where to where in the test, by index among its fields, `tag` is out of order.
-    let fields = test.fields();
+    let fields = test.mixed_fields(random);
     let (first, last) = match tag {
         RULE if file.tests.is_empty() => (1, fields.len()),
         RULE => (0, fields.len()),
@@ -238,8 +287,9 @@ pub fn out_of_order(random: &mut Random) -> Damaged {
         _ => (test.initial.len() + test.main.len() + 1, fields.len() - 1),
     };
     let k = random.between(first, last);
-    let mut before = file.fields();
+    let mut before = file.mixed_fields(random);
     before.extend_from_slice(&fields[..k]);
+    let tag = random.pick(&[tag, other_spelling(tag)]);
     let damaged = field(random, tag);
     assemble_with_more(
         random,
@@ -252,9 +302,10 @@ pub fn out_of_order(random: &mut Random) -> Damaged {
 
 /// 5, predicate above 2.
 pub fn unknown_predicate(random: &mut Random) -> Damaged {
-    let (fields, k) = file_with(random, |f| f.tag == RULE);
+    let (fields, k) = file_with(random, is_rule);
     let mut damaged = fields[k].clone();
-    damaged.body[1] = match random.below(3) {
+    let at = predicate_at(damaged.tag).expect("a rule");
+    damaged.body[at] = match random.below(3) {
         0 => 3,
         1 => 255,
         _ => random.between(3, 255) as u8,
@@ -314,8 +365,8 @@ fn fields_up_to(random: &mut Random, limit: Limit) -> Vec<Field> {
             test = generate::test_of(random, &values, initial, main, MOST_CHECKS);
         }
     }
-    let mut fields = file.fields();
-    let mut within = test.fields();
+    let mut fields = file.mixed_fields(random);
+    let mut within = test.mixed_fields(random);
     within.pop();
     fields.extend(within);
     fields
@@ -324,10 +375,10 @@ fn fields_up_to(random: &mut Random, limit: Limit) -> Vec<Field> {
 /// The tags of the fields that are one over this limit.
 fn tags_over(limit: Limit) -> &'static [u8] {
     match limit {
-        Limit::Rules => &[RULE],
+        Limit::Rules => &RULE_TAGS,
         Limit::Tests => &TEST_TAGS,
-        Limit::Initial => &[INITIAL],
-        Limit::Main => &[MAIN],
+        Limit::Initial => &INITIAL_TAGS,
+        Limit::Main => &MAIN_TAGS,
         Limit::Checks => &CHECK_TAGS,
     }
 }
@@ -357,7 +408,7 @@ pub fn at_limit(random: &mut Random, limit: Limit) -> Vec<u8> {
 
 /// 7, test not ended.
 pub fn not_ended(random: &mut Random) -> Damaged {
-    let (fields, k) = file_with(random, |f| f.tag != RULE && f.tag != END);
+    let (fields, k) = file_with(random, |f| !is_rule(f) && f.tag != END);
     let bytes = bytes_of(&fields[..k + 1]);
     let place = bytes.len();
     Damaged {
@@ -385,7 +436,11 @@ pub fn any(random: &mut Random) -> Damaged {
 
 /// A few bytes changed.
 pub fn bytes_changed(random: &mut Random, file: &File) -> Vec<u8> {
-    let mut bytes = file.to_bytes();
+    let bytes = file.to_mixed_bytes(random);
+    change_bytes(random, bytes)
+}
+
+fn change_bytes(random: &mut Random, mut bytes: Vec<u8>) -> Vec<u8> {
     if bytes.is_empty() {
         return bytes;
     }
@@ -393,7 +448,7 @@ pub fn bytes_changed(random: &mut Random, file: &File) -> Vec<u8> {
         let at = random.below(bytes.len());
         bytes[at] = match random.below(4) {
             0 => random.byte(),
-            1 => random.below(9) as u8,
+            1 => tag_or_beside(random),
             _ => bytes[at] ^ 1 << random.below(8),
         };
     }
@@ -402,11 +457,11 @@ pub fn bytes_changed(random: &mut Random, file: &File) -> Vec<u8> {
 
 /// A few bytes put in or taken out.
 pub fn bytes_shifted(random: &mut Random, file: &File) -> Vec<u8> {
-    let mut bytes = file.to_bytes();
+    let mut bytes = file.to_mixed_bytes(random);
     for _ in 0..random.between(1, 3) {
         if bytes.is_empty() || random.one_in(2) {
             let at = random.below(bytes.len() + 1);
-            bytes.insert(at, random.below(9) as u8);
+            bytes.insert(at, tag_or_beside(random));
         } else {
             bytes.remove(random.below(bytes.len()));
         }
@@ -416,10 +471,10 @@ pub fn bytes_shifted(random: &mut Random, file: &File) -> Vec<u8> {
 
 /// Fields put in, taken out, doubled, exchanged, or given another tag or length.
 pub fn fields_changed(random: &mut Random, file: &File) -> Vec<u8> {
-    let mut fields = file.fields();
+    let mut fields = file.mixed_fields(random);
     for _ in 0..random.between(1, 3) {
         let k = random.below(fields.len() + 1);
-        let tag = random.between(1, 7) as u8;
+        let tag = any_tag(random);
         if k == fields.len() || random.one_in(3) {
             let new = field(random, tag);
             fields.insert(k, new);
@@ -431,7 +486,10 @@ pub fn fields_changed(random: &mut Random, file: &File) -> Vec<u8> {
             }
             1 => fields.insert(k, fields[k].clone()),
             2 => fields.swap(k, random.below(k + 1)),
-            3 => fields[k].tag = random.below(9) as u8,
+            3 => {
+                let tag = tag_or_beside(random);
+                fields[k].tag = random.pick(&[tag, other_spelling(fields[k].tag)]);
+            }
             _ => fields[k].length = any_length(random),
         }
     }
@@ -442,7 +500,7 @@ pub fn fields_changed(random: &mut Random, file: &File) -> Vec<u8> {
 pub fn any_fields(random: &mut Random) -> Vec<u8> {
     let mut fields = Vec::new();
     for _ in 0..random.below(12) {
-        let tag = random.between(1, 7) as u8;
+        let tag = any_tag(random);
         fields.push(field(random, tag));
     }
     bytes_of(&fields)
@@ -471,14 +529,14 @@ pub fn over_long(random: &mut Random) -> Vec<u8> {
     let mut bytes = Vec::new();
     match random.below(4) {
         // The longest file, with more behind it.
-        0 | 1 => bytes = generate::full_file(random, true).to_bytes(),
+        0 | 1 => bytes = generate::full_file(random, true).to_wide_bytes(),
         // Damage somewhere in the longest file.
         2 => {
             let mut file = generate::full_file(random, true);
             if random.one_in(2) {
                 file.tests.truncate(random.below(MOST_TESTS));
             }
-            bytes = bytes_changed(random, &file);
+            bytes = change_bytes(random, file.to_wide_bytes());
         }
         _ => {}
     }
@@ -486,7 +544,7 @@ pub fn over_long(random: &mut Random) -> Vec<u8> {
         if random.one_in(8) {
             bytes.push(random.byte());
         } else {
-            let tag = random.between(1, 7) as u8;
+            let tag = any_tag(random);
             field(random, tag).append_to(&mut bytes);
         }
     }

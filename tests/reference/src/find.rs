@@ -10,7 +10,8 @@ use crate::schedule::dependencies;
 use crate::writes::{Rule, PREDICATES};
 
 pub const MOST_CANDIDATES: usize = 16;
-pub const LEAST_BUFFER: usize = 96;
+/// As long as 16 fields of two-byte names, also where all names are small.
+pub const LEAST_BUFFER: usize = 128;
 /// The most main writes of a test that finding takes; reading takes more.
 pub const MOST_MAIN: usize = 12;
 

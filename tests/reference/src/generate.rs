@@ -2,16 +2,17 @@
 // writes meet at one address and checks say something; sometimes at the limits exactly.
 
 use crate::checks::Check;
-use crate::file::{File, Test};
+use crate::file::{bytes_of, Field, File, Test, Width};
+use crate::file::{INITIAL, MAIN, RULE, WIDE_INITIAL, WIDE_MAIN, WIDE_RULE};
 use crate::file::{MOST_CHECKS, MOST_INITIAL, MOST_MAIN, MOST_RULES, MOST_TESTS};
 use crate::log;
 use crate::random::Random;
-use crate::writes::{Block, Predicate, Rule, Write, PREDICATES};
+use crate::writes::{Block, Name, Predicate, Rule, Write, PREDICATES};
 
 /// The values that a file draws from.
 #[derive(Clone, Debug)]
 pub struct Values {
-    pub names: Vec<u8>,
+    pub names: Vec<Name>,
     pub addresses: Vec<u8>,
     pub epochs: Vec<u32>,
     /// For the two numbers of a block.
@@ -29,7 +30,16 @@ impl Values {
 
     /// A few values of each kind, among them those at the ends of their ranges.
     pub fn small(random: &mut Random) -> Values {
-        const NAMES: [u8; 7] = [0, 1, 2, 3, 127, 128, 255];
+        let mut values = Values::narrow(random);
+        if random.one_in(2) {
+            values.names = names(random, values.names.len());
+        }
+        values
+    }
+
+    /// Likewise, with names of one byte.
+    pub fn narrow(random: &mut Random) -> Values {
+        const NAMES: [Name; 7] = [0, 1, 2, 3, 127, 128, 255];
         const ADDRESSES: [u8; 9] = [0, 1, 2, 3, 4, 5, 128, 254, 255];
         const EPOCHS: [u32; 5] = [0, 1, 0x7FFF_FFFE, 0x0000_FFFF, 0xFFFF_FFFC];
         const HALVES: [u16; 12] = [0, 0, 1, 2, 3, 4, 5, 254, 255, 256, 257, 65535];
@@ -54,12 +64,106 @@ impl Values {
     pub fn wide(random: &mut Random) -> Values {
         const MANY: usize = 40;
         Values {
-            names: random.bytes(MANY),
+            names: names(random, MANY),
             addresses: random.bytes(MANY),
             epochs: (0..MANY).map(|_| random.number() as u32).collect(),
             halves: (0..MANY).map(|_| random.number() as u16).collect(),
         }
     }
+}
+
+/// Any name: of one byte, not far above 255, or of the whole range.
+pub fn name(random: &mut Random) -> Name {
+    match random.below(4) {
+        0 | 1 => random.byte() as Name,
+        2 => random.between(256, 1023) as Name,
+        _ => random.number() as Name,
+    }
+}
+
+/// So many names, at most 256: of one byte, any, or such that they agree in their low byte, agree in
+/// their high byte, or are each other's bytes exchanged. A name that is cut to a byte, or whose bytes
+/// are taken in another order, is then often the name of another one.
+pub fn names(random: &mut Random, count: usize) -> Vec<Name> {
+    const LOWS: [u8; 5] = [0, 1, 2, 128, 255];
+    let kind = random.below(5);
+    let fixed = match random.below(3) {
+        0 => random.byte(),
+        _ => random.pick(&LOWS),
+    };
+    // The other byte rises: from 0 on, across 255, or from anywhere.
+    let any = random.byte();
+    let from = random.pick(&[0, 0, 1, 254, any]);
+    let other = |i: usize| from.wrapping_add(i as u8);
+    (0..count)
+        .map(|i| match kind {
+            0 => random.byte() as Name,
+            1 => name(random),
+            2 => Name::from_be_bytes([fixed, other(i)]),
+            3 if i % 2 == 1 => Name::from_be_bytes([other(i / 2), fixed]),
+            3 => Name::from_be_bytes([fixed, other(i / 2)]),
+            _ => Name::from_be_bytes([other(i), fixed]),
+        })
+        .collect()
+}
+
+/// Names spelled at random: each in two bytes, each in as few as will do, or now so and now so.
+fn spelling(random: &mut Random) -> impl FnMut(Width) -> Width + '_ {
+    let wide_in_four = random.pick(&[0, 1, 2, 2, 3, 4]);
+    move |least| match random.below(4) < wide_in_four {
+        true => Width::Two,
+        false => least,
+    }
+}
+
+impl File {
+    /// The fields, with old and new tags mixed.
+    pub fn mixed_fields(&self, random: &mut Random) -> Vec<Field> {
+        self.spelled_fields(&mut spelling(random))
+    }
+
+    pub fn to_mixed_bytes(&self, random: &mut Random) -> Vec<u8> {
+        bytes_of(&self.mixed_fields(random))
+    }
+}
+
+impl Test {
+    /// The fields, with old and new tags mixed.
+    pub fn mixed_fields(&self, random: &mut Random) -> Vec<Field> {
+        let file = File {
+            rules: vec![],
+            tests: vec![self.clone()],
+        };
+        file.mixed_fields(random)
+    }
+}
+
+/// A field of tag 01, 02 or 03 as one of 08, 09 or 0A, any other one as it is: by its bytes alone, for
+/// an old name is the new one with a zero byte before it.
+pub fn widened(field: &Field) -> Field {
+    let (tag, names): (u8, &[usize]) = match field.tag {
+        INITIAL => (WIDE_INITIAL, &[1]),
+        MAIN => (WIDE_MAIN, &[1]),
+        RULE => (WIDE_RULE, &[2, 0]),
+        _ => return field.clone(),
+    };
+    let mut body = field.body.clone();
+    for &at in names {
+        body.insert(at, 0);
+    }
+    Field::new(tag, body)
+}
+
+/// Fields of which some are widened: all of them, or any.
+pub fn some_widened(random: &mut Random, fields: &[Field]) -> Vec<Field> {
+    let all = random.one_in(4);
+    fields
+        .iter()
+        .map(|field| match all || random.one_in(2) {
+            true => widened(field),
+            false => field.clone(),
+        })
+        .collect()
 }
 
 /// Some of the items, in any order, perhaps with repeats.
@@ -205,7 +309,8 @@ pub fn small_file(random: &mut Random) -> File {
     file
 }
 
-/// A file with every count at its limit; with pair checks only it is as long as a file can be.
+/// A file with every count at its limit; with pair checks only, and all names in two bytes, it is as
+/// long as a file can be.
 pub fn full_file(random: &mut Random, pairs_only: bool) -> File {
     let values = Values::random(random);
     let mut file = File {
@@ -228,8 +333,7 @@ pub fn full_file(random: &mut Random, pairs_only: bool) -> File {
 /// Rules that are or nearly are cyclic: rings over the names, some with an edge left out, some that
 /// share a name, with further rules strewn in.
 pub fn nearly_cyclic_rules(random: &mut Random) -> Vec<Rule> {
-    let mut names: Vec<u8> = (0..=255).collect();
-    random.shuffle(&mut names);
+    let mut names = many_names(random);
     let mut rules = Vec::new();
     let mut shared = None;
     for _ in 0..random.between(1, 3) {
@@ -245,7 +349,7 @@ pub fn nearly_cyclic_rules(random: &mut Random) -> Vec<Rule> {
             Some(random.pick(&ring))
         };
     }
-    let used: Vec<u8> = rules
+    let used: Vec<Name> = rules
         .iter()
         .flat_map(|r: &Rule| [r.name, r.second])
         .collect();
@@ -279,15 +383,32 @@ pub fn some_predicates(random: &mut Random) -> &'static [Predicate] {
     random.pick(&KINDS)
 }
 
-/// All names in some order, four after another being equal modulo 64.
-pub fn alike_names(random: &mut Random) -> Vec<u8> {
-    let mut lowest: Vec<u8> = (0..64).collect();
+/// 256 different names in no order: those of one byte, or of both kinds.
+pub fn many_names(random: &mut Random) -> Vec<Name> {
+    let mut names: Vec<Name> = match random.below(2) {
+        0 => (0..=255).collect(),
+        _ => alike_names(random),
+    };
+    random.shuffle(&mut names);
+    names
+}
+
+/// 256 names in some order, four after another being equal modulo 64: of one byte, or of both kinds,
+/// of which many are equal modulo 256.
+pub fn alike_names(random: &mut Random) -> Vec<Name> {
+    const NARROW: [Name; 4] = [0, 64, 128, 192];
+    const BOTH: [Name; 8] = [0, 64, 0x100, 0x140, 0x200, 0x8000, 0xFF00, 0xFFC0];
+    let mut lowest: Vec<Name> = (0..64).collect();
     random.shuffle(&mut lowest);
+    let mut above = if random.one_in(2) {
+        NARROW.to_vec()
+    } else {
+        BOTH.to_vec()
+    };
     let mut names = Vec::new();
     for name in lowest {
-        let mut four = [name, name + 64, name + 128, name + 192];
-        random.shuffle(&mut four);
-        names.extend(four);
+        random.shuffle(&mut above);
+        names.extend(above[..4].iter().map(|above| name + above));
     }
     names
 }
@@ -323,7 +444,7 @@ pub fn epoch_column(random: &mut Random, count: usize) -> Vec<u32> {
 
 /// A ring of rules over these names, in half of the cases with one rule left out, and with both,
 /// one or none of > and <.
-fn ring_of_rules(random: &mut Random, names: &[u8]) -> Vec<Rule> {
+fn ring_of_rules(random: &mut Random, names: &[Name]) -> Vec<Rule> {
     let predicates = some_predicates(random);
     let mut rules: Vec<Rule> = (0..names.len())
         .map(|i| Rule {
@@ -368,7 +489,7 @@ pub fn alike_rules(random: &mut Random, count: usize) -> Vec<Rule> {
 }
 
 /// Rules that lead round, from each of these names to the next, with these predicates in any order.
-pub fn round(random: &mut Random, names: &[u8], predicates: &[Predicate]) -> Vec<Rule> {
+pub fn round(random: &mut Random, names: &[Name], predicates: &[Predicate]) -> Vec<Rule> {
     let mut predicates = predicates.to_vec();
     random.shuffle(&mut predicates);
     let rule = |(i, predicate)| Rule {

@@ -4,10 +4,10 @@ use crate::cache::DISK;
 use crate::checks::Check;
 use crate::file::{bytes_of, Test};
 use crate::refusal::{self, Refusal};
-use crate::writes::{Block, Write, BLOCKS};
+use crate::writes::{Block, Name, Write, BLOCKS};
 
-pub const LOG: u8 = 1;
-pub const SUPERBLOCK: u8 = 2;
+pub const LOG: Name = 1;
+pub const SUPERBLOCK: Name = 2;
 
 pub const PUT: usize = 4;
 pub const MOST_INITIAL_PUTS: usize = 32;

@@ -1,9 +1,10 @@
 // The sample files: what a tester would write, and what goes wrong with one.
 
 use crate::checks::Check;
-use crate::file::{File, Test};
+use crate::file::{bytes_of, File, Test};
+use crate::generate::widened;
 use crate::log;
-use crate::writes::{block, rule, write, Block, Predicate, Rule};
+use crate::writes::{block, rule, write, Block, Name, Predicate, Rule};
 
 use Predicate::{Equal, Greater, Less};
 
@@ -52,8 +53,8 @@ fn rig6() -> Test {
     log::test_of(&[block(0, 835), block(1, 828)], &puts)
 }
 
-const SETTING: u8 = 10;
-const MARK: u8 = 11;
+const SETTING: Name = 10;
+const MARK: Name = 11;
 
 /// A setting in two blocks, 20 and 21, and a mark at 22 that it is complete: with the mark there,
 /// both are.
@@ -76,8 +77,8 @@ fn setting() -> Test {
     }
 }
 
-const RECORD: u8 = 30;
-const DIRECTORY: u8 = 31;
+const RECORD: Name = 30;
+const DIRECTORY: Name = 31;
 
 /// Directory blocks 40 and 41 with pointers to records at 100 and 101, each moved once.
 fn directory() -> Test {
@@ -113,6 +114,39 @@ fn trimmed(head: u16) -> Test {
         main: vec![write(0, log::SUPERBLOCK, 3, block(head, 4))],
         ..log::test_of(&readings, &[])
     }
+}
+
+/// A record at address 8, read anew, and a mark at 9 that it is there.
+fn marked_record(of_old: Name, of_record: Name, of_mark: Name) -> Test {
+    let (old, new, there) = (block(7, 41), block(7, 42), block(0, 1));
+    Test {
+        initial: vec![write(8, of_old, 0, old)],
+        main: vec![write(8, of_record, 1, new), write(9, of_mark, 1, there)],
+        checks: vec![Check::Pair {
+            a: 9,
+            v: there,
+            b: 8,
+            w: new,
+        }],
+    }
+}
+
+/// Records and marks of a rig: the lorry's, names 1 and 2; its trailer's, 257 and 258; and the trailer's
+/// again by a firmware that keeps names in a byte, and so has the record as 1. Rules and writes are in
+/// the old tags where these will do, but for the lorry's mark.
+fn rig_names() -> Vec<u8> {
+    let file = File {
+        rules: vec![rule(2, Equal, 1), rule(258, Equal, 257)],
+        tests: vec![
+            marked_record(1, 1, 2),
+            marked_record(257, 257, 258),
+            marked_record(257, 1, 258),
+        ],
+    };
+    let lorrys_mark = file.rules.len() + 2;
+    let mut fields = file.fields();
+    fields[lorrys_mark] = widened(&fields[lorrys_mark]);
+    bytes_of(&fields)
 }
 
 fn file(rules: &[Rule], tests: &[Test]) -> Vec<u8> {
@@ -152,6 +186,7 @@ pub fn samples() -> Vec<Sample> {
         sample("pair-no-rules.bin", file(&[], &[setting()])),
         sample("pointer.bin", file(&[directory_rule], &[directory()])),
         sample("pointer-no-rules.bin", file(&[], &[directory()])),
+        sample("names.bin", rig_names()),
         sample("trim.bin", file(&both, &[trimmed(4), trimmed(5)])),
         sample("several.bin", file(&all_rules, &all_tests)),
         sample(
@@ -160,6 +195,6 @@ pub fn samples() -> Vec<Sample> {
         ),
         sample("truncated.bin", k1[..60].to_vec()),
         sample("not-ended.bin", k1[..k1.len() - 3].to_vec()),
-        sample("out-of-order.bin", crate::file::bytes_of(&swapped)),
+        sample("out-of-order.bin", bytes_of(&swapped)),
     ]
 }

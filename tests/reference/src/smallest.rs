@@ -7,7 +7,7 @@ use crate::cyclic::cyclic;
 use crate::file::{File, Test, MOST_CHECKS, MOST_INITIAL, MOST_MAIN, MOST_RULES};
 use crate::generate::{self, Values};
 use crate::random::Random;
-use crate::writes::{block, rule, write, Block, Label, Predicate, Write, EMPTY, PREDICATES};
+use crate::writes::{block, rule, write, Block, Label, Name, Predicate, Write, EMPTY, PREDICATES};
 
 /// How a block comes to be one that breaks a check: it is so from the start, or a main write leaves it
 /// so that depends on so many others, one behind the other.
@@ -48,17 +48,14 @@ struct Making {
     file: File,
     /// Addresses and names that nothing has yet. Rules lead from newer names to older ones.
     addresses: Vec<u8>,
-    names: Vec<u8>,
+    names: Vec<Name>,
 }
 
 impl Making {
     fn new(random: &mut Random) -> Making {
-        let mut shuffled = || {
-            let mut all: Vec<u8> = (0..=255).collect();
-            random.shuffle(&mut all);
-            all
-        };
-        let (mut addresses, names) = (shuffled(), shuffled());
+        let mut addresses: Vec<u8> = (0..=255).collect();
+        random.shuffle(&mut addresses);
+        let names = generate::many_names(random);
         // The first and the last address are often among the first to be taken.
         for end in [0, 255] {
             let last = addresses.len() - 1;
@@ -120,7 +117,7 @@ impl Making {
     fn leave(&mut self, random: &mut Random, address: u8, before: Block, then: Block, way: Way) {
         let at_start = if way == Start { then } else { before };
         if !at_start.is_empty() || random.one_in(8) {
-            let (name, epoch) = (random.byte(), random.byte() as u32);
+            let (name, epoch) = (generate::name(random), random.byte() as u32);
             self.test()
                 .initial
                 .push(write(address, name, epoch, at_start));
@@ -375,7 +372,7 @@ pub fn at_limits(random: &mut Random, main: usize) -> File {
     random.shuffle(&mut addresses);
     addresses.truncate(random.between(1, 5));
     let values = Values {
-        names: vec![0, 1, 255],
+        names: random.pick(&[[0, 1, 255], [0, 256, 65_535]]).to_vec(),
         addresses,
         epochs: vec![0, 1, u32::MAX - 1, u32::MAX],
         halves: vec![0, 1, 2, 254, 255, 256, 257, ROW, u16::MAX],

@@ -2,15 +2,15 @@
 // clause.
 
 use crate::cache::{self, Clause, DISK, STATE};
-use crate::cache::{MOST_WRITES, RULES_AT, RULE_SIZE, WRITES_AT, WRITES_END, WRITE_SIZE};
+use crate::cache::{FLAG, MOST_WRITES, RULES_AT, RULE_SIZE, WRITES_AT, WRITES_END, WRITE_SIZE};
 use crate::crashes;
 use crate::cyclic::cyclic;
-use crate::file::{write_body, File, MOST_RULES};
+use crate::file::{rule_body, write_body, File, Width, MOST_RULES};
 use crate::generate::{self, Values};
 use crate::needs::needs;
 use crate::random::Random;
 use crate::refusal;
-use crate::writes::{Rule, Write};
+use crate::writes::{rule, Name, Predicate, Rule, Write};
 
 pub const CLAUSES: [Clause; 7] = [
     Clause::Layout,
@@ -24,7 +24,8 @@ pub const CLAUSES: [Clause; 7] = [
 
 const COUNT: usize = 1;
 const STORED: usize = 2;
-const FLAG: usize = 10;
+/// Where a rule's entry has its predicate.
+const PREDICATE: usize = 2;
 
 /// What a run draws its rules and writes from.
 #[derive(Clone, Debug)]
@@ -56,19 +57,18 @@ impl Source {
         generate::write(random, &self.values)
     }
 
-    /// The file that a cache is opened with.
-    pub fn file(&self) -> Vec<u8> {
+    /// A file that a cache is opened with.
+    pub fn file(&self, random: &mut Random) -> Vec<u8> {
         let file = File {
             rules: self.rules.clone(),
             tests: vec![],
         };
-        file.to_bytes()
+        file.to_mixed_bytes(random)
     }
 
+    /// The state that it leaves, whichever tags the file has.
     pub fn opened(&self) -> Vec<u8> {
-        let mut state = vec![0; STATE];
-        cache::open(&self.file(), &mut state).expect("rules that are not cyclic");
-        state
+        state_of(&self.rules, &[], &[])
     }
 
     /// As many writes as a state holds, column by column: names, addresses and epochs that are all
@@ -173,7 +173,7 @@ fn store_any(random: &mut Random, rules: &[Rule], state: &mut [u8]) {
 }
 
 /// A name for each of 64 writes.
-fn name_column(random: &mut Random) -> Vec<u8> {
+fn name_column(random: &mut Random) -> Vec<Name> {
     let mut all = generate::alike_names(random);
     if random.one_in(3) {
         random.shuffle(&mut all);
@@ -192,8 +192,8 @@ fn address_column(random: &mut Random) -> Vec<u8> {
 }
 
 /// Each of the items as often as another one, one after another or in no order.
-fn column(random: &mut Random, items: &[u8]) -> Vec<u8> {
-    let mut column: Vec<u8> = items.iter().copied().cycle().take(MOST_WRITES).collect();
+fn column<T: Copy + Ord>(random: &mut Random, items: &[T]) -> Vec<T> {
+    let mut column: Vec<T> = items.iter().copied().cycle().take(MOST_WRITES).collect();
     match random.below(3) {
         0 => column.sort_unstable(),
         1 => random.shuffle(&mut column),
@@ -204,12 +204,12 @@ fn column(random: &mut Random, items: &[u8]) -> Vec<u8> {
 
 /// Rules that are not cyclic, few or as many as there can be, about these names, about others, or
 /// about one of these and one of others.
-fn rules_about(random: &mut Random, names: &[u8]) -> Vec<Rule> {
+fn rules_about(random: &mut Random, names: &[Name]) -> Vec<Rule> {
     let count = random.pick(&[0, 1, 4, MOST_RULES - 1, MOST_RULES, MOST_RULES]);
     let of_others = random.pick(&[0, 0, 1, 5]);
     let predicates = generate::some_predicates(random);
     let name = |random: &mut Random| match random.below(10) < of_others {
-        true => random.byte(),
+        true => generate::name(random),
         false => random.pick(names),
     };
     let mut rules = Vec::new();
@@ -245,7 +245,7 @@ pub fn state_of(rules: &[Rule], writes: &[Write], stored: &[bool]) -> Vec<u8> {
     let mut state = vec![0; STATE];
     state[0] = rules.len() as u8;
     for (entry, rule) in state[RULES_AT..].chunks_exact_mut(RULE_SIZE).zip(rules) {
-        entry.copy_from_slice(&[rule.name, rule.predicate.to_byte(), rule.second]);
+        entry.copy_from_slice(&rule_body(rule, Width::Two));
     }
     for (write, &stored) in writes.iter().zip(stored) {
         append(&mut state, write, stored);
@@ -256,26 +256,26 @@ pub fn state_of(rules: &[Rule], writes: &[Write], stored: &[bool]) -> Vec<u8> {
 /// Appends a write, whether or not it would be accepted.
 fn append(state: &mut [u8], write: &Write, stored: bool) {
     let at = WRITES_AT + state[COUNT] as usize * WRITE_SIZE;
-    state[at..at + FLAG].copy_from_slice(&write_body(write));
+    state[at..at + FLAG].copy_from_slice(&write_body(write, Width::Two));
     state[at + FLAG] = stored as u8;
     state[COUNT] += 1;
     state[STORED] += stored as u8;
 }
 
 /// Puts a rule, given as its bytes, at any place among those that are there.
-fn insert_rule(random: &mut Random, state: &mut [u8], rule: [u8; 3]) {
+fn insert_rule(random: &mut Random, state: &mut [u8], rule: &[u8]) {
     let count = state[0] as usize;
     let at = RULES_AT + random.between(0, count) * RULE_SIZE;
     let end = RULES_AT + count * RULE_SIZE;
     state.copy_within(at..end, at + RULE_SIZE);
-    state[at..at + RULE_SIZE].copy_from_slice(&rule);
+    state[at..at + RULE_SIZE].copy_from_slice(rule);
     state[0] += 1;
 }
 
 /// A name that no rule and no write of the state has.
-fn unused_name(random: &mut Random, state: &[u8], source: &Source) -> u8 {
+fn unused_name(random: &mut Random, state: &[u8], source: &Source) -> Name {
     let writes = cache::accepted(state);
-    let used = |name: u8| {
+    let used = |name: Name| {
         writes.iter().any(|write| write.name == name)
             || source
                 .rules
@@ -283,7 +283,7 @@ fn unused_name(random: &mut Random, state: &[u8], source: &Source) -> u8 {
                 .any(|rule| rule.name == name || rule.second == name)
     };
     loop {
-        let name = random.byte();
+        let name = generate::name(random);
         if !used(name) {
             return name;
         }
@@ -308,15 +308,14 @@ fn try_broken(random: &mut Random, clause: Clause) -> Option<Vec<u8>> {
     match clause {
         Clause::Layout => {
             let entry = WRITES_AT + random.below(count.max(1)) * WRITE_SIZE;
-            let place = match random.below(8) {
+            let place = match random.below(7) {
                 0 => 3,
                 1 if rules < MOST_RULES => random.between(rules_end, WRITES_AT - 1),
                 2 if rules < MOST_RULES => rules_end,
                 3 if count < MOST_WRITES => random.between(used_end, WRITES_END - 1),
                 4 => random.pick(&[WRITES_END, STATE - 1]),
                 5 => random.between(WRITES_END, STATE - 1),
-                6 if count > 0 => entry + FLAG + 1,
-                7 if count > 0 => {
+                6 if count > 0 => {
                     state[entry + FLAG] = random.between(2, 255) as u8;
                     return Some(state);
                 }
@@ -343,11 +342,11 @@ fn try_broken(random: &mut Random, clause: Clause) -> Option<Vec<u8>> {
                 return None;
             }
             let name = unused_name(random, &state, &source);
-            let predicate = match clause {
-                Clause::AcyclicRules => 0,
-                _ => random.between(3, 255) as u8,
-            };
-            insert_rule(random, &mut state, [name, predicate, name]);
+            let mut entry = rule_body(&rule(name, Predicate::Equal, name), Width::Two);
+            if clause == Clause::KnownPredicates {
+                entry[PREDICATE] = random.between(3, 255) as u8;
+            }
+            insert_rule(random, &mut state, &entry);
         }
         Clause::StoredCount => {
             let stored = state[STORED];

@@ -54,16 +54,19 @@ pub fn disk_to_bytes(disk: &Disk) -> Vec<u8> {
     disk.iter().flat_map(|block| block.to_bytes()).collect()
 }
 
+/// The name of a structure: [2] of document 02 made it two bytes.
+pub type Name = u16;
+
 #[derive(Clone, Copy, Debug, PartialEq, Eq)]
 pub struct Label {
-    pub name: u8,
+    pub name: Name,
     pub epoch: u32,
 }
 
 #[derive(Clone, Copy, Debug, PartialEq, Eq)]
 pub struct Write {
     pub address: u8,
-    pub name: u8,
+    pub name: Name,
     pub epoch: u32,
     pub block: Block,
 }
@@ -77,7 +80,7 @@ impl Write {
     }
 }
 
-pub fn write(address: u8, name: u8, epoch: u32, block: Block) -> Write {
+pub fn write(address: u8, name: Name, epoch: u32, block: Block) -> Write {
     Write {
         address,
         name,
@@ -124,9 +127,9 @@ impl Predicate {
 
 #[derive(Clone, Copy, Debug, PartialEq, Eq)]
 pub struct Rule {
-    pub name: u8,
+    pub name: Name,
     pub predicate: Predicate,
-    pub second: u8,
+    pub second: Name,
 }
 
 impl Rule {
@@ -137,7 +140,7 @@ impl Rule {
     }
 }
 
-pub fn rule(name: u8, predicate: Predicate, second: u8) -> Rule {
+pub fn rule(name: Name, predicate: Predicate, second: Name) -> Rule {
     Rule {
         name,
         predicate,

@@ -32,11 +32,17 @@ shared-slice-read-addresses c = search reading
 slice-write-addresses : tie.Need-slice-write-addresses Inv-loop μ-loop
 slice-write-addresses c = search reading
 
-add-names : tie.Need-add-names Inv-loop μ-loop
-add-names c = search reading
+add-half-at : tie.Need-add-half-at Inv-loop μ-loop
+add-half-at c = search reading
 
-shared-slice-read-names : tie.Need-shared-slice-read-names Inv-loop μ-loop
-shared-slice-read-names c = search reading
+half-at-requires : tie.Need-half-at-requires Inv-loop μ-loop
+half-at-requires c κs = search reading
+
+cast-names : tie.Need-cast-names Inv-loop μ-loop
+cast-names c = search reading
+
+mul-names : tie.Need-mul-names Inv-loop μ-loop
+mul-names c = search reading
 
 slice-write-names : tie.Need-slice-write-names Inv-loop μ-loop
 slice-write-names c = search reading
@@ -86,8 +92,10 @@ fill-columns-spec =
     write-place-requires
     shared-slice-read-addresses
     slice-write-addresses
-    add-names
-    shared-slice-read-names
+    add-half-at
+    half-at-requires
+    cast-names
+    mul-names
     slice-write-names
     add-word-at
     word-at-requires

@@ -30,17 +30,17 @@ rule-place-requires c κs = search reading
 add-e : tie.Need-add-e Inv-loop μ-loop
 add-e c = search reading
 
-sub-read-rule : tie.Need-sub-read-rule Inv-loop μ-loop
-sub-read-rule c = search reading
+sub-read-wide-rule : tie.Need-sub-read-wide-rule Inv-loop μ-loop
+sub-read-wide-rule c = search reading
 
-part-read-rule-start : tie.Need-part-read-rule-start Inv-loop μ-loop
-part-read-rule-start c = search reading
+part-read-wide-rule-start : tie.Need-part-read-wide-rule-start Inv-loop μ-loop
+part-read-wide-rule-start c = search reading
 
-part-read-rule-end : tie.Need-part-read-rule-end Inv-loop μ-loop
-part-read-rule-end c = search reading
+part-read-wide-rule-end : tie.Need-part-read-wide-rule-end Inv-loop μ-loop
+part-read-wide-rule-end c = search reading
 
-read-rule-requires : tie.Need-read-rule-requires Inv-loop μ-loop
-read-rule-requires c κs = search reading
+read-wide-rule-requires : tie.Need-read-wide-rule-requires Inv-loop μ-loop
+read-wide-rule-requires c κs = search reading
 
 mul-items : tie.Need-mul-items Inv-loop μ-loop
 mul-items c = search reading
@@ -71,10 +71,10 @@ state-rules-spec =
     loop-holds
     rule-place-requires
     add-e
-    sub-read-rule
-    part-read-rule-start
-    part-read-rule-end
-    read-rule-requires
+    sub-read-wide-rule
+    part-read-wide-rule-start
+    part-read-wide-rule-end
+    read-wide-rule-requires
     mul-items
     array-set-from-items
     add-i

@@ -9,17 +9,17 @@ write-place-requires c κs = search reading
 add-e : tie.Need-add-e
 add-e c = search reading
 
-sub-read-write : tie.Need-sub-read-write
-sub-read-write c = search reading
+sub-read-wide-write : tie.Need-sub-read-wide-write
+sub-read-wide-write c = search reading
 
-part-read-write-start : tie.Need-part-read-write-start
-part-read-write-start c = search reading
+part-read-wide-write-start : tie.Need-part-read-wide-write-start
+part-read-wide-write-start c = search reading
 
-part-read-write-end : tie.Need-part-read-write-end
-part-read-write-end c = search reading
+part-read-wide-write-end : tie.Need-part-read-wide-write-end
+part-read-wide-write-end c = search reading
 
-read-write-requires : tie.Need-read-write-requires
-read-write-requires c κs = search reading
+read-wide-write-requires : tie.Need-read-wide-write-requires
+read-wide-write-requires c κs = search reading
 
 returns : tie.Need-returns
 returns c = search reading
@@ -30,8 +30,8 @@ write-in-spec =
     (tie.spec
     write-place-requires
     add-e
-    sub-read-write
-    part-read-write-start
-    part-read-write-end
-    read-write-requires
+    sub-read-wide-write
+    part-read-wide-write-start
+    part-read-wide-write-end
+    read-wide-write-requires
     returns)

@@ -26,17 +26,8 @@ loop-holds c = search fitting
 flag-place-requires : tie.Need-flag-place-requires Inv-loop μ-loop
 flag-place-requires c κs = search fitting
 
-shared-slice-read-flag-fits : tie.Need-shared-slice-read-flag-fits Inv-loop μ-loop
-shared-slice-read-flag-fits c = search fitting
-
-add-flag-fits : tie.Need-add-flag-fits Inv-loop μ-loop
-add-flag-fits c = search fitting
-
-shared-slice-read-flag-fits-2 : tie.Need-shared-slice-read-flag-fits-2 Inv-loop μ-loop
-shared-slice-read-flag-fits-2 c = search fitting
-
-flag-fits-requires : tie.Need-flag-fits-requires Inv-loop μ-loop
-flag-fits-requires c κs = search fitting
+shared-slice-read-if1 : tie.Need-shared-slice-read-if1 Inv-loop μ-loop
+shared-slice-read-if1 c = search fitting
 
 returns : tie.Need-returns Inv-loop μ-loop
 returns c = search fitting
@@ -63,10 +54,7 @@ flags-fit-spec =
     wide-requires
     loop-holds
     flag-place-requires
-    shared-slice-read-flag-fits
-    add-flag-fits
-    shared-slice-read-flag-fits-2
-    flag-fits-requires
+    shared-slice-read-if1
     returns
     add-i
     loop-less

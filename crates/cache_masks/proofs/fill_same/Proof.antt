@@ -18,6 +18,9 @@ abbrev μ-loop : tie.MeasureT-loop
 loop-holds : tie.Need-loop-holds Inv-loop μ-loop
 loop-holds c = search last-steps
 
+mul-last-same : tie.Need-mul-last-same Inv-loop μ-loop
+mul-last-same c = search last-steps
+
 shared-slice-read-last-same : tie.Need-shared-slice-read-last-same Inv-loop μ-loop
 shared-slice-read-last-same c = search last-steps
 
@@ -55,6 +58,7 @@ fill-same-spec =
     Inv-loop
     μ-loop
     loop-holds
+    mul-last-same
     shared-slice-read-last-same
     last-same-requires
     with-bit-requires

@@ -18,6 +18,9 @@ loop-holds c = search last-steps
 sub-if1 : tie.Need-sub-if1 Inv-loop μ-loop
 sub-if1 c = search last-steps
 
+mul-if1 : tie.Need-mul-if1 Inv-loop μ-loop
+mul-if1 c = search last-steps
+
 shared-slice-read-if1 : tie.Need-shared-slice-read-if1 Inv-loop μ-loop
 shared-slice-read-if1 c = search last-steps
 
@@ -53,6 +56,7 @@ last-same-spec =
     μ-loop
     loop-holds
     sub-if1
+    mul-if1
     shared-slice-read-if1
     sub-result
     mul-result

@@ -15,6 +15,9 @@ abbrev μ-loop : tie.MeasureT-loop
 loop-holds : tie.Need-loop-holds Inv-loop μ-loop
 loop-holds c = search same-steps
 
+mul-with-if : tie.Need-mul-with-if Inv-loop μ-loop
+mul-with-if c = search same-steps
+
 shared-slice-read-with-if : tie.Need-shared-slice-read-with-if Inv-loop μ-loop
 shared-slice-read-with-if c = search same-steps
 
@@ -40,6 +43,7 @@ same-spec =
     Inv-loop
     μ-loop
     loop-holds
+    mul-with-if
     shared-slice-read-with-if
     with-if-requires
     add-j

@@ -17,8 +17,8 @@ abbrev μ-loop : tie.MeasureT-loop
 compare-epochs-requires : tie.Need-compare-epochs-requires Inv-loop μ-loop
 compare-epochs-requires c κs = search needing
 
-same-requires : tie.Need-same-requires Inv-loop μ-loop
-same-requires c κs = search needing
+same-bytes-requires : tie.Need-same-bytes-requires Inv-loop μ-loop
+same-bytes-requires c κs = search needing
 
 loop-holds : tie.Need-loop-holds Inv-loop μ-loop
 loop-holds c = search needing
@@ -54,7 +54,7 @@ needed-spec =
     Inv-loop
     μ-loop
     compare-epochs-requires
-    same-requires
+    same-bytes-requires
     loop-holds
     mul-rule
     element-copy-out-rule

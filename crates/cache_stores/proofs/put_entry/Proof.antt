@@ -1,28 +1,16 @@
--- `cache_stores::put_entry` meets its contract: four runs of bytes, one behind the other, are the entry's.
+-- `cache_stores::put_entry` meets its contract: the write's bytes and a flag behind them are the entry's.
 use Rattle.cache_stores.proofs.AppendSteps.{appending}
 use Rattle.cache_stores.proofs.put_entry.Statement.{statement}
 use Rattle.cache_stores.proofs.put_entry.Tie as tie
 
-put-pair-requires : tie.Need-put-pair-requires
-put-pair-requires c κs = search appending
+put-write-requires : tie.Need-put-write-requires
+put-write-requires c κs = search appending
 
-add-put-word : tie.Need-add-put-word
-add-put-word c = search appending
+add-put-byte : tie.Need-add-put-byte
+add-put-byte c = search appending
 
-put-word-requires : tie.Need-put-word-requires
-put-word-requires c κs = search appending
-
-add-put-word-2 : tie.Need-add-put-word-2
-add-put-word-2 c = search appending
-
-put-word-requires-2 : tie.Need-put-word-requires-2
-put-word-requires-2 c κs = search appending
-
-add-put-pair : tie.Need-add-put-pair
-add-put-pair c = search appending
-
-put-pair-requires-2 : tie.Need-put-pair-requires-2
-put-pair-requires-2 c κs = search appending
+put-byte-requires : tie.Need-put-byte-requires
+put-byte-requires c κs = search appending
 
 same-length : tie.Need-same-length
 same-length c = search appending
@@ -32,14 +20,4 @@ returns c = search appending
 
 pub put-entry-spec : {M : Type 1} → statement M
 put-entry-spec =
-    tie.close
-    (tie.spec
-    put-pair-requires
-    add-put-word
-    put-word-requires
-    add-put-word-2
-    put-word-requires-2
-    add-put-pair
-    put-pair-requires-2
-    same-length
-    returns)
+    tie.close (tie.spec put-write-requires add-put-byte put-byte-requires same-length returns)

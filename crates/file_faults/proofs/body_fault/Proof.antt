@@ -1,21 +1,24 @@
--- `file_faults::body_fault` meets its contract, by the cases of its definition.
-use mathlib.Core.Path.{_∙_}
-use Rattle.file_format.specs.File.{bodyFault, bodyLength}
-use Rattle.relation.proofs.Cases.{cases}
+-- `file_faults::body_fault` meets its contract: a rule is read, and its predicate asked.
+use Rattle.file_faults.proofs.FaultLaws.{faults}
+use borrow.Author.Needs.{needs}
 use Rattle.file_faults.proofs.body_fault.Statement.{statement}
 use Rattle.file_faults.proofs.body_fault.Tie as tie
 
+is-rule-requires : tie.Need-is-rule-requires
+is-rule-requires c κs = search (needs, faults)
+
+read-rule-requires : tie.Need-read-rule-requires
+read-rule-requires c κs = search (needs, faults)
+
 rule-fault-requires : tie.Need-rule-fault-requires
-unfolding bodyLength
-rule-fault-requires c κs = c .before .before .pre ∙ rw (c .if1 .taken)
+rule-fault-requires c κs = search (needs, faults)
 
 returns : tie.Need-returns
-unfolding bodyFault
-returns c = search cases depth 9
+returns c = search (needs, faults)
 
 returns-2 : tie.Need-returns-2
-unfolding bodyFault
-returns-2 c = search cases depth 9
+returns-2 c = search (needs, faults)
 
 pub body-fault-spec : {M : Type 1} → statement M
-body-fault-spec = tie.close (tie.spec rule-fault-requires returns returns-2)
+body-fault-spec =
+    tie.close (tie.spec is-rule-requires read-rule-requires rule-fault-requires returns returns-2)

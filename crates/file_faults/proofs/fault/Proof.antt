@@ -19,6 +19,9 @@ is-tag-requires c κs = search needs
 returns-2 : tie.Need-returns-2
 returns-2 c = search (needs, faults)
 
+kind-of-requires : tie.Need-kind-of-requires
+kind-of-requires c κs = search needs
+
 out-of-order-requires : tie.Need-out-of-order-requires
 out-of-order-requires c κs = search needs
 
@@ -79,6 +82,7 @@ fault-spec =
     shared-slice-read-tag
     is-tag-requires
     returns-2
+    kind-of-requires
     out-of-order-requires
     returns-3
     over-limit-requires

@@ -1,12 +1,8 @@
--- `file_faults::rule_fault` meets its contract, by the cases of its definition.
+-- `file_faults::rule_fault` meets its contract: by the cases of its definition.
 use Rattle.file_format.specs.File.{ruleFault}
 use Rattle.relation.proofs.Cases.{cases}
-use borrow.Author.Needs.{needs}
 use Rattle.file_faults.proofs.rule_fault.Statement.{statement}
 use Rattle.file_faults.proofs.rule_fault.Tie as tie
-
-shared-slice-read-if1 : tie.Need-shared-slice-read-if1
-shared-slice-read-if1 c = search needs
 
 returns : tie.Need-returns
 unfolding ruleFault
@@ -17,4 +13,4 @@ unfolding ruleFault
 returns-2 c = search cases depth 9
 
 pub rule-fault-spec : {M : Type 1} → statement M
-rule-fault-spec = tie.close (tie.spec shared-slice-read-if1 returns returns-2)
+rule-fault-spec = tie.close (tie.spec returns returns-2)

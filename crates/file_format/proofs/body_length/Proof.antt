@@ -28,5 +28,17 @@ returns-6 : tie.Need-returns-6
 unfolding bodyLength
 returns-6 c = search cases depth 9
 
+returns-7 : tie.Need-returns-7
+unfolding bodyLength
+returns-7 c = search cases depth 12
+
+returns-8 : tie.Need-returns-8
+unfolding bodyLength
+returns-8 c = search cases depth 12
+
+returns-9 : tie.Need-returns-9
+unfolding bodyLength
+returns-9 c = search cases depth 12
+
 pub body-length-spec : {M : Type 1} → statement M
-body-length-spec = tie.close (tie.spec returns returns-2 returns-3 returns-4 returns-5 returns-6)
+body-length-spec = tie.close (tie.spec returns returns-2 returns-3 returns-4 returns-5 returns-6 returns-7 returns-8 returns-9)

@@ -43,6 +43,9 @@ mul-tests c = search reads-on
 array-set-from-tests : tie.Need-array-set-from-tests Inv-loop μ-loop
 array-set-from-tests c = search reads-on
 
+kind-of-requires : tie.Need-kind-of-requires Inv-loop μ-loop
+kind-of-requires c κs = search reads-on
+
 advance-requires : tie.Need-advance-requires Inv-loop μ-loop
 advance-requires c κs = search reads-on
 
@@ -74,6 +77,7 @@ read-spec =
     in-hand-requires
     mul-tests
     array-set-from-tests
+    kind-of-requires
     advance-requires
     loop-less
     loop-again

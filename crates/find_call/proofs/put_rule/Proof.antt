@@ -1,51 +1,37 @@
--- `find_call::put_rule` meets its contract: its bytes, written one behind the other, are the field.
-use borrow.Author.Needs.{needs}
-use Rattle.find_call.proofs.FoundLaws.{rule-wrote, rule-most}
+-- `find_call::put_rule` meets its contract, by the width of its names.
+use Rattle.find_call.proofs.FoundLaws.{spelling}
 use Rattle.find_call.proofs.put_rule.Statement.{statement}
 use Rattle.find_call.proofs.put_rule.Tie as tie
 
-put-requires : tie.Need-put-requires
-put-requires c κs = search needs
+is-narrow-requires : tie.Need-is-narrow-requires
+is-narrow-requires c κs = search spelling
 
-put-requires-2 : tie.Need-put-requires-2
-put-requires-2 c κs = search needs
-
-put-requires-3 : tie.Need-put-requires-3
-put-requires-3 c κs = search needs
-
-put-requires-4 : tie.Need-put-requires-4
-put-requires-4 c κs = search needs
-
-put-requires-5 : tie.Need-put-requires-5
-put-requires-5 c κs = search needs
-
-put-requires-6 : tie.Need-put-requires-6
-put-requires-6 c κs = search needs
+put-narrow-rule-requires : tie.Need-put-narrow-rule-requires
+put-narrow-rule-requires c κs = search spelling
 
 same-length : tie.Need-same-length
-same-length c = search needs
+same-length c = search spelling
 
 returns : tie.Need-returns
-returns c =
-    let w =
-    rule-wrote _ _ _ _ _ _ _ _ _ _ _ _ _ _ _
-    (c .before .before .before .before .before .before .before .before .before .before .before .before .before .before .before .before .before .before .before .before .before .before .put .ensures)
-    (c .before .before .before .before .before .before .before .before .before .before .before .before .before .before .before .before .before .before .put2 .ensures)
-    (c .before .before .before .before .before .before .before .before .before .before .before .before .before .before .put3 .ensures)
-    (c .before .before .before .before .before .before .before .before .before .before .put4 .ensures)
-    (c .before .before .before .before .before .before .put5 .ensures)
-    (c .before .before .put6 .ensures) in
-    (w, rule-most _ _ _ _ _ w)
+returns c = (search spelling, search spelling)
+
+put-wide-rule-requires : tie.Need-put-wide-rule-requires
+put-wide-rule-requires c κs = search spelling
+
+same-length-2 : tie.Need-same-length-2
+same-length-2 c = search spelling
+
+returns-2 : tie.Need-returns-2
+returns-2 c = (search spelling, search spelling)
 
 pub put-rule-spec : {M : Type 1} → statement M
 put-rule-spec =
     tie.close
     (tie.spec
-    put-requires
-    put-requires-2
-    put-requires-3
-    put-requires-4
-    put-requires-5
-    put-requires-6
+    is-narrow-requires
+    put-narrow-rule-requires
     same-length
-    returns)
+    returns
+    put-wide-rule-requires
+    same-length-2
+    returns-2)

@@ -4,13 +4,13 @@ use Prim.Native.Nat.{_-_, _*_, _≤_}
 use lib.ListN.{length, take}
 use Rattle.file_format.specs.Encode.{ruleFields}
 use Rattle.file_writing.specs.Writing.{Wrote}
-use Rattle.find_call.specs.Finder.{fieldLength}
+use Rattle.file_reader.specs.Limits.{longestRule}
 use Rattle.find_call.proofs.FindSteps.{putting}
 use Rattle.find_call.proofs.put_rules.Statement.{statement}
 use Rattle.find_call.proofs.put_rules.Tie as tie
 
 abbrev Inv-loop : tie.InvT-loop
-Inv-loop buffer₀ set at₀ i₀ buffer at i = (i ≤ set .count) × (length buffer ≡ length buffer₀) × (at ≤ fieldLength * i) × Wrote buffer₀ 0 (ruleFields (take i (set .items))) buffer at
+Inv-loop buffer₀ set at₀ i₀ buffer at i = (i ≤ set .count) × (length buffer ≡ length buffer₀) × (at ≤ longestRule * i) × Wrote buffer₀ 0 (ruleFields (take i (set .items))) buffer at
 
 abbrev μ-loop : tie.MeasureT-loop
 μ-loop buffer₀ set at₀ i₀ buffer at i = set .count - i
@@ -25,7 +25,7 @@ element-copy-out-put-rule : tie.Need-element-copy-out-put-rule Inv-loop μ-loop
 element-copy-out-put-rule c = search putting
 
 put-rule-requires : tie.Need-put-rule-requires Inv-loop μ-loop
-put-rule-requires c κs = search putting
+put-rule-requires c κs = (search putting, search putting)
 
 add-i : tie.Need-add-i Inv-loop μ-loop
 add-i c = search putting

@@ -5,11 +5,11 @@ use borrow.Author.Needs.{needs}
 use Rattle.log_puts.proofs.put_put.Statement.{statement}
 use Rattle.log_puts.proofs.put_put.Tie as tie
 
-add-t11 : tie.Need-add-t11
-add-t11 c = search needs
-
 put-write-requires : tie.Need-put-write-requires
 put-write-requires c κs = search needs
+
+add-put-write : tie.Need-add-put-write
+add-put-write c = search needs
 
 put-write-requires-2 : tie.Need-put-write-requires-2
 put-write-requires-2 c κs = search needs
@@ -25,4 +25,4 @@ returns c =
 
 pub put-put-spec : {M : Type 1} → statement M
 put-put-spec =
-    tie.close (tie.spec add-t11 put-write-requires put-write-requires-2 same-length returns)
+    tie.close (tie.spec put-write-requires add-put-write put-write-requires-2 same-length returns)

@@ -4,7 +4,7 @@
 use std::collections::BTreeMap;
 
 use reference::cache::{self, Clause, MOST_WRITES, STATE};
-use reference::cache::{RULES_AT, RULE_SIZE, WRITES_AT, WRITE_SIZE};
+use reference::cache::{FLAG, RULES_AT, RULE_SIZE, WRITES_AT, WRITE_SIZE};
 use reference::generate;
 use reference::needs::needs;
 use reference::random::Random;
@@ -13,7 +13,7 @@ use reference::states::{self, Source};
 use reference::writes::{Rule, Write, PREDICATES};
 
 use super::hand_in::{each_often, same_hand_in, same_hand_in_on};
-use super::soundness::same_calls_with;
+use super::soundness::{same_calls_in_short, same_calls_with};
 use super::storing::{lend, same_to_the_end, STEP};
 use crate::harness::{require, Outcome, Run, Suite};
 
@@ -116,10 +116,10 @@ fn change(random: &mut Random, state: &mut [u8]) {
     let other = WRITES_AT + random.below(accepted) * WRITE_SIZE;
     let rule = RULES_AT + random.below((state[0] as usize).max(1)) * RULE_SIZE;
     match random.below(10) {
-        0 => state[one + 10] ^= 1,
+        0 => state[one + FLAG] ^= 1,
         1 | 2 => {
-            state[one + 10] ^= 1;
-            state[2] = match state[one + 10] {
+            state[one + FLAG] ^= 1;
+            state[2] = match state[one + FLAG] {
                 1 => state[2] + 1,
                 _ => state[2] - 1,
             };
@@ -129,11 +129,15 @@ fn change(random: &mut Random, state: &mut [u8]) {
             state[count] = beside(random, state[count]);
         }
         4 | 5 => state[one] = state[other],
-        6 => state[one + 1] = state[other + 1],
-        7 => state.copy_within(other + 2..other + 6, one + 2),
+        6 => {
+            // A whole name, or one of its bytes.
+            let bytes = random.pick(&[(1, 3), (1, 2), (2, 3)]);
+            state.copy_within(other + bytes.0..other + bytes.1, one + bytes.0);
+        }
+        7 => state.copy_within(other + 3..other + 7, one + 3),
         8 => match random.below(2) {
-            0 => state[rule + 1] = random.between(0, 3) as u8,
-            _ => state[rule] = state[rule + 2],
+            0 => state[rule + 2] = random.between(0, 3) as u8,
+            _ => state.copy_within(rule + 3..rule + 5, rule),
         },
         _ => state[random.below(STATE)] ^= 1 << random.below(8),
     }
@@ -151,14 +155,7 @@ fn one_thing_changed(run: &mut Run) -> Outcome {
             let write = near_write(&mut random, &source, &state);
             let clause = cache::broken_clause(&changed);
             *clauses.entry(format!("{clause:?}")).or_insert(0) += 1;
-            if clause.is_some() {
-                same_calls_with(&mut random, &changed, &write)?;
-            } else {
-                // Not the drain, which takes the reference long.
-                same_hand_in_on(&mut random, &changed, &write)?;
-                let (mut lent, mut disk) = lend(&mut random, &changed);
-                STEP.same(&mut lent, &mut disk)?;
-            }
+            same_calls_in_short(&mut random, &changed, &write)?;
         }
     }
     run.note(format!("{clauses:?}"));

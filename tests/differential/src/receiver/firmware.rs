@@ -65,9 +65,15 @@ fn stack_of_open(run: &mut Run) -> Outcome {
         let file = match i % 6 {
             0 => damage::at_limit(&mut random, Limit::Rules),
             1 => damage::any(&mut random).bytes,
-            2 => file_of(generate::nearly_cyclic_rules(&mut random)),
-            3 | 4 => file_of(generate::alike_rules(&mut random, MOST_RULES)),
-            _ => Source::new(&mut random).file(),
+            2 => {
+                let rules = generate::nearly_cyclic_rules(&mut random);
+                file_of(&mut random, &rules)
+            }
+            3 | 4 => {
+                let rules = generate::alike_rules(&mut random, MOST_RULES);
+                file_of(&mut random, &rules)
+            }
+            _ => Source::new(&mut random).file(&mut random),
         };
         let expected = cache::open(&file, &mut vec![0; STATE]).map(|()| 0);
         let mut state = Lent::new(&mut random, &[0; STATE]);

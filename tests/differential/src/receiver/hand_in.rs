@@ -118,7 +118,7 @@ fn late_and_ring(run: &mut Run) -> Outcome {
     for _ in 0..run.times(200) {
         let mut random = run.next_case();
         let mut source = Source::new(&mut random);
-        let (low, high) = (random.byte(), random.byte());
+        let (low, high) = (generate::name(&mut random), generate::name(&mut random));
         if low == high {
             continue;
         }
@@ -161,7 +161,10 @@ fn any_write(run: &mut Run) -> Outcome {
         };
         let write = Write {
             address: random.byte(),
-            name: random.byte(),
+            name: match random.below(3) {
+                0 => random.pick(&[0, 255, 256, 257, 65_535]),
+                _ => random.number() as u16,
+            },
             epoch: match random.below(3) {
                 0 => random.pick(&EPOCHS),
                 _ => random.number() as u32,

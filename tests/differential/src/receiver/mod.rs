@@ -4,12 +4,12 @@
 mod columns;
 mod firmware;
 mod getting;
-mod hand_in;
+pub mod hand_in;
 mod opening;
 mod rings;
 mod runs;
 mod soundness;
-mod storing;
+pub mod storing;
 
 use library::{DRAIN, GET, HAND_IN, OPEN, STEP};
 

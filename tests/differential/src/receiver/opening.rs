@@ -9,7 +9,7 @@ use reference::generate::{self, Values};
 use reference::random::Random;
 use reference::refusal;
 use reference::states;
-use reference::writes::{rule, Predicate, Rule, PREDICATES};
+use reference::writes::{rule, Name, Predicate, Rule, PREDICATES};
 
 use super::storing::{lend, STEP};
 use super::OTHER_LENGTHS;
@@ -64,12 +64,13 @@ fn each(run: &mut Run, cases: u64, make: fn(&mut Random) -> Vec<u8>) -> Outcome 
     Ok(())
 }
 
-pub fn file_of(rules: Vec<Rule>) -> Vec<u8> {
+/// A file of these rules, in old and new tags.
+pub fn file_of(random: &mut Random, rules: &[Rule]) -> Vec<u8> {
     let file = File {
-        rules,
+        rules: rules.to_vec(),
         tests: vec![],
     };
-    file.to_bytes()
+    file.to_mixed_bytes(random)
 }
 
 fn rules(run: &mut Run) -> Outcome {
@@ -80,7 +81,7 @@ fn rules(run: &mut Run) -> Outcome {
             1 => crashes::padded(random, &values, &[]),
             _ => crashes::acyclic_rules(random, &values, 12),
         };
-        file_of(rules)
+        file_of(random, &rules)
     })
 }
 
@@ -91,7 +92,8 @@ fn cyclic_rules(run: &mut Run) -> Outcome {
         let rules = generate::nearly_cyclic_rules(&mut random);
         refused += u64::from(cyclic(&rules));
         let before = any_state(&mut random);
-        same_opening(&mut random, &before, &file_of(rules))?;
+        let file = file_of(&mut random, &rules);
+        same_opening(&mut random, &before, &file)?;
     }
     run.note(format!("{refused} refused"));
     require(
@@ -114,7 +116,8 @@ fn known_rules(random: &mut Random, rules: &[Rule], is_cyclic: bool) -> Outcome 
 /// Opening with these rules, and a step on a state that has them.
 fn same_rules(random: &mut Random, rules: &[Rule]) -> Outcome {
     let before = any_state(random);
-    same_opening(random, &before, &file_of(rules.to_vec()))?;
+    let file = file_of(random, rules);
+    same_opening(random, &before, &file)?;
     let (mut state, mut disk) = lend(random, &states::state_of(rules, &[], &[]));
     STEP.same(&mut state, &mut disk)?;
     Ok(())
@@ -141,7 +144,7 @@ fn names_alike(run: &mut Run) -> Outcome {
 }
 
 /// Names for rules that lead round, half of the time four after another equal modulo 64.
-fn names_for_rings(random: &mut Random) -> Vec<u8> {
+fn names_for_rings(random: &mut Random) -> Vec<Name> {
     let mut names = generate::alike_names(random);
     if random.one_in(2) {
         random.shuffle(&mut names);
@@ -190,8 +193,8 @@ fn equal_rings(run: &mut Run) -> Outcome {
 }
 
 /// One of the names that is equal to a name modulo 64, or any one if none is.
-fn alike(random: &mut Random, names: &[u8], name: u8) -> u8 {
-    let alike: Vec<u8> = names
+fn alike(random: &mut Random, names: &[Name], name: Name) -> Name {
+    let alike: Vec<Name> = names
         .iter()
         .copied()
         .filter(|other| other % 64 == name % 64)
@@ -232,7 +235,7 @@ fn mixed_rings(run: &mut Run) -> Outcome {
 }
 
 /// Rules round these names, of = and of another predicate, this at least once.
-fn ring_with(random: &mut Random, names: &[u8], predicate: Predicate) -> Vec<Rule> {
+fn ring_with(random: &mut Random, names: &[Name], predicate: Predicate) -> Vec<Rule> {
     let count = random.between(1, names.len());
     let mut predicates = vec![Predicate::Equal; names.len()];
     predicates[..count].fill(predicate);
@@ -250,7 +253,7 @@ fn files_with_tests(run: &mut Run) -> Outcome {
             file.rules = generate::nearly_cyclic_rules(random);
         }
         file.tests.truncate(random.between(0, 2));
-        file.to_bytes()
+        file.to_mixed_bytes(random)
     })
 }
 
@@ -259,8 +262,7 @@ fn around_20(run: &mut Run) -> Outcome {
     for main in AROUND {
         for _ in 0..run.times(60) {
             let mut random = run.next_case();
-            let (file, refused) = file_with(&mut random, main);
-            let bytes = file.to_bytes();
+            let (_, bytes, refused) = file_with(&mut random, main);
             let known = refused.unwrap_or(refusal::plain(refusal::FILE_HAS_TESTS));
             let before = any_state(&mut random);
             let (mut state, lent) = (
@@ -291,8 +293,11 @@ fn other_lengths(run: &mut Run) -> Outcome {
             let mut random = run.next_case();
             let file = match random.below(4) {
                 0 => damage::any(&mut random).bytes,
-                1 => generate::file(&mut random).to_bytes(),
-                _ => file_of(generate::nearly_cyclic_rules(&mut random)),
+                1 => generate::file(&mut random).to_mixed_bytes(&mut random),
+                _ => {
+                    let rules = generate::nearly_cyclic_rules(&mut random);
+                    file_of(&mut random, &rules)
+                }
             };
             let before = random.bytes(length);
             let lent = Lent::new(&mut random, &file);

@@ -9,7 +9,7 @@ use reference::generate::{self, Values};
 use reference::random::Random;
 use reference::refusal::{LATE, NOT_SOUND, RING_OF_NEEDS, STATE_FULL};
 use reference::states::state_of;
-use reference::writes::{block, rule, write, Predicate, Rule, Write, PREDICATES};
+use reference::writes::{block, rule, write, Name, Predicate, Rule, Write, PREDICATES};
 
 use super::hand_in::{each_often, same_hand_in, same_hand_in_on};
 use super::soundness::same_calls_with;
@@ -32,7 +32,7 @@ pub fn suites() -> Vec<Suite> {
 /// Names and addresses that are not in use yet, epochs, and how many rules a ring may have.
 #[derive(Clone)]
 struct Supply {
-    names: Vec<u8>,
+    names: Vec<Name>,
     addresses: Vec<u8>,
     epochs: Vec<u32>,
     rules: usize,
@@ -155,14 +155,14 @@ impl Ring {
             0 => &mut rule.name,
             _ => &mut rule.second,
         };
-        let alike = name.wrapping_add(64);
-        let is_free = supply.names.contains(&alike);
-        match random.below(3) {
-            0 if is_free => {
+        let is_alike = |other: &&Name| **other % 64 == *name % 64;
+        let alike = supply.names.iter().find(is_alike).copied();
+        match (random.below(3), alike) {
+            (0, Some(alike)) => {
                 *name = alike;
                 supply.names.retain(|&name| name != alike);
             }
-            1 => {
+            (1, _) => {
                 self.rules.remove(link);
             }
             _ => rule.predicate = random.pick(&others),
@@ -494,7 +494,8 @@ fn chains_by_epochs(run: &mut Run) -> Outcome {
         for _ in 0..run.times(80) {
             let mut random = run.next_case();
             let predicate = random.pick(&[Predicate::Greater, Predicate::Less]);
-            let (one, other) = random.pick(&[(1, 65), (129, 1), (0, 255), (7, 8)]);
+            let (one, other) =
+                random.pick(&[(1, 65), (129, 1), (0, 255), (7, 8), (1, 257), (512, 2)]);
             let mut rules = vec![rule(one, predicate, one)];
             let ends = random.pick(&[(one, other), (other, one)]);
             rules.push(rule(ends.0, random.pick(&PREDICATES), ends.1));
@@ -560,7 +561,7 @@ fn from_the_end(predicate: Predicate, writes: &[Write]) -> Vec<usize> {
 
 /// So many writes of a name to different addresses with different epochs, neighbours or not, in no
 /// order.
-fn chain(random: &mut Random, name: u8, count: usize) -> Vec<Write> {
+fn chain(random: &mut Random, name: Name, count: usize) -> Vec<Write> {
     let apart = random.pick(&[1, 2, 3, 1_000, u32::MAX / 63]);
     let from = random.pick(&[0, u32::MAX - 63 * apart]);
     let mut epochs: Vec<u32> = (0..64).map(|i| from + i * apart).collect();
@@ -578,11 +579,11 @@ fn at_one_address(run: &mut Run) -> Outcome {
     let mut answers = BTreeMap::new();
     for _ in 0..run.times(300) {
         let mut random = run.next_case();
-        let (address, new) = (random.byte(), random.byte());
+        let (address, new) = (random.byte(), generate::name(&mut random));
         let epochs = generate::epoch_column(&mut random, MOST_WRITES);
-        let mut names = random.bytes(MOST_WRITES);
+        let mut names = generate::names(&mut random, MOST_WRITES);
         let few = random.between(1, MOST_WRITES);
-        names.iter_mut().for_each(|name| *name %= few as u8);
+        names = (0..MOST_WRITES).map(|_| names[random.below(few)]).collect();
         names.retain(|&name| name != new);
         let depending = random.between(1, 3);
         let rules: Vec<Rule> = (0..depending)

@@ -50,10 +50,8 @@ impl Replay {
     /// Opens a cache in place of any bytes.
     fn open(random: &mut Random, source: &Source, at_opening: &Disk) -> Result<Replay, Failure> {
         let before = random.bytes(STATE);
-        let (mut state, file) = (
-            Lent::new(random, &before),
-            Lent::new(random, &source.file()),
-        );
+        let file = source.file(random);
+        let (mut state, file) = (Lent::new(random, &before), Lent::new(random, &file));
         let inputs = [("file", file.content())];
         same_answer_on("open", &inputs, 0, calls::open(&mut state, &file))?;
         state.became("state", &source.opened())?;
@@ -156,7 +154,7 @@ impl Replay {
 
     fn refused_opening(&mut self, random: &mut Random) -> Result<Call, Failure> {
         let file = match random.below(4) {
-            0 => crashes::file(random).to_bytes(),
+            0 => crashes::file(random).to_mixed_bytes(random),
             1 => vec![3, 0, 3, 1, 0, 1],
             _ => damage::any(random).bytes,
         };

@@ -9,11 +9,11 @@ use crate::judge::{judge, verdict, Judgement, Verdict};
 use crate::log::{get, trace};
 use crate::program::output;
 use crate::refusal::plain;
-use crate::writes::{block, disk_to_bytes, rule, Predicate, Rule, Write, EMPTY_DISK};
+use crate::writes::{block, disk_to_bytes, rule, Name, Predicate, Rule, Write, EMPTY_DISK};
 
 use Predicate::{Equal, Greater, Less};
 
-fn write(address: u8, name: u8, epoch: u32, first: u16, second: u16) -> Write {
+fn write(address: u8, name: Name, epoch: u32, first: u16, second: u16) -> Write {
     Write {
         address,
         name,
@@ -88,12 +88,13 @@ fn k3() {
 
 #[test]
 fn k4() {
-    let mut buffer = [0xEE; 96];
+    let mut buffer = [0xEE; 128];
     assert_eq!(find(&k(), &mut buffer), Ok(2));
-    let mut expected = [0xEE; 96];
+    let mut expected = [0xEE; 128];
     expected[..12].copy_from_slice(&[3, 0, 3, 2, 0, 1, 3, 0, 3, 2, 1, 2]);
     assert_eq!(buffer, expected);
-    assert_eq!(find(&k(), &mut [0; 95]), Err(plain(12)));
+    // 96 bytes were enough before [2] of document 02.
+    assert_eq!(find(&k(), &mut [0; 127]), Err(plain(12)));
 }
 
 #[test]
@@ -122,9 +123,9 @@ fn k7() {
             checks: vec![pair(1, 2), pair(2, 1)],
         }],
     };
-    let mut buffer = [0xEE; 96];
+    let mut buffer = [0xEE; 128];
     assert_eq!(find(&file.to_bytes(), &mut buffer), Err(plain(13)));
-    assert_eq!(buffer, [0xEE; 96]);
+    assert_eq!(buffer, [0xEE; 128]);
 }
 
 fn opened(rules: &[Rule]) -> Vec<u8> {

@@ -4,9 +4,9 @@ use crate::cyclic::{cyclic, labels_form_ring};
 use crate::generate::{self, Values};
 use crate::random::Random;
 use crate::ring::has_ring;
-use crate::writes::{Predicate, Rule, PREDICATES};
+use crate::writes::{Name, Predicate, Rule, PREDICATES};
 
-fn rules_over(names: &[u8]) -> Vec<Rule> {
+fn rules_over(names: &[Name]) -> Vec<Rule> {
     let mut rules = Vec::new();
     for &name in names {
         for predicate in PREDICATES {
@@ -22,7 +22,7 @@ fn rules_over(names: &[u8]) -> Vec<Rule> {
 
 /// A third way: a ring of = rules alone, or a > and a < rule within one strong component.
 fn by_components(rules: &[Rule]) -> bool {
-    let reaches = |from: u8, to: u8| {
+    let reaches = |from: Name, to: Name| {
         let mut seen = vec![from];
         let mut next = 0;
         while next < seen.len() {
@@ -43,29 +43,33 @@ fn by_components(rules: &[Rule]) -> bool {
             && reaches(other.second, other.name)
     };
     let of = |predicate| rules.iter().filter(move |rule| rule.predicate == predicate);
-    let mut equal = vec![Vec::new(); 256];
+    let names: Vec<Name> = rules.iter().flat_map(|r| [r.name, r.second]).collect();
+    let number = |name| names.iter().position(|&other| other == name).unwrap_or(0);
+    let mut equal = vec![Vec::new(); names.len()];
     for rule in of(Predicate::Equal) {
-        equal[rule.name as usize].push(rule.second as usize);
+        equal[number(rule.name)].push(number(rule.second));
     }
     has_ring(&equal) || of(Predicate::Greater).any(|g| of(Predicate::Less).any(|l| within(g, l)))
 }
 
 #[test]
 fn all_sets_over_two_names() {
-    let all = rules_over(&[1, 2]);
-    for set in 0..1u32 << all.len() {
-        let rules: Vec<Rule> = (0..all.len())
-            .filter(|i| set >> i & 1 == 1)
-            .map(|i| all[i])
-            .collect();
-        assert_eq!(cyclic(&rules), labels_form_ring(&rules, 6), "{rules:?}");
-        assert_eq!(cyclic(&rules), by_components(&rules), "{rules:?}");
+    for names in [[1, 2], [1, 257]] {
+        let all = rules_over(&names);
+        for set in 0..1u32 << all.len() {
+            let rules: Vec<Rule> = (0..all.len())
+                .filter(|i| set >> i & 1 == 1)
+                .map(|i| all[i])
+                .collect();
+            assert_eq!(cyclic(&rules), labels_form_ring(&rules, 6), "{rules:?}");
+            assert_eq!(cyclic(&rules), by_components(&rules), "{rules:?}");
+        }
     }
 }
 
 #[test]
 fn all_triples_over_three_names() {
-    let all = rules_over(&[0, 7, 255]);
+    let all = rules_over(&[0, 256, 65_535]);
     for one in &all {
         for two in &all {
             for three in &all {

@@ -2,14 +2,15 @@
 
 use crate::checks::consistent;
 use crate::cyclic::cyclic;
-use crate::file::{read, File, Test};
+use crate::file::{read, File, Test, RULE_FIELD, WIDE_RULE, WIDE_RULE_FIELD};
 use crate::find::{candidates, find, members, sets_that_do};
 use crate::generate::{self, Values};
 use crate::judge::{judge_test, Judgement};
+use crate::log;
 use crate::random::Random;
 use crate::refusal::plain;
 use crate::schedule::{disk_of, flagged};
-use crate::writes::{Rule, PREDICATES};
+use crate::writes::{Name, Rule, PREDICATES};
 
 /// Definition 3.4, pair by pair.
 fn valid_by_pairs(rules: &[Rule], test: &Test, schedule: u64) -> bool {
@@ -59,10 +60,23 @@ fn judging_by_pairs() {
     }
 }
 
-/// A file without rules over two names, whose tests have up to three main writes.
-fn file_to_find(random: &mut Random) -> File {
+/// The rules that a buffer begins with.
+fn found(buffer: &[u8], count: usize) -> Vec<Rule> {
+    let mut length = 0;
+    for _ in 0..count {
+        length += match buffer[length] {
+            WIDE_RULE => WIDE_RULE_FIELD,
+            _ => RULE_FIELD,
+        };
+    }
+    read(&buffer[..length]).unwrap().rules
+}
+
+/// A file without rules over two names, whose tests have up to three main writes, or are of the log,
+/// with these names for its own.
+fn file_to_find(random: &mut Random, names: [Name; 2]) -> File {
     let values = Values {
-        names: vec![1, 2],
+        names: names.to_vec(),
         addresses: vec![0, 1, 2],
         epochs: vec![0, 1],
         halves: vec![0, 1, 2, 3],
@@ -70,7 +84,11 @@ fn file_to_find(random: &mut Random) -> File {
     let tests = random.between(1, 2);
     let mut test = || {
         if random.one_in(4) {
-            return generate::log_test(random);
+            let mut test = generate::log_test(random);
+            for write in test.initial.iter_mut().chain(&mut test.main) {
+                write.name = names[usize::from(write.name == log::SUPERBLOCK)];
+            }
+            return test;
         }
         let (initial, main, checks) = (random.below(3), random.between(1, 3), random.between(1, 2));
         generate::test_of(random, &values, initial, main, checks)
@@ -85,13 +103,23 @@ fn all_hold(file: &File, rules: &[Rule]) -> bool {
     file.tests.iter().all(|t| judge_test(rules, t).bad == 0)
 }
 
-/// The found set against all sets of rules over the two names, candidates or not; and among the
-/// sets of as many candidates that do, it has the largest number.
 #[test]
 fn no_other_set_is_smaller() {
+    no_smaller_set_over([log::LOG, log::SUPERBLOCK]);
+}
+
+/// Names that a byte does not tell apart.
+#[test]
+fn no_other_set_is_smaller_over_wide_names() {
+    no_smaller_set_over([1, 257]);
+}
+
+/// The found set against all sets of rules over the two names, candidates or not; and among the
+/// sets of as many candidates that do, it has the largest number.
+fn no_smaller_set_over(names: [Name; 2]) {
     let mut all = Vec::new();
-    for name in [1, 2] {
-        for second in [1, 2] {
+    for name in names {
+        for second in names {
             all.extend(PREDICATES.map(|predicate| Rule {
                 name,
                 predicate,
@@ -110,16 +138,17 @@ fn no_other_set_is_smaller() {
         .collect();
     let (mut refused, mut ties) = (0, 0);
     for seed in 0..60 {
-        let file = file_to_find(&mut Random::new(seed));
-        let mut buffer = [0; 96];
+        let mut random = Random::new(seed);
+        let file = file_to_find(&mut random, names);
+        let mut buffer = [0; 128];
         let fewest = sets
             .iter()
             .filter(|rules| all_hold(&file, rules))
             .map(|rules| rules.len())
             .min();
-        match find(&file.to_bytes(), &mut buffer) {
+        match find(&file.to_mixed_bytes(&mut random), &mut buffer) {
             Ok(count) => {
-                let found = read(&buffer[..6 * count]).unwrap().rules;
+                let found = found(&buffer, count);
                 assert_eq!(Some(count), fewest, "seed {seed}");
                 assert!(all_hold(&file, &found) && !cyclic(&found), "seed {seed}");
                 let candidates = candidates(&file);
@@ -158,11 +187,11 @@ fn refusals_of_finding() {
     };
     assert!(candidates(&file).len() > 16);
     let over = file.to_bytes();
-    assert_eq!(find(&over, &mut [0; 95]), Err(plain(12)));
-    assert_eq!(find(&over, &mut [0; 96]), Err(plain(11)));
+    assert_eq!(find(&over, &mut [0; 127]), Err(plain(12)));
+    assert_eq!(find(&over, &mut [0; 128]), Err(plain(11)));
     file.rules = generate::rules_of(&mut random, &wide, 1);
     assert_eq!(find(&file.to_bytes(), &mut []), Err(plain(10)));
-    assert_eq!(find(&[], &mut [0; 96]), Ok(0));
+    assert_eq!(find(&[], &mut [0; 128]), Ok(0));
 }
 
 /// 24 is asked of all tests, after 10 and before 12, 11 and 13.
@@ -189,7 +218,7 @@ fn finding_keeps_its_twelve() {
                     rules: vec![],
                     tests,
                 };
-                for length in [0, 95, 96, 200] {
+                for length in [0, 127, 128, 200] {
                     let mut buffer = vec![0xEE; length];
                     let refused = find(&file.to_bytes(), &mut buffer);
                     assert_eq!(refused, Err(plain(24)), "{main} main writes");
@@ -205,8 +234,8 @@ fn finding_keeps_its_twelve() {
         rules: vec![],
         tests: vec![generate::test_of(&mut random, &one_name, 0, 12, 0)],
     };
-    assert_eq!(find(&file.to_bytes(), &mut [0; 96]), Ok(0));
+    assert_eq!(find(&file.to_bytes(), &mut [0; 128]), Ok(0));
     file.tests = vec![generate::test_of(&mut random, &one_name, 0, 21, 0)];
-    let read = find(&file.to_bytes(), &mut [0; 96]).unwrap_err();
+    let read = find(&file.to_bytes(), &mut [0; 128]).unwrap_err();
     assert_eq!((read.number, read.place), (6, 20 * 13));
 }

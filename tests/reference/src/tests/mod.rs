@@ -6,6 +6,7 @@ mod crashes;
 mod cyclic;
 mod finding;
 mod log;
+mod names;
 mod reading;
 mod runs;
 mod samples;

@@ -1,7 +1,8 @@
 // Reading: the generators' files against what they were made of, and the order of the refusals.
 
 use crate::damage::{self, Damaged, LIMITS};
-use crate::file::{bytes_of, read, read_with_places, Field, File, LONGEST};
+use crate::file::{bytes_of, read, read_with_places, Field, File};
+use crate::file::{LONGEST, LONGEST_FIELD, LONGEST_NARROW};
 use crate::generate;
 use crate::random::Random;
 use crate::refusal::at;
@@ -9,8 +10,15 @@ use crate::refusal::at;
 #[test]
 fn valid_files_read_back() {
     for seed in 0..2000 {
-        let file = generate::file(&mut Random::new(seed));
-        assert_eq!(read(&file.to_bytes()), Ok(file), "seed {seed}");
+        let mut random = Random::new(seed);
+        let file = generate::file(&mut random);
+        for bytes in [
+            file.to_bytes(),
+            file.to_wide_bytes(),
+            file.to_mixed_bytes(&mut random),
+        ] {
+            assert_eq!(read(&bytes).as_ref(), Ok(&file), "seed {seed}");
+        }
     }
 }
 
@@ -74,8 +82,8 @@ fn limits_exactly_and_by_one() {
 
 #[test]
 fn the_longest_file() {
-    assert_eq!(LONGEST, 21_040);
-    let mut bytes = generate::full_file(&mut Random::new(1), true).to_bytes();
+    assert_eq!((LONGEST, LONGEST_NARROW), (22_448, 21_040));
+    let mut bytes = generate::full_file(&mut Random::new(1), true).to_wide_bytes();
     assert_eq!(bytes.len(), LONGEST);
     assert!(read(&bytes).is_ok());
     bytes.extend([7, 0]);
@@ -114,7 +122,7 @@ fn the_start_of_an_over_long_file_decides() {
         assert!(bytes.len() > LONGEST);
         let whole = read(&bytes);
         assert!(whole.is_err(), "seed {seed}");
-        let start = &bytes[..bytes.len().min(LONGEST + 13)];
+        let start = &bytes[..bytes.len().min(LONGEST + LONGEST_FIELD)];
         assert_eq!(read(start), whole, "seed {seed}");
     }
 }
@@ -122,9 +130,9 @@ fn the_start_of_an_over_long_file_decides() {
 #[test]
 fn the_order_of_the_refusals() {
     // A field is refused by the first condition of the list that it meets.
-    assert_eq!(read(&[9]), Err(at(1, 0)));
-    assert_eq!(read(&[9, 0]), Err(at(1, 0)));
-    assert_eq!(read(&[9, 0, 0]), Err(at(2, 0)));
+    assert_eq!(read(&[11]), Err(at(1, 0)));
+    assert_eq!(read(&[11, 0]), Err(at(1, 0)));
+    assert_eq!(read(&[11, 0, 0]), Err(at(2, 0)));
     assert_eq!(read(&[0, 255, 255]), Err(at(2, 0)));
     assert_eq!(read(&[7, 0, 0, 3, 0, 9]), Err(at(4, 3)));
     assert_eq!(read(&[4, 0, 1, 0, 2, 0, 10]), Err(at(4, 4)));
@@ -136,17 +144,21 @@ fn the_order_of_the_refusals() {
     assert_eq!(read(&[7, 0, 1]), Err(at(3, 0)));
     // After sixteen tests every field but a rule is the seventeenth's first.
     let tests = [7, 0, 0].repeat(16);
-    for tag in [1, 2, 4, 5, 6, 7] {
+    for tag in [1, 2, 4, 5, 6, 7, 8, 9] {
         assert_eq!(read(&[&tests[..], &[tag, 9, 9]].concat()), Err(at(6, 48)));
     }
-    assert_eq!(read(&[&tests[..], &[3, 9, 9]].concat()), Err(at(4, 48)));
-    assert_eq!(read(&[&tests[..], &[8, 9, 9]].concat()), Err(at(2, 48)));
+    for rule in [3, 10] {
+        assert_eq!(read(&[&tests[..], &[rule, 9, 9]].concat()), Err(at(4, 48)));
+    }
+    assert_eq!(read(&[&tests[..], &[11, 9, 9]].concat()), Err(at(2, 48)));
     assert_eq!(read(&[&tests[..], &[8, 9]].concat()), Err(at(1, 48)));
     // A rule over the limit once a test has begun is out of order; before that it is over.
     let rules = [3, 0, 3, 1, 0, 2].repeat(32);
-    assert_eq!(read(&[&rules[..], &[3, 9, 9]].concat()), Err(at(6, 192)));
-    assert_eq!(
-        read(&[&rules[..], &[7, 0, 0, 3, 9, 9]].concat()),
-        Err(at(4, 195))
-    );
+    for rule in [3, 10] {
+        assert_eq!(read(&[&rules[..], &[rule, 9, 9]].concat()), Err(at(6, 192)));
+        assert_eq!(
+            read(&[&rules[..], &[7, 0, 0, rule, 9, 9]].concat()),
+            Err(at(4, 195))
+        );
+    }
 }

@@ -1,16 +1,13 @@
 // Soundness of a state, a broken one for each clause; and the calls' first refusals.
 
 use crate::cache::{broken_clause, drain, hand_in, open, sound, step, Clause, DISK, STATE};
-use crate::file::write_of;
 use crate::refusal::plain;
-use crate::writes::Write;
+use crate::writes::{self, block, Name, Write};
 
 const RULES: [u8; 12] = [3, 0, 3, 2, 0, 1, 3, 0, 3, 2, 1, 2];
 
-fn write(address: u8, name: u8, epoch: u32) -> Write {
-    let mut write = write_of(&[address, name, 0, 0, 0, 0, 0, 1, 0, 2]);
-    write.epoch = epoch;
-    write
+fn write(address: u8, name: Name, epoch: u32) -> Write {
+    writes::write(address, name, epoch, block(1, 2))
 }
 
 /// Two rules, three accepted writes, the first stored: a log block, its superblock, another.
@@ -35,10 +32,10 @@ fn broken_by(changes: &[(usize, u8)]) -> Option<Clause> {
 #[test]
 fn the_layout_in_bytes() {
     let mut expected = vec![0; STATE];
-    expected[..10].copy_from_slice(&[2, 3, 1, 0, 2, 0, 1, 2, 1, 2]);
-    expected[100..112].copy_from_slice(&[1, 1, 0, 0, 0, 0, 0, 1, 0, 2, 1, 0]);
-    expected[112..124].copy_from_slice(&[0, 2, 0, 0, 0, 0, 0, 1, 0, 2, 0, 0]);
-    expected[124..136].copy_from_slice(&[2, 1, 0, 0, 0, 1, 0, 1, 0, 2, 0, 0]);
+    expected[..14].copy_from_slice(&[2, 3, 1, 0, 0, 2, 0, 0, 1, 0, 2, 1, 0, 2]);
+    expected[164..176].copy_from_slice(&[1, 0, 1, 0, 0, 0, 0, 0, 1, 0, 2, 1]);
+    expected[176..188].copy_from_slice(&[0, 0, 2, 0, 0, 0, 0, 0, 1, 0, 2, 0]);
+    expected[188..200].copy_from_slice(&[2, 0, 1, 0, 0, 0, 1, 0, 1, 0, 2, 0]);
     assert_eq!(state(), expected);
     assert!(sound(&expected));
 }
@@ -48,26 +45,30 @@ fn each_clause() {
     assert_eq!(broken_by(&[]), None);
     assert_eq!(broken_by(&[(0, 33)]), Some(Clause::Limits));
     assert_eq!(broken_by(&[(1, 65)]), Some(Clause::Limits));
-    for zero in [3, 10, 99, 111, 136, 867, 868, 1023] {
+    for zero in [3, 14, 163, 200, 931, 932, 1023] {
         let broken = broken_by(&[(zero, 1)]);
         assert_eq!(broken, Some(Clause::Layout), "byte {zero}");
     }
     assert_eq!(broken_by(&[(0, 1)]), Some(Clause::Layout));
     assert_eq!(broken_by(&[(1, 2)]), Some(Clause::Layout));
-    assert_eq!(broken_by(&[(110, 2)]), Some(Clause::Layout));
-    assert_eq!(broken_by(&[(5, 3)]), Some(Clause::KnownPredicates));
-    assert_eq!(broken_by(&[(8, 0)]), Some(Clause::AcyclicRules));
+    assert_eq!(broken_by(&[(175, 2)]), Some(Clause::Layout));
+    assert_eq!(broken_by(&[(6, 3)]), Some(Clause::KnownPredicates));
+    assert_eq!(broken_by(&[(11, 0)]), Some(Clause::AcyclicRules));
+    // The second rule as (258,=,2); and the two as (2,>,258) and (258,<,2).
+    assert_eq!(broken_by(&[(9, 1), (11, 0)]), None);
+    let both = [(4, 0), (6, 1), (7, 1), (8, 2), (9, 1), (11, 2)];
+    assert_eq!(broken_by(&both), Some(Clause::AcyclicRules));
     assert_eq!(broken_by(&[(2, 0)]), Some(Clause::StoredCount));
     assert_eq!(broken_by(&[(2, 2)]), Some(Clause::StoredCount));
     // The superblock stored, its log block not.
-    let swapped = [(110, 0), (122, 1)];
+    let swapped = [(175, 0), (187, 1)];
     assert_eq!(broken_by(&swapped), Some(Clause::StoredNeedStored));
     // Unused places count too: a third rule (0,=,0), cyclic.
     assert_eq!(broken_by(&[(0, 3)]), Some(Clause::AcyclicRules));
     // A fourth write to address 0 that names 0 and nothing needs.
     assert_eq!(broken_by(&[(1, 4)]), None);
     // Rule (1,<,1), and two log blocks of rising epochs at one address.
-    let ring = [(4, 1), (5, 2), (6, 1), (124, 1), (110, 0), (2, 0)];
+    let ring = [(5, 1), (6, 2), (8, 1), (188, 1), (175, 0), (2, 0)];
     assert_eq!(broken_by(&ring), Some(Clause::NoRingOfNeeds));
 }
 
