@@ -1,5 +1,5 @@
 -- The needs of all writes, run by run of the rules, and of one behind them, rule by rule: one law for each return and each turn of a loop.
-use mathlib.Core.Path.{_≡_, sym, ap, _∙_}
+use mathlib.Core.Path.{_≡_, sym, ap, subst, _∙_}
 use mathlib.Core.Bool.{Bool, true, false, cond, not, and-true, _&&_}
 use mathlib.Core.List.{List}
 use Prim.Native.Nat.{ℕ, _+_, _≤_, _<_}
@@ -60,7 +60,7 @@ module _ (names : List ℕ) (n : ℕ) (rules : Rules) (k : ℕ) (all : length (r
 
 pub ruleset runs = (needs, length-mapped, run-begun, run-more)
 
--- ---- add_rules
+-- ---- add_run
 
 same-bit : (names : List ℕ) (x n i : ℕ) → bit (sameMask names x n) i ≡ ltb i n && eqb (getD names i 0) x
 unfolding sameMask
@@ -93,15 +93,22 @@ module _ (names : List ℕ) (n : ℕ) (rules : Rules) (ranks belows old : List �
     };
   }
 
+  pub run-adds : (head : Rule) (k e firsts seconds : ℕ) (rows next : List ℕ) → n ≤ mostHeld → head ≡ itemAt rules k → Joins names n rules k e seconds
+      → firsts ≡ sameMask names (head .first) n → Added rows firsts seconds (head .predicate) ranks belows 0 next
+      → Adds (take k (rules .items)) names n ranks belows old rows → Adds (take e (rules .items)) names n ranks belows old next
+  run-adds head k e firsts seconds rows next held q joins f added adds =
+      adds-more k e firsts seconds rows next held adds joins (f ∙ ap (λ (r : Rule). sameMask names (r .first) n) q)
+      (subst (λ (r : Rule). Added rows firsts seconds (r .predicate) ranks belows 0 next) q added)
+
   pub adds-done : (k : ℕ) (rows : List ℕ) → k ≤ rules .count → rules .count ≤ k → Adds (take k (rules .items)) names n ranks belows old rows
       → Adds (rulesOf rules) names n ranks belows old rows
   adds-done k rows a b adds =
       let q : k ≡ rules .count = omega arith in
       rw q at adds
 
-pub ruleset all-rules = (needs, length-mapped, firsts-small, adds-begun, adds-more, adds-done)
+pub ruleset all-rules = (needs, length-mapped, firsts-small, adds-begun, adds-more, run-adds, adds-done)
 
--- ---- fill_needs
+-- ---- prepare, and all rules
 
 pub needs-filled : (addresses names epochs : List ℕ) (n : ℕ) (rules : List Rule) (ranks belows old rows : List ℕ) → n ≤ mostHeld → length rows ≡ mostHeld
     → Filled (earlierAt addresses) n old → Filled (rankAt epochs) n ranks → Filled (belowMask ranks n) bounds belows

@@ -1,21 +1,22 @@
 // What writes need, as a table of masks, and what a write behind them needs and what depends on it. Writes are
 // given by their columns.
+use model::Rule;
 use model::Write;
 use rule_match::Rules;
 ghost use mathlib.Core.Path.{_≡_};
 ghost use mathlib.Core.Bool.{cond};
-ghost use mathlib.Core.List.{[]};
-ghost use Prim.Native.Nat.{_<_, _≤_};
+ghost use mathlib.Core.List.{List, []};
+ghost use Prim.Native.Nat.{ℕ, _<_, _≤_};
 ghost use lib.Bits.{bitAnd, bitOr};
 ghost use lib.ListN.{length, take};
-ghost use Rattle.relation.specs.Tables.{Filled};
+ghost use Rattle.relation.specs.Tables.{Filled, Blank};
 ghost use Rattle.relation.specs.Finite.{rowsOf};
 ghost use Rattle.model.specs.Limits.{mostRules, mostHeld};
 ghost use Rattle.model.specs.Needs.{needs};
-ghost use Rattle.rule_match.specs.Held.{rulesOf};
+ghost use Rattle.rule_match.specs.Held.{itemAt, rulesOf};
 ghost use Rattle.cache_masks.specs.Columns.{columned};
 ghost use Rattle.cache_masks.specs.Masks.{sameMask, sameAt};
-ghost use Rattle.cache_masks.specs.Ranks.{bounds};
+ghost use Rattle.cache_masks.specs.Ranks.{rankAt, belowMask, bounds};
 ghost use Rattle.cache_needs.specs.Needed.{neededMask, dependentMask};
 ghost use Rattle.cache_needs.specs.Tables.{behindOf, earlierAt, Added, SmallOf, Prepared, Joins, Adds};
 
@@ -66,9 +67,10 @@ fn add_to(rows: &mut [u64], firsts: u64, seconds: u64, p: u16, ranks: &[u8], bel
     }
 }
 
-// Rules that stand one behind the other, with one first name and one predicate: where they end, and the writes
-// that have the second name of one of them.
+// Rules that stand one behind the other, with one first name and one predicate: the first of them, where they end,
+// and the writes that have the second name of one of them.
 struct Run {
+    head: Rule,
     end: usize,
     seconds: u64,
 }
@@ -76,7 +78,7 @@ struct Run {
 // The rules from k on that go with rule k. alike has for each write those up to it with its name.
 fn run_from(rules: Rules, k: usize, names: &[u16], n: usize, alike: &[u64]) -> Run
     requires { ⌜ ((k < rules .count) × (rules .count ≤ mostRules)) × ((length (now alike) ≡ mostHeld) × ((length (now names) ≡ mostHeld) × ((n ≤ mostHeld) × Filled (sameAt (now names)) n (now alike)))) ⌝ }
-    ensures { λ r. ⌜ (k < r .end) × ((r .end ≤ rules .count) × Joins (now (names .entry)) n rules k (r .end) (r .seconds)) ⌝ }
+    ensures { λ r. ⌜ (r .head ≡ itemAt rules k) × ((k < r .end) × ((r .end ≤ rules .count) × Joins (now (names .entry)) n rules k (r .end) (r .seconds))) ⌝ }
 {
     let head = rules.items[k];
     let mut seconds = cache_masks::last_same(alike, names, head.second, n);
@@ -84,60 +86,57 @@ fn run_from(rules: Rules, k: usize, names: &[u16], n: usize, alike: &[u64]) -> R
     while end < rules.count {
         let rule = rules.items[end];
         if rule.first != head.first {
-            return Run { end, seconds };
+            return Run { head, end, seconds };
         }
         if rule.predicate != head.predicate {
-            return Run { end, seconds };
+            return Run { head, end, seconds };
         }
         seconds = seconds | cache_masks::last_same(alike, names, rule.second, n);
         end += 1;
     }
-    Run { end, seconds }
+    Run { head, end, seconds }
 }
 
-// The rows get what the rules make their writes depend on. What the rules of a run add to a row is added at once.
-fn add_rules(
+// The rows of the first n writes before any rule: the earlier ones to the same address. And the tables that serve
+// every rule. (The loop over the rules stands with the caller, which has them, so that they are not copied.)
+pub fn prepare(
     rows: &mut [u64],
-    rules: Rules,
-    names: &[u16],
-    n: usize,
-    alike: &[u64],
-    ranks: &[u8],
-    belows: &[u64],
-)
-    requires { ⌜ (length (now rows) ≡ mostHeld) × ((rules .count ≤ mostRules) × ((n ≤ mostHeld) × Prepared (now names) n (now alike) (now ranks) (now belows))) ⌝ }
-    ensures { λ _. ⌜ (length (now (rows .exit)) ≡ mostHeld) × Adds (rulesOf rules) (now (names .entry)) n (now (ranks .entry)) (now (belows .entry)) (now (rows .entry)) (now (rows .exit)) ⌝ }
-{
-    let mut k: usize = 0;
-    while k < rules.count {
-        let head = rules.items[k];
-        let run = run_from(rules, k, names, n, alike);
-        let firsts = cache_masks::last_same(alike, names, head.first, n);
-        add_to(rows, firsts, run.seconds, head.predicate, ranks, belows);
-        k = run.end;
-    }
-}
-
-// The needs of the first n writes: the earlier ones to the same address, and what a write depends on by the rules.
-pub fn fill_needs(
-    rows: &mut [u64],
-    rules: Rules,
+    alike: &mut [u64],
+    ranks: &mut [u8],
+    belows: &mut [u64],
     addresses: &[u8],
     names: &[u16],
     epochs: &[u32],
     n: usize,
 )
-    requires { ⌜ ((length (now rows) ≡ mostHeld) × ((length (now addresses) ≡ mostHeld) × ((length (now names) ≡ mostHeld) × (length (now epochs) ≡ mostHeld)))) × ((rules .count ≤ mostRules) × (n ≤ mostHeld)) ⌝ }
-    ensures { λ _. ⌜ (length (now (rows .exit)) ≡ mostHeld) × (take n (now (rows .exit)) ≡ rowsOf (needs (rulesOf rules) (columned (now (addresses .entry)) (now (names .entry)) (now (epochs .entry)) n)) n) ⌝ }
+    requires { ⌜ ((length (now rows) ≡ mostHeld) × ((length (now alike) ≡ mostHeld) × ((length (now ranks) ≡ mostHeld) × ((length (now belows) ≡ bounds) × Blank bounds (now belows))))) × ((length (now addresses) ≡ mostHeld) × ((length (now names) ≡ mostHeld) × ((length (now epochs) ≡ mostHeld) × (n ≤ mostHeld)))) ⌝ }
+    ensures { λ _. ⌜ ((length (now (rows .exit)) ≡ mostHeld) × Prepared (now (names .entry)) n (now (alike .exit)) (now (ranks .exit)) (now (belows .exit))) × (Filled (earlierAt (now (addresses .entry))) n (now (rows .exit)) × (Filled (rankAt (now (epochs .entry))) n (now (ranks .exit)) × Filled (belowMask (now (ranks .exit)) n) bounds (now (belows .exit)))) ⌝ }
 {
     fill_earlier(rows, addresses, n);
-    let mut alike = [0u64; model::MOST_HELD];
-    cache_masks::fill_same(&mut alike, names, n);
-    let mut ranks = [0u8; model::MOST_HELD];
-    cache_masks::fill_ranks(&mut ranks, epochs, n);
-    let mut belows = [0u64; cache_masks::BOUNDS];
-    cache_masks::fill_belows(&mut belows, &ranks, n);
-    add_rules(rows, rules, names, n, &alike, &ranks, &belows);
+    cache_masks::fill_same(alike, names, n);
+    cache_masks::fill_ranks(ranks, epochs, n);
+    cache_masks::fill_belows(belows, ranks, n);
+}
+
+// The rows get what the rules of the run from rule k on make their writes depend on, added at once. Answers where
+// the run ends. (old are the rows before any rule.)
+pub fn add_run(
+    rows: &mut [u64],
+    rules: Rules,
+    k: usize,
+    names: &[u16],
+    n: usize,
+    alike: &[u64],
+    ranks: &[u8],
+    belows: &[u64],
+) -> usize
+    requires { ⌜ (length (now rows) ≡ mostHeld) × (((k < rules .count) × (rules .count ≤ mostRules)) × ((n ≤ mostHeld) × Prepared (now names) n (now alike) (now ranks) (now belows))) ⌝ }
+    ensures { λ r. ⌜ (length (now (rows .exit)) ≡ mostHeld) × ((k < r) × ((r ≤ rules .count) × ((old : List ℕ) → Adds (take k (rules .items)) (now (names .entry)) n (now (ranks .entry)) (now (belows .entry)) old (now (rows .entry)) → Adds (take r (rules .items)) (now (names .entry)) n (now (ranks .entry)) (now (belows .entry)) old (now (rows .exit))))) ⌝ }
+{
+    let run = run_from(rules, k, names, n, alike);
+    let firsts = cache_masks::last_same(alike, names, run.head.first, n);
+    add_to(rows, firsts, run.seconds, run.head.predicate, ranks, belows);
+    run.end
 }
 
 // mask, and, if asked for, those of standing that have a name.

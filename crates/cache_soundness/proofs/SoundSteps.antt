@@ -36,6 +36,11 @@ use Rattle.cache_statelaws.proofs.LayoutLaws.{writes-length, write-at}
 use Rattle.cache_masks.specs.Columns.{columned}
 use Rattle.cache_masks.proofs.ColumnLaws.{columned-length, columned-alike}
 use Rattle.cache_layout.specs.Flags.{framed}
+use Rattle.relation.specs.Tables.{Filled}
+use Rattle.relation.proofs.TableLaws.{blank-made}
+use Rattle.cache_masks.specs.Ranks.{rankAt, belowMask, bounds}
+use Rattle.cache_needs.specs.Tables.{earlierAt, Adds}
+use Rattle.cache_needs.proofs.NeedSteps.{needs-filled, adds-begun, adds-done}
 use Rattle.cache_soundness.specs.declared.Examined.{Examined}
 use Rattle.cache_soundness.specs.Parts.{covered, coveredAt, Tabled, Decoded, DecodedIf, Seen}
 use Rattle.cache_soundness.proofs.FramedLaws.{counted, layout-tests, to-tests}
@@ -176,6 +181,13 @@ module _ (s : List ℕ) (r : Examined) (h : Decoded s r) where
   pub decoded-few : r .rules .count ≤ mostRules
   decoded-few = h .few
 
+  pub rules-added : (addresses names epochs : List ℕ) (n : ℕ) (ranks belows old rows : List ℕ) (k : ℕ) → n ≡ acceptedCount s → length rows ≡ mostHeld
+      → Filled (earlierAt addresses) n old → Filled (rankAt epochs) n ranks → Filled (belowMask ranks n) bounds belows → k ≤ r .rules .count → r .rules .count ≤ k
+      → Adds (take k (r .rules .items)) names n ranks belows old rows → take n rows ≡ rowsOf (cache.needs (rulesOf (r .rules)) (columned addresses names epochs n)) n
+  rules-added addresses names epochs n ranks belows old rows k c long earlier ranked table a b adds =
+      needs-filled addresses names epochs n (rulesOf (r .rules)) ranks belows old rows (decoded-held n c) long earlier ranked table
+      (adds-done names n (r .rules) ranks belows old k rows a b adds)
+
   module _ (rows addresses names epochs : List ℕ) (n : ℕ) (c : n ≡ acceptedCount s) (l : InColumns s (acceptedCount s) addresses names epochs)
       (t : take n rows ≡ rowsOf (cache.needs (rulesOf (r .rules)) (columned addresses names epochs n)) n) where
     tab : Tabled s rows
@@ -196,7 +208,7 @@ module _ (s : List ℕ) (r : Examined) (h : Decoded s r) where
       unfolding needsHold
       ring-tested d g q = rw (← covered-is, not-false b g) (ap not (q ∙ ap (hasRing (related rows)) c ∙ ring-rows s rows tab))
 
-pub ruleset holding = (needs, decoded-most, decoded-held, decoded-few, needs-seen, not-covered, ring-tested)
+pub ruleset holding = (needs, blank-made, adds-begun, decoded-most, decoded-held, decoded-few, rules-added, needs-seen, not-covered, ring-tested)
 
 -- ---- both calls
 

@@ -124,7 +124,23 @@ pub fn needs_hold(
 {
     let n = cache_contents::wide(state[1]);
     cache_contents::fill_columns(addresses, names, epochs, state);
-    cache_needs::fill_needs(rows, seen.rules, addresses, names, epochs, n);
+    let mut alike = [0u64; model::MOST_HELD];
+    let mut ranks = [0u8; model::MOST_HELD];
+    let mut belows = [0u64; cache_masks::BOUNDS];
+    cache_needs::prepare(
+        rows,
+        &mut alike,
+        &mut ranks,
+        &mut belows,
+        addresses,
+        names,
+        epochs,
+        n,
+    );
+    let mut k: usize = 0;
+    while k < seen.rules.count {
+        k = cache_needs::add_run(rows, seen.rules, k, names, n, &alike, &ranks, &belows);
+    }
     if !all_covered(rows, seen.stored, n) {
         return false;
     }

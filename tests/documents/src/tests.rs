@@ -702,7 +702,7 @@ const DONE_ONCE: [(&str, &[&str]); 43] = [
     ("stored_mask", &["cache_soundness::decode"]),
     ("state_rules", &["cache_soundness::decode"]),
     ("fill_columns", &["cache_soundness::needs_hold"]),
-    ("fill_needs", &["cache_soundness::needs_hold"]),
+    ("prepare", &["cache_soundness::needs_hold"]),
     ("decode", &["cache_handin::hand_fault", "cache_steps::look"]),
     (
         "needs_hold",
@@ -865,12 +865,12 @@ fn decoding_again_is_noticed() {
         (
             "cache_handin/src/lib.rt",
             "    let dependents = cache_needs::dependents(",
-            "    cache_needs::fill_needs(rows, rules, addresses, names, epochs, n);\n    let dependents = cache_needs::dependents(",
+            "    cache_needs::prepare(rows, alike, ranks, belows, addresses, names, epochs, n);\n    let dependents = cache_needs::dependents(",
         ),
         (
             "cache_soundness/src/lib.rt",
-            "    cache_needs::fill_needs(",
-            "    let rules = cache_contents::state_rules(state);\n    cache_needs::fill_needs(",
+            "    cache_needs::prepare(",
+            "    let rules = cache_contents::state_rules(state);\n    cache_needs::prepare(",
         ),
     ] {
         let changed = edited(&sources, path, old, new);

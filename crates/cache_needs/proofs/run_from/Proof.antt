@@ -33,10 +33,10 @@ element-copy-out-rule : tie.Need-element-copy-out-rule Inv-loop μ-loop
 element-copy-out-rule c = search runs
 
 returns : tie.Need-returns Inv-loop μ-loop
-returns c = search runs
+returns c = (search runs, search runs)
 
 returns-2 : tie.Need-returns-2 Inv-loop μ-loop
-returns-2 c = search runs
+returns-2 c = (search runs, search runs)
 
 last-same-requires-2 : tie.Need-last-same-requires-2 Inv-loop μ-loop
 last-same-requires-2 c κs = search runs
@@ -51,7 +51,7 @@ loop-again : tie.Need-loop-again Inv-loop μ-loop
 loop-again c = (search runs, search runs, search runs)
 
 returns-3 : tie.Need-returns-3 Inv-loop μ-loop
-returns-3 c = search runs
+returns-3 c = (search runs, search runs)
 
 pub run-from-spec : {M : Type 1} → statement M
 run-from-spec =
