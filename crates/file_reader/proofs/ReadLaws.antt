@@ -15,7 +15,7 @@ use Rattle.file_format.specs.declared.Extent.{Extent}
 use Rattle.file_format.specs.declared.ScanState.{ScanState}
 use Rattle.file_format.specs.declared.Scan.the-variants.{Accepted, Refused}
 use Rattle.file_format.specs.declared.Scanned.{Scanned}
-use Rattle.file_format.specs.Bytes.{byte}
+use Rattle.file_format.specs.Bytes.{byte, half}
 use Rattle.file_format.specs.File.{headLength, isTag, kindOf, bodyLength, faultOf, fieldEnd}
 use Rattle.file_format.specs.Scan.{inHand, counted, found, advanced, ended, scanFrom, started, scanOf}
 use Rattle.file_format.specs.Held.{ScansTo, Scans}
@@ -61,9 +61,14 @@ found-put st tests l =
 
 module _ (s : List ℕ) (at : ℕ) (st : ScanState) (tests : List Extent) (going : Going s at st tests) (lt : at < length s) where
   -- a field that is not refused ends inside the file, and its test has a place in the array
-  pub ahead : (number r : ℕ) → number ≡ faultOf s at (st .counts) → number ≡ 0 → r ≡ bodyLength (byte s at) → at + headLength + r ≤ length s
+  pub whole : (number : ℕ) → number ≡ faultOf s at (st .counts) → number ≡ 0 → at + 1 + 1 < length s
+  whole number e z = let h = clean s at (st .counts) (sym e ∙ z) .whole in omega arith
+
+  pub ahead : (number r : ℕ) → number ≡ faultOf s at (st .counts) → number ≡ 0 → r ≡ half s (at + 1) → at + headLength + r ≤ length s
   ahead number r e z q =
-      let h = clean-fits s at (st .counts) (clean s at (st .counts) (sym e ∙ z)) in
+      let k = clean s at (st .counts) (sym e ∙ z) in
+      let h = clean-fits s at (st .counts) k in
+      let l = k .size in
       omega arith
 
   pub room : (number : ℕ) → number ≡ faultOf s at (st .counts) → number ≡ 0 → st .counts .tests < mostTests
@@ -71,11 +76,11 @@ module _ (s : List ℕ) (at : ℕ) (st : ScanState) (tests : List Extent) (going
       let k = clean s at (st .counts) (sym e ∙ z) in
       counted-room (st .counts) (going .2) (byte s at) (k .tag) (k .order) (k .limit)
 
-  pub next : (number r kind : ℕ) (st′ : ScanState) (e : Extent) → number ≡ faultOf s at (st .counts) → number ≡ 0 → r ≡ bodyLength (byte s at)
+  pub next : (number r kind : ℕ) (st′ : ScanState) (e : Extent) → number ≡ faultOf s at (st .counts) → number ≡ 0 → r ≡ half s (at + 1)
       → e ≡ inHand st → kind ≡ kindOf (byte s at) → st′ ≡ advanced kind (at + headLength + r) st → Going s (at + headLength + r) st′ (set tests (st .counts .tests) e)
   unfolding scanFrom advanced
   next number r kind st′ x e z q i v f =
-      rw (f, v, q, i)
+      rw (f, v, q ∙ clean s at (st .counts) (sym e ∙ z) .size, i)
       (let k = clean s at (st .counts) (sym e ∙ z) in
       let l : st .counts .tests < length tests = let m = room number e z in let n = going .1 in omega arith in (
         clean-fits s at (st .counts) k,
@@ -117,4 +122,4 @@ end s at st tests r going le g =
     let h : ended (length s) st (take (st .counts .tests) tests) ≡ scanOf s = rw (le-ltb _ _ le) at (going .3 .2) in
     rw (← h) g
 
-pub ruleset reads-on = (needs, start, ahead, room, next, stop, end)
+pub ruleset reads-on = (needs, start, whole, ahead, room, next, stop, end)

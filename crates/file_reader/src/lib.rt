@@ -156,8 +156,8 @@ pub fn read(s: &[u8]) -> Scanned
             return Scanned { scan, tests };
         }
         let tag = s[at];
-        // Not file_format::end_of, which reads the tag again: with it a scan took a tenth longer.
-        let next = at + file_format::HEAD_LENGTH + file_format::body_length(tag);
+        // The field's length is its body's: another is refused.
+        let next = at + file_format::HEAD_LENGTH + file_format::half_at(s, at + 1);
         // The test in hand has its place behind the finished ones; its end makes it one of these.
         let t = c.tests;
         tests[t] = in_hand(st);

@@ -28,8 +28,11 @@ shared-slice-read-tag c = search reads-on
 add-next : tie.Need-add-next Inv-loop μ-loop
 add-next c = search reads-on
 
-body-length-requires : tie.Need-body-length-requires Inv-loop μ-loop
-body-length-requires c κs = search reads-on
+add-half-at : tie.Need-add-half-at Inv-loop μ-loop
+add-half-at c = search reads-on
+
+half-at-requires : tie.Need-half-at-requires Inv-loop μ-loop
+half-at-requires c κs = search reads-on
 
 add-next-2 : tie.Need-add-next-2 Inv-loop μ-loop
 add-next-2 c = search reads-on
@@ -72,7 +75,8 @@ read-spec =
     returns
     shared-slice-read-tag
     add-next
-    body-length-requires
+    add-half-at
+    half-at-requires
     add-next-2
     in-hand-requires
     mul-tests
