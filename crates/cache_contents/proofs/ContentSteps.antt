@@ -15,6 +15,8 @@ use Rattle.model.specs.declared.Write.{Write}
 use Rattle.model.specs.Limits.{mostRules, mostHeld}
 use Rattle.file_format.specs.Bytes.{byte, half, word}
 use Rattle.file_format.specs.File.{wideRuleLength, wideWriteLength, wideRule, wideWrite}
+use Rattle.rule_match.specs.declared.Rules.{Rules}
+use Rattle.rule_match.specs.Held.{rulesOf}
 use Rattle.rule_match.proofs.MatchSteps.{length-mapped}
 use Rattle.cache_model.specs.State.{ruleCount, acceptedCount, ruleBase, writeBase, ruleIn, writeIn, rulesIn}
 use Rattle.cache_contents.specs.Columns.{InColumns}
@@ -33,11 +35,11 @@ module _ (s : List ℕ) where
       let z : b + wideRuleLength - b ≡ wideRuleLength = omega arith in
       rw (add-one i, take-suc-set l i r (omega arith), e, q, z, p)
 
-  pub rules-done : (l : List Rule) (i n : ℕ) → n ≡ ruleCount s → i ≤ n → n ≤ i → take i l ≡ tabulate (ruleIn s) i → take n l ≡ rulesIn s
+  pub rules-done : (r : Rules) (i n : ℕ) → n ≡ ruleCount s → r .count ≡ n → i ≤ n → n ≤ i → take i (r .items) ≡ tabulate (ruleIn s) i → rulesOf r ≡ rulesIn s
   unfolding rulesIn
-  rules-done l i n c a b e =
+  rules-done r i n c k a b e =
       let z : i ≡ n = omega arith in
-      (rw z at e) ∙ ap (tabulate (ruleIn s)) c
+      rw k ((rw z at e) ∙ ap (tabulate (ruleIn s)) c)
 
   pub write-read : (i b : ℕ) (r : Write) → b ≡ writeBase i → r ≡ wideWrite (take (b + wideWriteLength - b) (drop b s)) → r ≡ writeIn s i
   unfolding writeIn

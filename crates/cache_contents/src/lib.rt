@@ -1,5 +1,4 @@
 // What a state holds: its rules and its writes, and where they stand.
-use model::Rule;
 use model::Write;
 use rule_match::Rules;
 ghost use mathlib.Core.Path.{_≡_};
@@ -47,19 +46,16 @@ pub fn state_rules(state: &[u8]) -> Rules
     ensures { λ r. ⌜ (rulesOf r ≡ rulesIn (now (state .entry))) × (r .count ≡ ruleCount (now (state .entry))) ⌝ }
 {
     let n = wide(state[0]);
-    let mut items = [Rule {
-        first: 0,
-        predicate: 0,
-        second: 0,
-    }; model::MOST_RULES];
+    let mut out = rule_match::none();
+    out.count = n;
     let mut i: usize = 0;
     while i < n {
         let b = rule_place(i);
         let e = b + file_format::WIDE_RULE_LENGTH;
-        items[i] = file_fields::read_wide_rule(&state[b..e]);
+        out.items[i] = file_fields::read_wide_rule(&state[b..e]);
         i += 1;
     }
-    Rules { items, count: n }
+    out
 }
 
 // Write i. It stands as the body of a write's field with a name of two bytes.

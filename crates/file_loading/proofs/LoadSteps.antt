@@ -12,8 +12,11 @@ use Rattle.relation.specs.Lists.{tabulate}
 use Rattle.relation.proofs.ListLaws.{length-tabulate}
 use Rattle.file_format.specs.Bytes.{byte}
 use Rattle.file_format.specs.File.{isRule, isWrite, isCheck, fieldEnd}
-use Rattle.file_format.specs.Scan.{fieldPlace, fieldsAt}
+use Rattle.file_format.specs.Scan.{fieldPlace, fieldsAt, rulesAt}
 use Rattle.file_format.specs.Held.{Fields}
+use Rattle.rule_match.specs.declared.Rules.{Rules}
+use Rattle.rule_match.specs.Held.{rulesOf}
+use Rattle.rule_match.proofs.MatchSteps.{length-mapped}
 
 pub fields-length : {A : Type 0} (field : List ℕ → ℕ → A) (s : List ℕ) (at n : ℕ) → length (fieldsAt field s at n) ≡ n
 unfolding fieldsAt
@@ -73,3 +76,9 @@ module _ (s : List ℕ) (from at i n : ℕ) where
 pub ruleset places = (needs, place-none, next-place, place-all, rule-is, write-is, check-is, field-ends, field-starts)
 
 pub ruleset steps = (places, fields-none, fields-more, fields-all)
+
+-- all rules are loaded
+pub rules-all : (s : List ℕ) (r : Rules) (i n : ℕ) → i ≤ n → n ≤ i → r .count ≡ n → take i (r .items) ≡ rulesAt s i → rulesOf r ≡ rulesAt s n
+rules-all s r i n h k c e = let z : i ≡ n = omega arith in rw c (rw z at e)
+
+pub ruleset rules-loaded = (steps, length-mapped, rules-all)

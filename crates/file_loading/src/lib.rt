@@ -1,5 +1,4 @@
 // A file's rules, loaded.
-use model::Rule;
 use rule_match::Rules;
 ghost use mathlib.Core.Path.{_≡_};
 ghost use Prim.Native.Nat.{_≤_};
@@ -14,17 +13,14 @@ pub fn file_rules(file: &[u8], n: usize) -> Rules
     requires { ⌜ (n ≤ mostRules) × Fields isRule (now file) 0 n ⌝ }
     ensures { λ r. ⌜ (rulesOf r ≡ rulesAt (now (file .entry)) n) × (r .count ≡ n) ⌝ }
 {
-    let mut items = [Rule {
-        first: 0,
-        predicate: 0,
-        second: 0,
-    }; model::MOST_RULES];
+    let mut out = rule_match::none();
+    out.count = n;
     let mut at = 0;
     let mut i: usize = 0;
     while i < n {
-        items[i] = file_fields::rule_at(file, at);
+        out.items[i] = file_fields::rule_at(file, at);
         at = file_format::end_of(file, at);
         i += 1;
     }
-    Rules { items, count: n }
+    out
 }

@@ -37,22 +37,19 @@ fn pairing(n: u16, t: u32, m: u16, u: u32) -> Rule
     }
 }
 
-// The rule from write i to write j, by their labels, if these are two.
-fn with_pair(c: Rules, i: usize, j: usize, one: u64, other: u64) -> Rules
-    requires { ⌜ c .count ≤ mostCandidates + 1 ⌝ }
-    ensures { λ r. ⌜ (r .count ≤ mostCandidates + 1) × Follows (paired i j (labelled one) (labelled other)) c r ⌝ }
+// The one rule that matches two labels.
+fn rule_of(one: u64, other: u64) -> Rule
+    ensures { λ r. ⌜ r ≡ pairing (labelled one) (labelled other) ⌝ }
 {
-    if i == j {
-        return c;
-    }
     let n = judge_disks::name_of(one);
     let t = judge_disks::epoch_of(one);
     let m = judge_disks::name_of(other);
     let u = judge_disks::epoch_of(other);
-    find_sets::insert(c, pairing(n, t, m, u))
+    pairing(n, t, m, u)
 }
 
-// The candidates from write i to the n writes with these labels.
+// The candidates from write i to the n writes with these labels. (Most rules are held already. The search for
+// them stands here, and in no function of its own, so that the rules are not copied for each two writes.)
 fn from_write(c: Rules, labels: &[u64; model::MOST_INITIAL], n: usize, i: usize) -> Rules
     requires { ⌜ (c .count ≤ mostCandidates + 1) × ((n ≤ mostInitial) × (i < n)) ⌝ }
     ensures { λ r. ⌜ (r .count ≤ mostCandidates + 1) × Pairs (now (labels .entry)) n i n c r ⌝ }
@@ -60,8 +57,25 @@ fn from_write(c: Rules, labels: &[u64; model::MOST_INITIAL], n: usize, i: usize)
     let one = labels[i];
     let mut out = c;
     let mut j: usize = 0;
-    while j < n {
-        out = with_pair(out, i, j, one, labels[j]);
+    'writes: while j < n {
+        if i == j {
+            j += 1;
+            continue 'writes;
+        }
+        let rule = rule_of(one, labels[j]);
+        let mut k: usize = 0;
+        'held: while k < out.count {
+            if find_sets::comes_before(out.items[k], rule) {
+                k += 1;
+                continue 'held;
+            }
+            if find_sets::comes_before(rule, out.items[k]) {
+                break 'held;
+            }
+            j += 1;
+            continue 'writes;
+        }
+        out = find_sets::insert(out, rule);
         j += 1;
     }
     out

@@ -6,10 +6,11 @@ use Prim.Native.Nat.{ℕ, suc, _+_, _≤_, _<_}
 use native.Mathlib.Nat.{add-zero}
 use native.Mathlib.Numerals.{add-one}
 use native.Mathlib.Omega.{arith}
+use lib.Dec.{leb}
 use lib.ListN.{length, getD, take, drop, set, drop-of-length-le}
 use lib.Seq.{length-take-le, getD-take, take-suc, take-set-le, take-suc-set, take-take, drop-cons, append-snoc}
 use borrow.Author.Needs.{needs}
-use borrow.Author.Tests.{not-true, not-false}
+use borrow.Author.Tests.{leb-true, leb-false, not-true, not-false}
 use Rattle.relation.specs.Bits.{bit}
 use Rattle.model.specs.Limits.{mostRules, mostCandidates}
 use Rattle.model.specs.declared.Rule.{Rule}
@@ -42,7 +43,7 @@ module _ (c : Rules) (all : length (c .items) ≡ mostRules) (few : c .count ≤
   held-end : (i : ℕ) → c .count ≤ i → drop i (rulesOf c) ≡ []
   held-end i h = drop-of-length-le (rulesOf c) {i = i} (rw held-length h)
 
-pub pushed : (l : List Rule) (n : ℕ) (rule : Rule) → length l ≡ mostRules → n < mostRules → take (n + 1) (set l n rule) ≡ take n l ++ (rule ∷ [])
+pushed : (l : List Rule) (n : ℕ) (rule : Rule) → length l ≡ mostRules → n < mostRules → take (n + 1) (set l n rule) ≡ take n l ++ (rule ∷ [])
 pushed l n rule all h = rw (add-one n) (take-suc-set l n rule (omega arith))
 
 -- ---- place
@@ -76,19 +77,21 @@ module _ (rule : Rule) (c : Rules) where
 abbrev pub behind : Rules → ℕ → Rule → List Rule
 behind c k rule = take k (rulesOf c) ++ (rule ∷ drop k (rulesOf c))
 
-module _ (c start : Rules) (k : ℕ) where
-  module _ (out : Rules) (i : ℕ) (all : length (c .items) ≡ mostRules) (few : c .count < mostRules) (inv : rulesOf out ++ drop i (rulesOf c) ≡ rulesOf start ++ drop k (rulesOf c)) where
-    pub splice-more : (next : Rules) → i < c .count → rulesOf next ≡ rulesOf out ++ (itemAt c i ∷ [])
-        → rulesOf next ++ drop (i + 1) (rulesOf c) ≡ rulesOf start ++ drop k (rulesOf c)
-    splice-more next h e =
-        rw (e, add-one i)
-        (append-snoc (rulesOf out) (itemAt c i) (drop (suc i) (rulesOf c))
-        ∙ ap (λ (l : List Rule). rulesOf out ++ l) (sym (held-from c all (omega arith) i h)) ∙ inv)
+-- from the array that the rule was put into on, what is written and the rules still to come stay the same
+module _ (c : Rules) (k : ℕ) (start : List Rule) where
+  module _ (items : List Rule) (i : ℕ) (all : length (c .items) ≡ mostRules) (few : c .count < mostRules)
+      (inv : take (i + 1) items ++ drop i (rulesOf c) ≡ take (k + 1) start ++ drop k (rulesOf c)) where
+    pub splice-more : length items ≡ mostRules → i < c .count
+        → take (i + 1 + 1) (set items (i + 1) (itemAt c i)) ++ drop (i + 1) (rulesOf c) ≡ take (k + 1) start ++ drop k (rulesOf c)
+    splice-more long h =
+        rw (pushed items (i + 1) (itemAt c i) long (omega arith))
+        (append-snoc (take (i + 1) items) (itemAt c i) (drop (i + 1) (rulesOf c))
+        ∙ ap (λ (l : List Rule). take (i + 1) items ++ l) (rw (add-one i) (sym (held-from c all (omega arith) i h))) ∙ inv)
 
-    pub splice-done : (rule : Rule) → k ≤ c .count → c .count ≤ i → rulesOf start ≡ take k (c .items) ++ (rule ∷ []) → rulesOf out ≡ behind c k rule
+    pub splice-done : (rule : Rule) → k ≤ c .count → c .count ≤ i → start ≡ set (c .items) k rule → take (i + 1) items ≡ behind c k rule
     splice-done rule l h e =
-        sym (append-nil (rulesOf out)) ∙ ap (λ (l : List Rule). rulesOf out ++ l) (sym (held-end c all (omega arith) i h)) ∙ inv
-        ∙ rw (e, take-take k (c .count) (c .items) l) (append-snoc (take k (c .items)) rule (drop k (rulesOf c)))
+        sym (append-nil (take (i + 1) items)) ∙ ap (λ (l : List Rule). take (i + 1) items ++ l) (sym (held-end c all (omega arith) i h)) ∙ inv
+        ∙ rw (e, pushed (c .items) k rule all (omega arith), take-take k (c .count) (c .items) l) (append-snoc (take k (c .items)) rule (drop k (rulesOf c)))
 
 -- ---- insert
 
@@ -103,6 +106,16 @@ module _ (rule : Rule) (c : Rules) (k : ℕ) (short : c .count ≤ mostCandidate
 
     pub insert-none : b ≡ false → Follows (inserted rule) c c
     insert-none f = follows-same rule blank c short k p h (ap (before rule) (held-at c all (omega arith) k h) ∙ sym q ∙ f)
+
+-- a rule that stands at its place is held already, and so are more rules than there may be candidates
+pub insert-held : (rule : Rule) (c : Rules) (k : ℕ) (a b : Bool) → length (c .items) ≡ mostRules → c .count ≤ mostCandidates + 1 → k < c .count
+    → k + placeOf rule (drop k (rulesOf c)) ≡ placeOf rule (rulesOf c) → a ≡ before (itemAt c k) rule → a ≡ false → b ≡ before rule (itemAt c k) → b ≡ false
+    → Follows (inserted rule) c c
+insert-held rule c k a b all few h inv p x q y = go (leb (c .count) mostCandidates) refl
+  where
+    go : (short : Bool) → leb (c .count) mostCandidates ≡ short → Follows (inserted rule) c c
+    go true e = insert-none rule c k (leb-true (c .count) mostCandidates e) (place-stop rule c k all (omega arith) inv a h p (rw x)) b all h q y
+    go false e = follows-over rule c few (leb-false (c .count) mostCandidates e)
 
 -- ---- pick
 
@@ -126,4 +139,4 @@ module _ (c : Rules) (m : ℕ) where
   pub pick-done : (items : List Rule) (n i : ℕ) → i ≤ c .count → c .count ≤ i → take n items ≡ picked (take i (c .items)) m → take n items ≡ picked (rulesOf c) m
   pick-done items n i h l e = let z : i ≡ c .count = omega arith in rw z at e
 
-pub ruleset ordering = (needs, length-mapped, follows-over, pushed, place-begun, place-stop, place-more, place-end, splice-more, splice-done, insert-last, insert-between, insert-none, pick-begun, pick-more, pick-done)
+pub ruleset ordering = (needs, length-mapped, follows-over, place-begun, place-stop, place-more, place-end, splice-more, splice-done, insert-last, insert-between, insert-none, pick-begun, pick-more, pick-done)

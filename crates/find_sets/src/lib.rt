@@ -12,22 +12,8 @@ ghost use Rattle.model.specs.Find.{before, inserted, picked};
 ghost use Rattle.rule_match.specs.Held.{rulesOf};
 ghost use Rattle.find_sets.specs.Kept.{placeOf, Follows};
 
-// A rule behind those held.
-fn push(c: Rules, rule: Rule) -> Rules
-    requires { ⌜ c .count < mostRules ⌝ }
-    ensures { λ r. ⌜ (rulesOf r ≡ rulesOf c ++ (rule ∷ [])) × (r .count ≡ c .count + 1) ⌝ }
-{
-    let mut items = c.items;
-    let n = c.count;
-    items[n] = rule;
-    Rules {
-        items,
-        count: n + 1,
-    }
-}
-
 // Whether a comes before b: by first name, second name, predicate.
-fn comes_before(a: Rule, b: Rule) -> bool
+pub fn comes_before(a: Rule, b: Rule) -> bool
     ensures { λ r. ⌜ r ≡ before a b ⌝ }
 {
     if a.first < b.first {
@@ -60,18 +46,20 @@ fn place(c: Rules, rule: Rule) -> usize
     k
 }
 
-// A rule put behind the first k.
+// A rule put behind the first k. (The others move up in place: a set that is handed on is copied.)
 fn splice(c: Rules, k: usize, rule: Rule) -> Rules
     requires { ⌜ (c .count < mostRules) × (k ≤ c .count) ⌝ }
     ensures { λ r. ⌜ (rulesOf r ≡ take k (rulesOf c) ++ (rule ∷ drop k (rulesOf c))) × (r .count ≡ c .count + 1) ⌝ }
 {
-    let items = c.items;
-    let mut out = push(Rules { items, count: k }, rule);
+    let mut out = c;
+    out.items[k] = rule;
     let mut i: usize = k;
     while i < c.count {
-        out = push(out, c.items[i]);
+        let moved = c.items[i];
         i += 1;
+        out.items[i] = moved;
     }
+    out.count = i + 1;
     out
 }
 

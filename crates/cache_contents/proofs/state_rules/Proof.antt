@@ -10,16 +10,19 @@ use Rattle.cache_contents.proofs.state_rules.Statement.{statement}
 use Rattle.cache_contents.proofs.state_rules.Tie as tie
 
 abbrev Inv-loop : tie.InvT-loop
-Inv-loop state n items₀ i₀ items i = (i ≤ n) × (length items ≡ mostRules) × (take i items ≡ tabulate (ruleIn state) i)
+Inv-loop state n out₀ i₀ out i = (i ≤ n) × (length (out .items) ≡ mostRules) × (out .count ≡ n) × (take i (out .items) ≡ tabulate (ruleIn state) i)
 
 abbrev μ-loop : tie.MeasureT-loop
-μ-loop state n items₀ i₀ items i = n - i
+μ-loop state n out₀ i₀ out i = n - i
 
 shared-slice-read-wide : tie.Need-shared-slice-read-wide Inv-loop μ-loop
 shared-slice-read-wide c = search reading
 
 wide-requires : tie.Need-wide-requires Inv-loop μ-loop
 wide-requires c κs = search reading
+
+none-requires : tie.Need-none-requires Inv-loop μ-loop
+none-requires c κs = search reading
 
 loop-holds : tie.Need-loop-holds Inv-loop μ-loop
 loop-holds c = search reading
@@ -42,11 +45,11 @@ part-read-wide-rule-end c = search reading
 read-wide-rule-requires : tie.Need-read-wide-rule-requires Inv-loop μ-loop
 read-wide-rule-requires c κs = search reading
 
-mul-items : tie.Need-mul-items Inv-loop μ-loop
-mul-items c = search reading
+mul-t16 : tie.Need-mul-t16 Inv-loop μ-loop
+mul-t16 c = search reading
 
-array-set-from-items : tie.Need-array-set-from-items Inv-loop μ-loop
-array-set-from-items c = search reading
+element-set-from-out : tie.Need-element-set-from-out Inv-loop μ-loop
+element-set-from-out c = search reading
 
 add-i : tie.Need-add-i Inv-loop μ-loop
 add-i c = search reading
@@ -55,7 +58,7 @@ loop-less : tie.Need-loop-less Inv-loop μ-loop
 loop-less c = search reading
 
 loop-again : tie.Need-loop-again Inv-loop μ-loop
-loop-again c = (search reading, search reading, search reading)
+loop-again c = (search reading, search reading, search reading, search reading)
 
 returns : tie.Need-returns Inv-loop μ-loop
 returns c = search reading
@@ -68,6 +71,7 @@ state-rules-spec =
     μ-loop
     shared-slice-read-wide
     wide-requires
+    none-requires
     loop-holds
     rule-place-requires
     add-e
@@ -75,8 +79,8 @@ state-rules-spec =
     part-read-wide-rule-start
     part-read-wide-rule-end
     read-wide-rule-requires
-    mul-items
-    array-set-from-items
+    mul-t16
+    element-set-from-out
     add-i
     loop-less
     loop-again

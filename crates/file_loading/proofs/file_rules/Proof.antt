@@ -4,42 +4,45 @@ use mathlib.Core.Path.{_≡_}
 use lib.ListN.{length, take}
 use Rattle.model.specs.Limits.{mostRules}
 use Rattle.file_format.specs.Scan.{fieldPlace, rulesAt}
-use Rattle.file_loading.proofs.LoadSteps.{steps}
+use Rattle.file_loading.proofs.LoadSteps.{rules-loaded}
 use Rattle.file_loading.proofs.file_rules.Statement.{statement}
 use Rattle.file_loading.proofs.file_rules.Tie as tie
 
 abbrev Inv-loop : tie.InvT-loop
-Inv-loop file n items₀ at₀ i₀ items at i = (i ≤ n) × (length items ≡ mostRules) × (at ≡ fieldPlace file 0 i) × (take i items ≡ rulesAt file i)
+Inv-loop file n out₀ at₀ i₀ out at i = (i ≤ n) × (length (out .items) ≡ mostRules) × (out .count ≡ n) × (at ≡ fieldPlace file 0 i) × (take i (out .items) ≡ rulesAt file i)
 
 abbrev μ-loop : tie.MeasureT-loop
-μ-loop file n items₀ at₀ i₀ items at i = n - i
+μ-loop file n out₀ at₀ i₀ out at i = n - i
+
+none-requires : tie.Need-none-requires Inv-loop μ-loop
+none-requires c κs = search rules-loaded
 
 loop-holds : tie.Need-loop-holds Inv-loop μ-loop
-loop-holds c = search steps
+loop-holds c = search rules-loaded
 
 rule-at-requires : tie.Need-rule-at-requires Inv-loop μ-loop
-rule-at-requires c κs = search steps
+rule-at-requires c κs = search rules-loaded
 
-mul-items : tie.Need-mul-items Inv-loop μ-loop
-mul-items c = search steps
+mul-t9 : tie.Need-mul-t9 Inv-loop μ-loop
+mul-t9 c = search rules-loaded
 
-array-set-from-items : tie.Need-array-set-from-items Inv-loop μ-loop
-array-set-from-items c = search steps
+element-set-from-out : tie.Need-element-set-from-out Inv-loop μ-loop
+element-set-from-out c = search rules-loaded
 
 end-of-requires : tie.Need-end-of-requires Inv-loop μ-loop
-end-of-requires c κs = search steps
+end-of-requires c κs = search rules-loaded
 
 add-i : tie.Need-add-i Inv-loop μ-loop
-add-i c = search steps
+add-i c = search rules-loaded
 
 loop-less : tie.Need-loop-less Inv-loop μ-loop
-loop-less c = search steps
+loop-less c = search rules-loaded
 
 loop-again : tie.Need-loop-again Inv-loop μ-loop
-loop-again c = search steps
+loop-again c = search rules-loaded
 
 returns : tie.Need-returns Inv-loop μ-loop
-returns c = search steps
+returns c = search rules-loaded
 
 pub file-rules-spec : {M : Type 1} → statement M
 file-rules-spec =
@@ -47,10 +50,11 @@ file-rules-spec =
     (tie.spec
     Inv-loop
     μ-loop
+    none-requires
     loop-holds
     rule-at-requires
-    mul-items
-    array-set-from-items
+    mul-t9
+    element-set-from-out
     end-of-requires
     add-i
     loop-less

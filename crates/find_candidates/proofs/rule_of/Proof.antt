@@ -1,10 +1,7 @@
--- `find_candidates::with_pair` meets its contract. A write is not paired with itself.
+-- `find_candidates::rule_of` meets its contract: the rule is made of the labels' parts.
 use Rattle.find_candidates.proofs.CandidateSteps.{steps}
-use Rattle.find_candidates.proofs.with_pair.Statement.{statement}
-use Rattle.find_candidates.proofs.with_pair.Tie as tie
-
-returns : tie.Need-returns
-returns c = search steps
+use Rattle.find_candidates.proofs.rule_of.Statement.{statement}
+use Rattle.find_candidates.proofs.rule_of.Tie as tie
 
 name-of-requires : tie.Need-name-of-requires
 name-of-requires c κs = search steps
@@ -21,21 +18,16 @@ epoch-of-requires-2 c κs = search steps
 pairing-requires : tie.Need-pairing-requires
 pairing-requires c κs = search steps
 
-insert-requires : tie.Need-insert-requires
-insert-requires c κs = search steps
+returns : tie.Need-returns
+returns c = search steps
 
-returns-2 : tie.Need-returns-2
-returns-2 c = search steps
-
-pub with-pair-spec : {M : Type 1} → statement M
-with-pair-spec =
+pub rule-of-spec : {M : Type 1} → statement M
+rule-of-spec =
     tie.close
     (tie.spec
-    returns
     name-of-requires
     epoch-of-requires
     name-of-requires-2
     epoch-of-requires-2
     pairing-requires
-    insert-requires
-    returns-2)
+    returns)
