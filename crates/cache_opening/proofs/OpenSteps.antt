@@ -5,29 +5,28 @@ use mathlib.Core.List.{List, [], _∷_, _++_}
 use Prim.Native.Nat.{ℕ, suc, _+_, _*_, _≤_, _<_}
 use native.Mathlib.Numerals.{add-one}
 use native.Mathlib.Omega.{arith}
-use lib.ListN.{length, take, set, getD, replicate, length-replicate, replicate-append-replicate}
-use lib.Seq.{sets, take-suc-set, take-all}
+use lib.ListN.{length, take, set, replicate, length-replicate, replicate-append-replicate}
+use lib.Seq.{sets, take-suc, take-suc-set, take-all, length-take-le}
 use borrow.Author.Needs.{needs}
-use Rattle.relation.specs.Lists.{tabulate}
-use Rattle.relation.proofs.ListLaws.{index-mem, getD-tabulate}
 use borrow.Author.Tests.{eq-eqb, ne-eqb, lt-ltb, le-ltb}
 use Rattle.model.specs.declared.Rule.{Rule}
 use Rattle.model.specs.declared.Refusal.{Refusal}
 use Rattle.model.specs.Rules.{Known}
 use Rattle.model.specs.Limits.{words, mostRules}
 use Rattle.model.specs.Answer.{answer, refused, refusal, coded}
-use Rattle.model.specs.Cyclic.{noRule, cyclic}
+use Rattle.model.specs.Cyclic.{cyclic}
 use Rattle.file_format.specs.declared.Extent.{Extent}
 use Rattle.file_format.specs.declared.Scan.{Scan}
 use Rattle.file_format.specs.declared.Scan.the-variants.{Accepted, Refused}
 use Rattle.file_format.specs.Bytes.{bytes2, wideRuleBytes}
 use Rattle.file_format.specs.File.{isRule, wideRuleLength}
-use Rattle.file_format.specs.Scan.{fieldPlace, fieldsAt, ruleField, rulesAt, scanOf}
+use Rattle.file_format.specs.Scan.{rulesAt, scanOf}
 use Rattle.file_format.specs.Held.{Fields, ScansTo}
 use Rattle.file_reader.proofs.CallerLaws.{refused-read, refused-most, accepted-rules, accepted-fields, accepted-read, accepted-at, accepted-placed, accepted-file, holding-limits}
 use Rattle.rule_match.specs.declared.Rules.{Rules}
 use Rattle.rule_match.specs.Held.{rulesOf}
-use Rattle.file_loading.proofs.LoadSteps.{fields-length, places}
+use Rattle.rule_match.proofs.MatchSteps.{length-mapped, known-at}
+use Rattle.rule_match.specs.Held.{itemAt}
 use Rattle.cache_model.specs.State.{stateSize, ruleBase, bytesEach, rulesBytes, opened}
 use Rattle.cache_statelaws.proofs.EachLaws.{each-append}
 use Rattle.cache_statelaws.proofs.LayoutLaws.{rule-size, length-rules}
@@ -68,59 +67,44 @@ rule-put l l₁ l₂ l₃ at r a b c =
 abbrev pub written : ℕ → List Rule → List ℕ
 written n rules = sets (replicate stateSize 0) 0 (n ∷ 0 ∷ 0 ∷ 0 ∷ rulesBytes rules)
 
-pub rules-begun : (file s : List ℕ) (n : ℕ) → s ≡ replicate stateSize 0 → set s 0 n ≡ written n (rulesAt file 0)
-unfolding fieldsAt tabulate bytesEach
-rules-begun file s n e = rw e
+pub rules-begun : (s : List ℕ) (rules : Rules) → s ≡ replicate stateSize 0 → set s 0 (rules .count) ≡ written (rules .count) (take 0 (rules .items))
+unfolding bytesEach
+rules-begun s rules e = rw e
 
-pub rules-more : (file s s′ : List ℕ) (n i place at : ℕ) (r : Rule) → r ≡ ruleField file at → at ≡ fieldPlace file 0 i → s′ ≡ sets s place (wideRuleBytes r) → place ≡ ruleBase i
-    → s ≡ written n (rulesAt file i) → s′ ≡ written n (rulesAt file (i + 1))
-unfolding fieldsAt tabulate
-rules-more file s s′ n i place at r read stands q p e =
-    let length-before : length (rulesBytes (rulesAt file i)) ≡ wideRuleLength * i = length-rules (rulesAt file i) ∙ ap (λ (k : ℕ). wideRuleLength * k) (fields-length ruleField file 0 i) in
-    let behind : 0 + suc (suc (suc (suc (length (rulesBytes (rulesAt file i)))))) ≡ place = omega arith in
-    q ∙ rw (add-one i, each-append wideRuleBytes wideRuleLength rule-size (rulesAt file i) (ruleField file (fieldPlace file 0 i)), ← stands, ← read, e, ← behind)
-    (sym (sets-append (replicate stateSize 0) 0 (n ∷ 0 ∷ 0 ∷ 0 ∷ rulesBytes (rulesAt file i)) (wideRuleBytes r)))
+pub rules-more : (rules : Rules) (s s′ : List ℕ) (i at : ℕ) → s′ ≡ sets s at (wideRuleBytes (itemAt rules i)) → at ≡ ruleBase i
+    → s ≡ written (rules .count) (take i (rules .items)) → length (rules .items) ≡ mostRules → rules .count ≤ mostRules → i < rules .count
+    → s′ ≡ written (rules .count) (take (i + 1) (rules .items))
+rules-more rules s s′ i at q p e size few h =
+    let inside : i < length (rules .items) = omega arith in
+    let n : length (rulesBytes (take i (rules .items))) ≡ wideRuleLength * i = length-rules (take i (rules .items)) ∙ ap (λ (k : ℕ). wideRuleLength * k) (length-take-le i (rules .items) (omega arith)) in
+    let place : 0 + suc (suc (suc (suc (length (rulesBytes (take i (rules .items))))))) ≡ at = omega arith in
+    q ∙ rw (add-one i, take-suc (rules .items) i (record { first = 0; predicate = 0; second = 0 }) inside, each-append wideRuleBytes wideRuleLength rule-size (take i (rules .items)) (itemAt rules i), e, ← place)
+    (sym (sets-append (replicate stateSize 0) 0 (rules .count ∷ 0 ∷ 0 ∷ 0 ∷ rulesBytes (take i (rules .items))) (wideRuleBytes (itemAt rules i))))
 
-pub rules-done : (file s : List ℕ) (n i : ℕ) → i ≤ n → n ≤ i → s ≡ written n (rulesAt file i) → s ≡ opened (rulesAt file n)
+pub rules-done : (rules : Rules) (s : List ℕ) (i : ℕ) → length (rules .items) ≡ mostRules → rules .count ≤ mostRules → i ≤ rules .count → rules .count ≤ i
+    → s ≡ written (rules .count) (take i (rules .items)) → s ≡ opened (rulesOf rules)
 unfolding opened
-rules-done file s n i a b e =
-    let q : i ≡ n = omega arith in
-    (rw q at e) ∙ rw (fields-length ruleField file 0 n)
-
--- a known predicate is of one byte
-pub rule-known : (file : List ℕ) (n i at : ℕ) (r : Rule) → Known (rulesAt file n) → i < n → at ≡ fieldPlace file 0 i → r ≡ ruleField file at → r .predicate < 256
-unfolding Known fieldsAt
-rule-known file n i at r known h stands read =
-    let inside : i < length (rulesAt file n) = rw (fields-length ruleField file 0 n) h in
-    let there : getD (rulesAt file n) i noRule ≡ r = getD-tabulate (λ j. ruleField file (fieldPlace file 0 j)) n i noRule h ∙ rw (read, stands) in
-    let l = known r (index-mem (rulesAt file n) i noRule inside there) in
-    omega arith
+rules-done rules s i size few a b e =
+    let q : i ≡ rules .count = omega arith in
+    (rw q at e) ∙ rw (length-take-le (rules .count) (rules .items) (omega arith))
 
 pub cleared-size : (s : List ℕ) → s ≡ replicate stateSize 0 → length s ≡ stateSize
 cleared-size s e = ap length e ∙ length-replicate {A = ℕ} stateSize 0
 
-pub ruleset putting = (places, rule-known, inside, rule-put, rules-begun, rules-more, rules-done, cleared-size)
+pub ruleset putting = (needs, length-mapped, known-at, inside, rule-put, rules-begun, rules-more, rules-done, cleared-size)
 
 -- ---- open_with
 
--- what was asked for rings is the file's rules, as they were loaded
-module _ (rules : List Rule) (held : Rules) (same : rulesOf held ≡ rules) (s : List ℕ) (b : Bool) (e : b ≡ cyclic (rulesOf held)) where
+module _ (rules : List Rule) (s : List ℕ) (b : Bool) (e : b ≡ cyclic rules) where
   pub open-cyclic : (r : ℕ) → b ≡ true → r ≡ refusal 8 0 → callLeavesState r s ≡ openedBy rules s
   unfolding openedBy
-  open-cyclic r t q =
-      let ring : cyclic rules ≡ true = rw (← same) (sym e ∙ t) in
-      rw (ring, q)
+  open-cyclic r t q = rw (← e, t, q)
 
   pub open-started : (s′ : List ℕ) → b ≡ false → s′ ≡ opened rules → callLeavesState 0 s′ ≡ openedBy rules s
   unfolding openedBy
-  open-started s′ f q =
-      let none : cyclic rules ≡ false = rw (← same) (sym e ∙ f) in
-      rw (none, q)
+  open-started s′ f q = rw (← e, f, q)
 
-pub held-few : (held : Rules) (n : ℕ) → held .count ≡ n → n ≤ mostRules → held .count ≤ mostRules
-held-few held n k m = omega arith
-
-pub ruleset beginning = (needs, open-cyclic, open-started, held-few)
+pub ruleset beginning = (needs, open-cyclic, open-started)
 
 -- ---- pelzhondy_open
 
@@ -140,10 +124,11 @@ module _ (file s : List ℕ) where
       open-tests r h q =
           rw (eq-eqb _ _ hs, accepted-read file x ts g rules tests e, accepted-placed file x ts g rules tests e .count, lt-ltb 0 tests h, q)
 
-      pub open-made : (r : ℕ) (s′ : List ℕ) → tests ≤ 0 → callLeavesState r s′ ≡ openedBy (rulesAt file rules) s → callLeavesState r s′ ≡ codedKept (openOf file s [])
+      pub open-made : (held : Rules) (r : ℕ) (s′ : List ℕ) → tests ≤ 0 → rulesOf held ≡ rulesAt file rules → callLeavesState r s′ ≡ openedBy (rulesOf held) s
+          → callLeavesState r s′ ≡ codedKept (openOf file s [])
       unfolding openOf openWith codedKept coded openedBy
-      open-made r s′ h q =
-          q ∙ rw (eq-eqb _ _ hs, accepted-read file x ts g rules tests e, accepted-placed file x ts g rules tests e .count, le-ltb 0 tests h, accepted-at file x ts g rules tests e)
+      open-made held r s′ h i q =
+          q ∙ rw (eq-eqb _ _ hs, accepted-read file x ts g rules tests e, accepted-placed file x ts g rules tests e .count, le-ltb 0 tests h, accepted-at file x ts g rules tests e, i)
           (go (cyclic (rulesAt file rules)))
         where
           go : (b : Bool) → cond b (callLeavesState (refusal 8 0) s) (callLeavesState 0 (opened (rulesAt file rules)))
@@ -163,7 +148,10 @@ module _ (file : List ℕ) (x : Scan) (ts : List Extent) (g : ScansTo (scanOf fi
     pub rules-fields : Fields isRule file 0 rules
     rules-fields = accepted-fields file x ts g rules tests e
 
-    pub rules-known : Known (rulesAt file rules)
-    rules-known = rw (← accepted-at file x ts g rules tests e) (holding-limits file (accepted-file file x ts g rules tests e) (accepted-read file x ts g rules tests e) .0 .known)
+    pub held-known : (held : Rules) → rulesOf held ≡ rulesAt file rules → Known (rulesOf held)
+    held-known held i = rw (i, ← accepted-at file x ts g rules tests e) (holding-limits file (accepted-file file x ts g rules tests e) (accepted-read file x ts g rules tests e) .0 .known)
 
-pub ruleset opening = (needs, open-short, open-refused, open-tests, open-made, refusal-fits, rules-few, rules-fields, rules-known)
+    pub held-few : (held : Rules) → held .count ≡ rules → held .count ≤ mostRules
+    held-few held k = let m = rules-few in omega arith
+
+pub ruleset opening = (needs, open-short, open-refused, open-tests, open-made, refusal-fits, rules-few, rules-fields, held-known, held-few)

@@ -1,5 +1,6 @@
 // An opening of the cache: a cleared state with a file's rules.
 use model::Rule;
+use rule_match::Rules;
 ghost use mathlib.Core.Path.{_≡_};
 ghost use Prim.Native.Nat.{_+_, _<_, _≤_};
 ghost use lib.ListN.{length, replicate};
@@ -7,9 +8,8 @@ ghost use lib.Seq.{sets};
 ghost use Rattle.model.specs.Limits.{mostRules};
 ghost use Rattle.model.specs.Rules.{Known};
 ghost use Rattle.file_format.specs.Bytes.{wideRuleBytes};
-ghost use Rattle.file_format.specs.File.{isRule, wideRuleLength};
-ghost use Rattle.file_format.specs.Scan.{rulesAt};
-ghost use Rattle.file_format.specs.Held.{Fields};
+ghost use Rattle.rule_match.specs.Held.{rulesOf};
+ghost use Rattle.file_format.specs.File.{wideRuleLength};
 ghost use Rattle.cache_model.specs.State.{stateSize, opened};
 ghost use Rattle.cache_steps.specs.Given.{callLeavesState, openedBy};
 
@@ -35,35 +35,28 @@ fn put_rule(state: &mut [u8], at: usize, rule: Rule)
     cache_stores::put_half(state, at + 3, rule.second);
 }
 
-// The count of the first n fields of a file, which are rules, and these rules.
-fn put_rules(state: &mut [u8], file: &[u8], n: usize)
-    requires { ⌜ ((n ≤ mostRules) × Fields isRule (now file) 0 n) × (Known (rulesAt (now file) n) × (now state ≡ replicate stateSize 0)) ⌝ }
-    ensures { λ _. ⌜ now (state .exit) ≡ opened (rulesAt (now (file .entry)) n) ⌝ }
+// The count of the rules, and the rules.
+fn put_rules(state: &mut [u8], rules: Rules)
+    requires { ⌜ (rules .count ≤ mostRules) × (Known (rulesOf rules) × (now state ≡ replicate stateSize 0)) ⌝ }
+    ensures { λ _. ⌜ now (state .exit) ≡ opened (rulesOf rules) ⌝ }
 {
-    state[0] = n as u8;
-    let mut at = 0;
+    state[0] = rules.count as u8;
     let mut i: usize = 0;
-    while i < n {
-        put_rule(
-            state,
-            cache_contents::rule_place(i),
-            file_fields::rule_at(file, at),
-        );
-        at = file_format::end_of(file, at);
+    while i < rules.count {
+        put_rule(state, cache_contents::rule_place(i), rules.items[i]);
         i += 1;
     }
 }
 
-// A state with the first n fields of a file, which are rules, and no writes, unless they are cyclic. They are
-// read twice: a set of rules that is handed on would stand on the stack once more.
-pub fn open_with(state: &mut [u8], file: &[u8], n: usize) -> u64
-    requires { ⌜ (length (now state) ≡ stateSize) × (((n ≤ mostRules) × Fields isRule (now file) 0 n) × Known (rulesAt (now file) n)) ⌝ }
-    ensures { λ r. ⌜ callLeavesState r (now (state .exit)) ≡ openedBy (rulesAt (now (file .entry)) n) (now (state .entry)) ⌝ }
+// A state with these rules and no writes, unless they are cyclic.
+pub fn open_with(state: &mut [u8], rules: Rules) -> u64
+    requires { ⌜ (length (now state) ≡ stateSize) × ((rules .count ≤ mostRules) × Known (rulesOf rules)) ⌝ }
+    ensures { λ r. ⌜ callLeavesState r (now (state .exit)) ≡ openedBy (rulesOf rules) (now (state .entry)) ⌝ }
 {
-    if rule_cycles::is_cyclic(file_loading::file_rules(file, n)) {
+    if rule_cycles::is_cyclic(rules) {
         return model::refuse(8, 0);
     }
     clear(state);
-    put_rules(state, file, n);
+    put_rules(state, rules);
     0
 }

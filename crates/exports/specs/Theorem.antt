@@ -68,7 +68,8 @@ pub record AnswersFor (s : List ℕ) (reading : Outcome File) : Type 0 where
   pub cyclic : cyclicAnswer s ≡ cyclicIn reading
   pub opened : (state disk : List ℕ) → length state ≡ stateSize → openOf s state disk ≡ openWith reading state disk
 
--- *old files keep their verdicts*: a file is answered for by what was read of it before [2], a refusal too, unless that refused a new tag as unknown
+-- *old files keep their verdicts*: a file is answered for by what was read of it before [2], a refusal too, unless that refused a new tag as unknown.
+-- (The answers are those of today, so that find asks for a buffer of 128 bytes, where it asked for 96.)
 abbrev pub OldFilesAnswered : Type 0
 OldFilesAnswered = (s : List ℕ) → AnswersFor s (oldReadOf s) ⊎ ((at : ℕ) × (oldReadOf s ≡ refused 2 at) × NewTag (byte s at))
 

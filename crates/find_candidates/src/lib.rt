@@ -9,8 +9,8 @@ ghost use Rattle.model.specs.Rules.{label};
 ghost use Rattle.model.specs.Find.{pairing, candidatesOf};
 ghost use Rattle.file_format.specs.Held.{Placed};
 ghost use Rattle.judge_disks.specs.Packed.{labelled};
-ghost use Rattle.find_sets.specs.Kept.{Keeps, Follows};
-ghost use Rattle.find_candidates.specs.Tests.{paired, Pairs, Traces, testsIn};
+ghost use Rattle.find_sets.specs.Kept.{Keeps};
+ghost use Rattle.find_candidates.specs.Tests.{Pairs, Traces, testsIn};
 
 // The one rule that matches the labels (n, t) and (m, u).
 fn pairing(n: u16, t: u32, m: u16, u: u32) -> Rule

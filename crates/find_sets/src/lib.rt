@@ -3,7 +3,7 @@ use model::Rule;
 use rule_match::Rules;
 ghost use mathlib.Core.Path.{_≡_};
 ghost use mathlib.Core.Bool.{cond};
-ghost use mathlib.Core.List.{[], _∷_, _++_};
+ghost use mathlib.Core.List.{_∷_, _++_};
 ghost use Prim.Native.Nat.{_+_, _<_, _≤_};
 ghost use lib.ListN.{take, drop};
 ghost use Rattle.relation.specs.Bits.{bit};
@@ -46,7 +46,7 @@ fn place(c: Rules, rule: Rule) -> usize
     k
 }
 
-// A rule put behind the first k. (The others move up in place: a set that is handed on is copied.)
+// A rule put behind the first k. (The others are copied one by one: a set that is handed on is copied whole.)
 fn splice(c: Rules, k: usize, rule: Rule) -> Rules
     requires { ⌜ (c .count < mostRules) × (k ≤ c .count) ⌝ }
     ensures { λ r. ⌜ (rulesOf r ≡ take k (rulesOf c) ++ (rule ∷ drop k (rulesOf c))) × (r .count ≡ c .count + 1) ⌝ }

@@ -1,6 +1,6 @@
 -- The tables: by the closed rows each write's dependencies are those it reaches and itself, and a schedule that has with each write its
 -- row has what it reaches, step by step along the way.
-use mathlib.Core.Path.{_≡_, refl, sym, _∙_}
+use mathlib.Core.Path.{_≡_, refl, sym, ap, _∙_}
 use mathlib.Core.Logic.{_⊎_, inl, inr, ⊎-elim}
 use mathlib.Core.Bool.{Bool, true, false, cond, not, _&&_, _||_, false≢true}
 use mathlib.Core.List.{List}
@@ -10,7 +10,8 @@ use native.Mathlib.Numerals.{add-one}
 use native.Mathlib.Omega.{arith}
 use lib.Bits.{bitAnd, and-mask}
 use lib.Dec.{eqb}
-use lib.ListN.{length, getD, set}
+use lib.ListN.{length, getD, take, set}
+use lib.Seq.{getD-take}
 use lib.Pow.{pow-pos}
 use borrow.Author.Needs.{needs}
 use borrow.Author.Tests.{eqb-true, eq-eqb, lt-ltb}
@@ -117,9 +118,13 @@ module _ (rows dependencies dependents : List ℕ) (n : ℕ) (few : n ≤ mostMa
         same = same;
       }
 
-pub order-done : (rows reached dependencies dependents : List ℕ) (n : ℕ) → n ≤ mostMain → Narrow rows n → reached ≡ closed n rows → Filled (reachedRow reached n) n dependencies → Filled (reachingRow dependencies n) n dependents
+pub order-done : (rows reached dependencies dependents : List ℕ) (n : ℕ) → n ≤ mostMain → Narrow rows n → take n reached ≡ take n (closed n rows) → Filled (reachedRow reached n) n dependencies → Filled (reachingRow dependencies n) n dependents
     → Orders rows n dependencies dependents
-order-done rows reached dependencies dependents n few narrow e f b = ordered rows dependencies dependents n few narrow (rw e at f) b
+unfolding reachedRow
+order-done rows reached dependencies dependents n few narrow e f b =
+    let same : (i : ℕ) → i < n → getD reached i 0 ≡ getD (closed n rows) i 0
+    = λ i h. sym (getD-take n reached i 0 h) ∙ ap (λ (l : List ℕ). getD l i 0) e ∙ getD-take n (closed n rows) i 0 h in
+    ordered rows dependencies dependents n few narrow (record { at = λ i h. f .at i h ∙ ap (λ (row : ℕ). withBit row i % 2 ^ n) (same i h) }) b
 
 -- ---- alone
 

@@ -60,7 +60,7 @@ fn fill_dependents(dependents: &mut [u64], dependencies: &[u64; 64], n: usize)
 
 // The dependencies and the dependents of each of n writes over any number of steps, by their rows.
 pub fn order(dependencies: &mut [u64; 64], dependents: &mut [u64; 64], rows: &[u64; 64], n: usize)
-    requires { ⌜ (n ≤ mostMain) × Narrow (now rows) n ⌝ }
+    requires { ⌜ ((n ≤ mostMain) × Narrow (now rows) n) × (length (now rows) ≡ 64) ⌝ }
     ensures { λ _. ⌜ Orders (now (rows .entry)) n (now (dependencies .exit)) (now (dependents .exit)) ⌝ }
 {
     let mut closed = *rows;

@@ -7,7 +7,7 @@ use model::MOST_CHECKS;
 use model::MOST_INITIAL;
 ghost use mathlib.Core.Path.{_≡_};
 ghost use Prim.Native.Nat.{_+_, _^_, _<_, _≤_};
-ghost use lib.ListN.{take};
+ghost use lib.ListN.{length, take};
 ghost use Rattle.relation.specs.Rank.{smallSets};
 ghost use Rattle.model.specs.Limits.{mostMain, mostChecks, mostSchedules};
 ghost use Rattle.judge_disks.specs.Packed.{heldFrom};
@@ -162,7 +162,7 @@ pub fn count_all(
     checks: [Check; MOST_CHECKS],
     m: usize,
 ) -> Judgement
-    requires { ⌜ (n ≤ mostMain) × ((m ≤ mostChecks) × Narrow (now rows) n) ⌝ }
+    requires { ⌜ (n ≤ mostMain) × ((m ≤ mostChecks) × (Narrow (now rows) n × (length (now rows) ≡ 64))) ⌝ }
     ensures { λ r. ⌜ r ≡ tallied (validRows (now (rows .entry)) n) (badRows (now (rows .entry)) n base (heldFrom (now (stores .entry)) 0 n) (take m checks)) (2 ^ n) ⌝ }
 {
     let mut dependencies = [0u64; 64];

@@ -68,7 +68,7 @@ pub extern "C" fn pelzhondy_open(state: &mut [u8], file: &[u8]) -> u64
             if 0 < tests {
                 return model::refuse(22, 0);
             }
-            cache_opening::open_with(state, file, rules)
+            cache_opening::open_with(state, file_loading::file_rules(file, rules))
         }
         Scan::Refused(why) => model::code_of(why),
     }

@@ -150,6 +150,11 @@ plus-reaches R n i j w =
     let table = related (rowsOf R n) in
     plus-closed (rowsOf R n) n i j (plus-agree R table n (agree-sym table R n (related-rows R n)) w)
 
+-- tables with the same first n rows
+pub related-first : (n : ℕ) (k l : List ℕ) → take n k ≡ take n l → (i j : ℕ) → i < n → related k i j ≡ related l i j
+unfolding related
+related-first n k l e i j h = ap (λ (row : ℕ). bit row j) (sym (getD-take n k i 0 h) ∙ ap (λ (rows : List ℕ). getD rows i 0) e ∙ getD-take n l i 0 h)
+
 -- a table that agrees with R below n
 module _ (rows : List ℕ) (R : ℕ → ℕ → Bool) (n : ℕ) (agrees : Agree n (related rows) R) where
   pub related-closed : (i j : ℕ) → i < n → j < n → related (closed n rows) i j ≡ reaches R n i j

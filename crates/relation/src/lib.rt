@@ -2,7 +2,7 @@
 ghost use mathlib.Core.Path.{_≡_};
 ghost use mathlib.Core.Bool.{cond};
 ghost use Prim.Native.Nat.{_+_, _-_, _^_, _<_, _≤_};
-ghost use lib.ListN.{length};
+ghost use lib.ListN.{length, take};
 ghost use Rattle.relation.specs.Rank.{smallSets, rank};
 ghost use Rattle.relation.specs.Bits.{bit, withBit, without, Highest, Lowest};
 ghost use Rattle.relation.specs.Finite.{related, joined, round, closed, hasRing};
@@ -83,27 +83,27 @@ fn join(row: u64, through: u64, k: usize) -> u64
     row
 }
 
-// Each row that reaches k reaches all that k reaches.
-fn join_all(rows: &mut [u64], k: usize)
-    requires { ⌜ (k < 64) × (length (now rows) ≡ 64) ⌝ }
-    ensures { λ _. ⌜ now (rows .exit) ≡ round k (now (rows .entry)) ⌝ }
+// Each of the first n rows that reaches k reaches all that k reaches.
+fn join_all(rows: &mut [u64], k: usize, n: usize)
+    requires { ⌜ (k < n) × ((n ≤ length (now rows)) × (n ≤ 64)) ⌝ }
+    ensures { λ _. ⌜ take n (now (rows .exit)) ≡ take n (round k (now (rows .entry))) ⌝ }
 {
     let through = rows[k];
     let mut i: usize = 0;
-    while i < 64 {
+    while i < n {
         rows[i] = join(rows[i], through, k);
         i += 1;
     }
 }
 
 // Warshall's closure of the relation of the first n rows, in place.
-pub fn close(rows: &mut [u64; 64], n: usize)
-    requires { ⌜ n ≤ 64 ⌝ }
-    ensures { λ _. ⌜ now (rows .exit) ≡ closed n (now (rows .entry)) ⌝ }
+pub fn close(rows: &mut [u64], n: usize)
+    requires { ⌜ (n ≤ length (now rows)) × (n ≤ 64) ⌝ }
+    ensures { λ _. ⌜ take n (now (rows .exit)) ≡ take n (closed n (now (rows .entry))) ⌝ }
 {
     let mut k: usize = 0;
     while k < n {
-        join_all(rows, k);
+        join_all(rows, k, n);
         k += 1;
     }
 }
@@ -132,7 +132,7 @@ fn peel_one(row: u64, left: u64, i: usize) -> u64
 
 // What a pass over the numbers below n leaves, from 0 up.
 fn peel(rows: &[u64], n: usize, left: u64) -> u64
-    requires { ⌜ (length (now rows) ≡ 64) × (n ≤ 64) ⌝ }
+    requires { ⌜ (n ≤ length (now rows)) × (n ≤ 64) ⌝ }
     ensures { λ r. ⌜ r ≡ peeled (now (rows .entry)) left n ⌝ }
 {
     let mut rest = left;
@@ -146,7 +146,7 @@ fn peel(rows: &[u64], n: usize, left: u64) -> u64
 
 // And from the highest down.
 fn peel_back(rows: &[u64], n: usize, left: u64) -> u64
-    requires { ⌜ (length (now rows) ≡ 64) × (n ≤ 64) ⌝ }
+    requires { ⌜ (n ≤ length (now rows)) × (n ≤ 64) ⌝ }
     ensures { λ r. ⌜ r ≡ peeledBack (now (rows .entry)) left n ⌝ }
 {
     let mut rest = left;
@@ -162,7 +162,7 @@ fn peel_back(rows: &[u64], n: usize, left: u64) -> u64
 // one leaves all as it was. Where rows point to earlier numbers only, the first pass leaves nothing, and
 // where they point to later ones, the second.
 pub fn has_ring(rows: &[u64], n: usize) -> bool
-    requires { ⌜ (length (now rows) ≡ 64) × (n ≤ 64) ⌝ }
+    requires { ⌜ (n ≤ length (now rows)) × (n ≤ 64) ⌝ }
     ensures { λ r. ⌜ r ≡ hasRing (related (now (rows .entry))) n ⌝ }
 {
     let mut left = all_below(n);

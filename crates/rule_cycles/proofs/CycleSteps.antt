@@ -19,7 +19,7 @@ use Rattle.relation.specs.Lists.{anyBelow, tabulate}
 use Rattle.relation.specs.Transitive.{Ring}
 use Rattle.relation.specs.Finite.{Below, related, rowsOf, closed, hasRing, reaches}
 use Rattle.relation.proofs.BitLaws.{bit-zero, power-is, with-below, bit-mask, mask-below, mask-ext}
-use Rattle.relation.proofs.FiniteLaws.{Agree, table-related, table-ring, related-closed, reaches-plus, hasRing-ext, hasRing-ring, ring-hasRing}
+use Rattle.relation.proofs.FiniteLaws.{Agree, table-related, table-ring, related-first, related-closed, reaches-plus, hasRing-ext, hasRing-ring, ring-hasRing}
 use Rattle.relation.proofs.ListLaws.{clash, untrue, and-left, and-right, and-intro, or-left, or-right, anyBelow-true, anyBelow-intro, anyBelow-ext}
 use Rattle.relation.proofs.MaskLaws.{member-mask, mask-cut, mask-false, mask-begun, mask-more, mask-all}
 use Rattle.relation.proofs.TableLaws.{blank-made}
@@ -48,18 +48,24 @@ starting-more rules name j mask next h e f = mask-more (starts (rulesOf rules) n
 
 -- ---- row
 
-module _ (rules : Rules) (among i : ℕ) (b : Bool) (e : b ≡ bit among i) where
-  pub row-out : not b ≡ true → 0 ≡ maskOf (linked among (rulesOf rules) i) (rules .count)
-  unfolding linked
-  row-out f = sym (mask-false (linked among (rulesOf rules) i) (rules .count) (λ j. rw (← e, not-true b f)))
+module _ (among i led : ℕ) (b : Bool) (e : b ≡ bit among i) where
+  pub row-out : not b ≡ true → 0 ≡ cond (bit among i) (bitAnd led among) 0
+  row-out f = rw (← e, not-true b f)
 
-  pub row-in : (r : ℕ) → not b ≡ false → i < rules .count → r ≡ maskOf (starts (rulesOf rules) (itemAt rules i .second)) (rules .count)
-      → bitAnd r among ≡ maskOf (linked among (rulesOf rules) i) (rules .count)
-  unfolding linked starts leads
-  row-in r f h q =
-      let n = rules .count in
-      let p = starts (rulesOf rules) (itemAt rules i .second) in
-      rw q (mask-cut p n among ∙ mask-ext _ _ n (λ j k. rw (← e, not-false b f, held-at rules i h)))
+  pub row-in : not b ≡ false → bitAnd led among ≡ cond (bit among i) (bitAnd led among) 0
+  row-in f = rw (← e, not-false b f)
+
+pub linked-row : (rules : Rules) (among i led j r : ℕ) → i < rules .count → led ≡ maskOf (starts (rulesOf rules) (itemAt rules i .second)) j → j ≤ rules .count → rules .count ≤ j
+    → r ≡ cond (bit among i) (bitAnd led among) 0 → r ≡ maskOf (linked among (rulesOf rules) i) (rules .count)
+unfolding linked starts leads
+linked-row rules among i led j r h e k l q = q ∙ go (bit among i) refl
+  where
+    go : (b : Bool) → bit among i ≡ b → cond b (bitAnd led among) 0 ≡ maskOf (linked among (rulesOf rules) i) (rules .count)
+    go true t =
+        let n = rules .count in
+        let p = starts (rulesOf rules) (itemAt rules i .second) in
+        rw (mask-all p j n led e k l) (mask-cut p n among ∙ mask-ext _ _ n (λ j k. rw (t, held-at rules i h)))
+    go false f = sym (mask-false (linked among (rulesOf rules) i) (rules .count) (λ j. rw f))
 
 -- ---- fill, fill_near: tables of a relation
 
@@ -72,7 +78,7 @@ module _ (R : ℕ → ℕ → Bool) (n : ℕ) (rows : List ℕ) where
   unfolding filled tabulate
   fill-begun = refl
 
-  pub fill-more : (i mask : ℕ) → length rows ≡ 64 → n ≤ mostRules → i < n → take i rows ≡ filled R n i → mask ≡ maskOf (R i) n
+  pub fill-more : (i mask : ℕ) → length rows ≡ mostRules → n ≤ mostRules → i < n → take i rows ≡ filled R n i → mask ≡ maskOf (R i) n
       → take (i + 1) (set rows i mask) ≡ filled R n (i + 1)
   unfolding filled tabulate
   fill-more i mask h few l e f =
@@ -204,13 +210,13 @@ module _ (p : ℕ → Bool) where
   unfolding anyBelow
   none-more i b none e f = rw (add-one i, none) (sym e ∙ f)
 
--- ---- meets_from
+-- ---- rules_meet: from one > rule
 
 abbrev pub meeting : Rules → List ℕ → ℕ → ℕ → Bool
 meeting rules rows i j = meetsBy (ruleAt (rulesOf rules) j) rows i j
 
 module _ (rules : Rules) (rows : List ℕ) where
-  pub from-other : (i : ℕ) → i < rules .count → (itemAt rules i .predicate ≡ 1 → ⊥) → false ≡ meetsFrom (rulesOf rules) rows i
+  from-other : (i : ℕ) → i < rules .count → (itemAt rules i .predicate ≡ 1 → ⊥) → false ≡ meetsFrom (rulesOf rules) rows i
   unfolding meetsFrom has
   from-other i h f = rw (held-at rules i h, ne-eqb (itemAt rules i .predicate) 1 f)
 
@@ -224,31 +230,37 @@ module _ (rules : Rules) (rows : List ℕ) where
   unfolding meetsFrom has
   from-greater i all few h e = rw (held-at rules i h, eq-eqb (itemAt rules i .predicate) 1 e, held-length rules all few)
 
-  pub from-found : (i j : ℕ) (b : Bool) → length (rules .items) ≡ mostRules → rules .count ≤ mostRules → i < rules .count → itemAt rules i .predicate ≡ 1
+  from-found : (i j : ℕ) (b : Bool) → length (rules .items) ≡ mostRules → rules .count ≤ mostRules → i < rules .count → itemAt rules i .predicate ≡ 1
       → j < rules .count → b ≡ meetsBy (itemAt rules j) rows i j → b ≡ true → true ≡ meetsFrom (rulesOf rules) rows i
   from-found i j b all few hi p hj e t =
       sym (from-greater i all few hi p ∙ anyBelow-intro (meeting rules rows i) (rules .count) j hj (rw (held-at rules j hj) (sym e ∙ t)))
 
-  pub from-done : (i j : ℕ) → length (rules .items) ≡ mostRules → rules .count ≤ mostRules → i < rules .count → itemAt rules i .predicate ≡ 1
+  from-done : (i j : ℕ) → length (rules .items) ≡ mostRules → rules .count ≤ mostRules → i < rules .count → itemAt rules i .predicate ≡ 1
       → j ≤ rules .count → rules .count ≤ j → anyBelow (meeting rules rows i) j ≡ false → false ≡ meetsFrom (rulesOf rules) rows i
   from-done i j all few hi p a b none =
       let q : j ≡ rules .count = omega arith in
       sym (from-greater i all few hi p ∙ (rw q at none))
 
--- ---- rules_meet
+-- and from all
 
 module _ (rules : Rules) (rows : List ℕ) where
-  pub meet-more : (i : ℕ) (b : Bool) → anyBelow (meetsFrom (rulesOf rules) rows) i ≡ false → b ≡ meetsFrom (rulesOf rules) rows i → b ≡ false
+  pub meet-other : (i : ℕ) → i < rules .count → (itemAt rules i .predicate ≡ 1 → ⊥) → anyBelow (meetsFrom (rulesOf rules) rows) i ≡ false
       → anyBelow (meetsFrom (rulesOf rules) rows) (i + 1) ≡ false
-  meet-more = none-more (meetsFrom (rulesOf rules) rows)
+  meet-other i h f none = none-more (meetsFrom (rulesOf rules) rows) i false none (from-other rules rows i h f) refl
 
   module _ (all : length (rules .items) ≡ mostRules) (few : rules .count ≤ mostRules) where
+    pub meet-more : (i j : ℕ) → i < rules .count → itemAt rules i .predicate ≡ 1 → j ≤ rules .count → rules .count ≤ j → anyBelow (meeting rules rows i) j ≡ false
+        → anyBelow (meetsFrom (rulesOf rules) rows) i ≡ false → anyBelow (meetsFrom (rulesOf rules) rows) (i + 1) ≡ false
+    meet-more i j h p a b met none = none-more (meetsFrom (rulesOf rules) rows) i false none (from-done rules rows i j all few h p a b met) refl
+
     meet-count : meets (rulesOf rules) rows ≡ anyBelow (meetsFrom (rulesOf rules) rows) (rules .count)
     unfolding meets meetsFrom meetsBy has
     meet-count = ap (anyBelow (meetsFrom (rulesOf rules) rows)) (held-length rules all few)
 
-    pub meet-found : (i : ℕ) (b : Bool) → i < rules .count → b ≡ meetsFrom (rulesOf rules) rows i → b ≡ true → true ≡ meets (rulesOf rules) rows
-    meet-found i b h e t = sym (meet-count ∙ anyBelow-intro (meetsFrom (rulesOf rules) rows) (rules .count) i h (sym e ∙ t))
+    pub meet-found : (i j : ℕ) (b : Bool) → i < rules .count → itemAt rules i .predicate ≡ 1 → j < rules .count → b ≡ meetsBy (itemAt rules j) rows i j → b ≡ true
+        → true ≡ meets (rulesOf rules) rows
+    meet-found i j b hi p hj e t =
+        sym (meet-count ∙ anyBelow-intro (meetsFrom (rulesOf rules) rows) (rules .count) i hi (sym (from-found rules rows i j b all few hi p hj e t)))
 
     pub meet-done : (i : ℕ) → i ≤ rules .count → rules .count ≤ i → anyBelow (meetsFrom (rulesOf rules) rows) i ≡ false → false ≡ meets (rulesOf rules) rows
     meet-done i a b none =
@@ -340,13 +352,14 @@ module _ (rules : Rules) (all : length (rules .items) ≡ mostRules) (few : rule
         sym (untrue (meets (rulesOf rules) ends) (λ t. clash (hasRing R n) (meets-ring t) (sym (hasRing-ext (related rows) R n (all-agrees rows e)) ∙ sym f ∙ not-true b g)))
 
     -- the search asks a table about rules that are held only
-    pub mixed-ring : (reached : List ℕ) → reached ≡ closed (rules .count) rows → b ≡ meets (rulesOf rules) reached
+    pub mixed-ring : (reached : List ℕ) → take (rules .count) reached ≡ take (rules .count) (closed (rules .count) rows) → b ≡ meets (rulesOf rules) reached
         → b ≡ meets (rulesOf rules) (closed (rules .count) (rowsOf (leads (rulesOf rules)) (rules .count)))
     unfolding meets reaches
     mixed-ring reached q f =
         let n = rules .count in
-        let same = related-closed rows (leads (rulesOf rules)) n (all-agrees rows e) in
-        f ∙ rw (q, held-length rules all few)
+        let same : (i j : ℕ) → i < n → j < n → related reached i j ≡ reaches (leads (rulesOf rules)) n i j
+        = λ i j hi hj. related-first n reached (closed n rows) q i j hi ∙ related-closed rows (leads (rulesOf rules)) n (all-agrees rows e) i j hi hj in
+        f ∙ rw (held-length rules all few)
         (anyBelow-ext _ _ n (λ i hi. ap (λ (b : Bool). has (rulesOf rules) 1 i && b)
         (anyBelow-ext _ _ n (λ j hj. rw (same i j hi hj, same j i hj hi)))))
 
@@ -408,4 +421,4 @@ module _ (rules : Rules) (b : Bool) where
   unfolding cyclic
   cyclic-mixed d all few e n f = rw (held-length rules all few, ← e, n) f
 
-pub ruleset steps = (needs, length-mapped, blank-made, mask-begun, mask-all, having-more, starting-more, row-out, row-in, fill-begun, fill-more, fill-done, buckets-none, buckets-more, bucket-small, bucket-small-yet, bucket-fits, buckets-all, near-row, may-ring, may-none, apart-equal, apart-other, at-other, at-both, at-none, none-begun, from-other, from-more, from-found, from-done, meet-more, meet-found, meet-done, equal-ring, mixed-none, mixed-ring, suspects-all, suspects-no-greater, suspects-no-less, cyclic-straight, cyclic-equal, cyclic-plain, cyclic-mixed)
+pub ruleset steps = (needs, length-mapped, blank-made, mask-begun, mask-all, having-more, starting-more, row-out, row-in, linked-row, fill-begun, fill-more, fill-done, buckets-none, buckets-more, bucket-small, bucket-small-yet, bucket-fits, buckets-all, near-row, may-ring, may-none, apart-equal, apart-other, at-other, at-both, at-none, none-begun, from-more, meet-other, meet-more, meet-found, meet-done, equal-ring, mixed-none, mixed-ring, suspects-all, suspects-no-greater, suspects-no-less, cyclic-straight, cyclic-equal, cyclic-plain, cyclic-mixed)

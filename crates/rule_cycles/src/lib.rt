@@ -5,8 +5,9 @@ ghost use mathlib.Core.Path.{_≡_};
 ghost use mathlib.Core.Bool.{cond};
 ghost use Prim.Native.Nat.{_%_, _^_, _<_, _≤_};
 ghost use lib.Dec.{eqb};
+ghost use lib.Bits.{bitAnd};
 ghost use lib.ListN.{length, take};
-ghost use Rattle.relation.specs.Bits.{maskOf, without};
+ghost use Rattle.relation.specs.Bits.{bit, maskOf, without};
 ghost use Rattle.relation.specs.Tables.{Blank};
 ghost use Rattle.relation.specs.Finite.{rowsOf, closed, hasRing};
 ghost use Rattle.model.specs.Limits.{mostRules};
@@ -31,39 +32,32 @@ fn having(rules: Rules, predicate: u16) -> u64
     mask
 }
 
-// The rules whose first name is a name.
-fn starting(rules: Rules, name: u16) -> u64
-    requires { ⌜ rules .count ≤ mostRules ⌝ }
-    ensures { λ r. ⌜ r ≡ maskOf (starts (rulesOf rules) name) (rules .count) ⌝ }
-{
-    let mut mask: u64 = 0;
-    let mut j: usize = 0;
-    while j < rules.count {
-        mask = relation::with_if(mask, j, name == rules.items[j].first);
-        j += 1;
-    }
-    mask
-}
-
-// The rules of a set that rule i leads to, where it is in the set too.
-fn row(rules: Rules, i: usize, among: u64) -> u64
-    requires { ⌜ (rules .count ≤ mostRules) × (i < rules .count) ⌝ }
-    ensures { λ r. ⌜ r ≡ maskOf (linked among (rulesOf rules) i) (rules .count) ⌝ }
+// The rules of a set among those that rule i leads to, where it is in the set too.
+fn row(led: u64, i: usize, among: u64) -> u64
+    requires { ⌜ i < 64 ⌝ }
+    ensures { λ r. ⌜ r ≡ cond (bit among i) (bitAnd led among) 0 ⌝ }
 {
     if !relation::has_bit(among, i) {
         return 0;
     }
-    starting(rules, rules.items[i].second) & among
+    led & among
 }
 
-// The table of which rule of a set leads to which.
+// The table of which rule of a set leads to which. (Both loops stand here, and in no function of their own, so
+// that the rules are not copied for each of them.)
 fn fill(rows: &mut [u64], rules: Rules, among: u64)
-    requires { ⌜ (rules .count ≤ mostRules) × (length (now rows) ≡ 64) ⌝ }
+    requires { ⌜ (rules .count ≤ mostRules) × (length (now rows) ≡ mostRules) ⌝ }
     ensures { λ _. ⌜ take (rules .count) (now (rows .exit)) ≡ rowsOf (linked among (rulesOf rules)) (rules .count) ⌝ }
 {
     let mut i: usize = 0;
-    while i < rules.count {
-        rows[i] = row(rules, i, among);
+    'rules: while i < rules.count {
+        let mut led: u64 = 0;
+        let mut j: usize = 0;
+        'led: while j < rules.count {
+            led = relation::with_if(led, j, rules.items[i].second == rules.items[j].first);
+            j += 1;
+        }
+        rows[i] = row(led, i, among);
         i += 1;
     }
 }
@@ -101,7 +95,7 @@ fn apart(row: u64, i: usize, predicate: u16) -> u64
 
 // The table of which rule may lead to which of a set, by buckets.
 fn fill_near(rows: &mut [u64], buckets: &[u32], rules: Rules, among: u64)
-    requires { ⌜ ((rules .count ≤ mostRules) × (length (now rows) ≡ 64)) × ((length (now buckets) ≡ 64) × Buckets (rulesOf rules) (rules .count) (now buckets)) ⌝ }
+    requires { ⌜ ((rules .count ≤ mostRules) × (length (now rows) ≡ mostRules)) × ((length (now buckets) ≡ 64) × Buckets (rulesOf rules) (rules .count) (now buckets)) ⌝ }
     ensures { λ _. ⌜ take (rules .count) (now (rows .exit)) ≡ rowsOf (near among (rulesOf rules)) (rules .count) ⌝ }
 {
     let mut i: usize = 0;
@@ -112,10 +106,10 @@ fn fill_near(rows: &mut [u64], buckets: &[u32], rules: Rules, among: u64)
     }
 }
 
-// Whether rules of a set may lead round, told by the lowest bits of their names. Where they may not, there is
+// Whether rules of a set may lead round, in a table lent for it; told by the lowest bits of their names. Where they may not, there is
 // no ring of = rules, nor one of a > and a < rule; where they may, names have to be compared, each with each.
-fn may_ring(rules: Rules, among: u64) -> bool
-    requires { ⌜ rules .count ≤ mostRules ⌝ }
+fn may_ring(rows: &mut [u64], rules: Rules, among: u64) -> bool
+    requires { ⌜ (rules .count ≤ mostRules) × (length (now rows) ≡ mostRules) ⌝ }
     ensures { λ r. ⌜ r ≡ hasRing (near among (rulesOf rules)) (rules .count) ⌝ }
 {
     if among == 0 {
@@ -123,15 +117,13 @@ fn may_ring(rules: Rules, among: u64) -> bool
     }
     let mut buckets = [0u32; 64];
     fill_buckets(&mut buckets, rules);
-    let mut rows = [0u64; 64];
-    let n = rules.count;
-    fill_near(&mut rows, &buckets, rules, among);
-    relation::has_ring(&rows, n)
+    fill_near(rows, &buckets, rules, among);
+    relation::has_ring(rows, rules.count)
 }
 
 // Whether rule is a < rule, and i and j reach each other.
-fn meets_at(rows: &[u64; 64], rule: Rule, i: usize, j: usize) -> bool
-    requires { ⌜ (i < 64) × (j < 64) ⌝ }
+fn meets_at(rows: &[u64], rule: Rule, i: usize, j: usize) -> bool
+    requires { ⌜ ((i < mostRules) × (j < mostRules)) × (length (now rows) ≡ mostRules) ⌝ }
     ensures { λ r. ⌜ r ≡ meetsBy rule (now (rows .entry)) i j ⌝ }
 {
     if rule.predicate != 2 {
@@ -143,33 +135,23 @@ fn meets_at(rows: &[u64; 64], rule: Rule, i: usize, j: usize) -> bool
     false
 }
 
-// Whether rule i is a > rule, and it and some < rule reach each other.
-fn meets_from(rows: &[u64; 64], rules: Rules, i: usize) -> bool
-    requires { ⌜ (rules .count ≤ mostRules) × (i < rules .count) ⌝ }
-    ensures { λ r. ⌜ r ≡ meetsFrom (rulesOf rules) (now (rows .entry)) i ⌝ }
-{
-    if rules.items[i].predicate != 1 {
-        return false;
-    }
-    let mut j: usize = 0;
-    while j < rules.count {
-        if meets_at(rows, rules.items[j], i, j) {
-            return true;
-        }
-        j += 1;
-    }
-    false
-}
-
 // Whether some > rule and some < rule reach each other.
-fn rules_meet(rows: &[u64; 64], rules: Rules) -> bool
-    requires { ⌜ rules .count ≤ mostRules ⌝ }
+fn rules_meet(rows: &[u64], rules: Rules) -> bool
+    requires { ⌜ (rules .count ≤ mostRules) × (length (now rows) ≡ mostRules) ⌝ }
     ensures { λ r. ⌜ r ≡ meets (rulesOf rules) (now (rows .entry)) ⌝ }
 {
     let mut i: usize = 0;
-    while i < rules.count {
-        if meets_from(rows, rules, i) {
-            return true;
+    'greater: while i < rules.count {
+        if rules.items[i].predicate != 1 {
+            i += 1;
+            continue 'greater;
+        }
+        let mut j: usize = 0;
+        'less: while j < rules.count {
+            if meets_at(rows, rules.items[j], i, j) {
+                return true;
+            }
+            j += 1;
         }
         i += 1;
     }
@@ -192,30 +174,25 @@ fn suspects(rules: Rules) -> u64
 }
 
 // Whether = rules lead round.
-fn equal_ring(rules: Rules) -> bool
-    requires { ⌜ rules .count ≤ mostRules ⌝ }
+fn equal_ring(rows: &mut [u64], rules: Rules) -> bool
+    requires { ⌜ (rules .count ≤ mostRules) × (length (now rows) ≡ mostRules) ⌝ }
     ensures { λ r. ⌜ r ≡ hasRing (equalLeads (rulesOf rules)) (rules .count) ⌝ }
 {
-    let among = having(rules, 0);
-    let mut rows = [0u64; 64];
-    let n = rules.count;
-    fill(&mut rows, rules, among);
-    relation::has_ring(&rows, n)
+    fill(rows, rules, having(rules, 0));
+    relation::has_ring(rows, rules.count)
 }
 
 // Whether rules lead round by way of a > and a < rule. Where nothing leads round, nothing is closed.
-fn mixed_ring(rules: Rules) -> bool
-    requires { ⌜ rules .count ≤ mostRules ⌝ }
+fn mixed_ring(rows: &mut [u64], rules: Rules) -> bool
+    requires { ⌜ (rules .count ≤ mostRules) × (length (now rows) ≡ mostRules) ⌝ }
     ensures { λ r. ⌜ r ≡ meets (rulesOf rules) (closed (rules .count) (rowsOf (leads (rulesOf rules)) (rules .count))) ⌝ }
 {
-    let mut rows = [0u64; 64];
-    let n = rules.count;
-    fill(&mut rows, rules, ALL);
-    if !relation::has_ring(&rows, n) {
+    fill(rows, rules, ALL);
+    if !relation::has_ring(rows, rules.count) {
         return false;
     }
-    relation::close(&mut rows, n);
-    rules_meet(&rows, rules)
+    relation::close(rows, rules.count);
+    rules_meet(rows, rules)
 }
 
 // Whether the rules are cyclic. Most sets are told by their names' lowest bits.
@@ -224,14 +201,15 @@ pub fn is_cyclic(rules: Rules) -> bool
     ensures { λ r. ⌜ r ≡ cyclic (rulesOf rules) ⌝ }
 {
     let among = suspects(rules);
-    if !may_ring(rules, among) {
+    let mut rows = [0u64; model::MOST_RULES];
+    if !may_ring(&mut rows, rules, among) {
         return false;
     }
-    if equal_ring(rules) {
+    if equal_ring(&mut rows, rules) {
         return true;
     }
     if among != ALL {
         return false;
     }
-    mixed_ring(rules)
+    mixed_ring(&mut rows, rules)
 }

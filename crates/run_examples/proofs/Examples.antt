@@ -554,9 +554,13 @@ narrow1 = given 7 1 1 0 3
 pub namesBegun : List Call
 namesBegun = onOwn (handIn wide258) ∷ onOwn (handIn wide257) ∷ onOwn (handIn narrow2) ∷ onOwn (handIn narrow1) ∷ onOwn step ∷ []
 
--- then 258, which needs nothing of 1, and then 1, since 2 needs it. Once 258 is stored, a 257 of an earlier epoch is late, and a 1 of that epoch is not
+-- then 258, which needs nothing of 1, and then 1, since 2 needs it. Once 258 is stored, a 257 of an earlier epoch is late, and a 1 of that epoch is not.
+-- A 2 needs no 257, of its epoch or an earlier one, and a 258 no 1 of its epoch: each is stored while these wait
 pub namesThen : List Call
-namesThen = onOwn step ∷ onOwn step ∷ onOwn (handIn (given 8 257 0 0 4)) ∷ onOwn (handIn (given 8 1 0 0 4)) ∷ onOwn drain ∷ []
+namesThen =
+    onOwn step ∷ onOwn step ∷ onOwn (handIn (given 8 257 0 0 4)) ∷ onOwn (handIn (given 8 1 0 0 4)) ∷ onOwn drain
+    ∷ onOwn (handIn (given 10 2 7 0 6)) ∷ onOwn (handIn (given 11 257 7 0 7)) ∷ onOwn (handIn (given 12 257 6 0 8)) ∷ onOwn step ∷ onOwn drain
+    ∷ onOwn (handIn (given 13 258 9 0 9)) ∷ onOwn (handIn (given 14 1 9 0 10)) ∷ onOwn step ∷ []
 
 names-read : readOf namesBytes ≡ answer (file namesRules [])
 unfolding namesBytes namesRules gave
@@ -583,11 +587,17 @@ run-names =
           also hand-in 9 2 1 0 5 (omega arith) (omega arith) (omega arith) (omega arith) (omega arith)
           also hand-in 7 1 1 0 3 (omega arith) (omega arith) (omega arith) (omega arith) (omega arith) also step-listed also step-listed also step-listed
           also hand-in 8 257 0 0 4 (omega arith) (omega arith) (omega arith) (omega arith) (omega arith)
-          also hand-in 8 1 0 0 4 (omega arith) (omega arith) (omega arith) (omega arith) (omega arith) also drain-listed also none;
+          also hand-in 8 1 0 0 4 (omega arith) (omega arith) (omega arith) (omega arith) (omega arith) also drain-listed
+          also hand-in 10 2 7 0 6 (omega arith) (omega arith) (omega arith) (omega arith) (omega arith)
+          also hand-in 11 257 7 0 7 (omega arith) (omega arith) (omega arith) (omega arith) (omega arith)
+          also hand-in 12 257 6 0 8 (omega arith) (omega arith) (omega arith) (omega arith) (omega arith) also step-listed also drain-listed
+          also hand-in 13 258 9 0 9 (omega arith) (omega arith) (omega arith) (omega arith) (omega arith)
+          also hand-in 14 1 9 0 10 (omega arith) (omega arith) (omega arith) (omega arith) (omega arith) also step-listed also none;
     }
 
 pub gave-names : gave namesRules (namesBegun ++ namesThen) (start namesBytes blank)
-    ≡ answer 1 ∷ answer 2 ∷ answer 3 ∷ answer 4 ∷ answer 2 ∷ answer 1 ∷ answer 4 ∷ refused 17 0 ∷ answer 5 ∷ answer 2 ∷ []
+    ≡ answer 1 ∷ answer 2 ∷ answer 3 ∷ answer 4 ∷ answer 2 ∷ answer 1 ∷ answer 4 ∷ refused 17 0 ∷ answer 5 ∷ answer 2
+    ∷ answer 6 ∷ answer 7 ∷ answer 8 ∷ answer 6 ∷ answer 2 ∷ answer 9 ∷ answer 10 ∷ answer 9 ∷ []
 unfolding gave namesRules namesBegun namesThen
 gave-names = ap (λ (s : List ℕ). gave namesRules (namesBegun ++ namesThen) (begun s blank)) names-state
 

@@ -115,7 +115,12 @@ impl Sources {
     pub fn load() -> Sources {
         let mut found = BTreeMap::new();
         for name in crates() {
-            for folder in ["src", "specs"] {
+            // Worked runs stand beside their computations.
+            let folders = match name.as_str() {
+                "run_examples" => vec!["src", "proofs"],
+                _ => vec!["src", "specs"],
+            };
+            for folder in folders {
                 for path in entries(&root().join("crates").join(&name).join(folder)) {
                     let file = path
                         .file_name()
@@ -155,6 +160,7 @@ impl Sources {
                 || *path == "file_encoding/specs/Examples.antt"
                 || *path == "judge_cases/specs/Examples.antt"
                 || *path == "judge_rows/specs/Examples.antt"
+                || *path == "run_examples/proofs/Examples.antt"
         };
         self.0.keys().filter(is).collect()
     }

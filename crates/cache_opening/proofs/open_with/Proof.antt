@@ -3,9 +3,6 @@ use Rattle.cache_opening.proofs.OpenSteps.{beginning}
 use Rattle.cache_opening.proofs.open_with.Statement.{statement}
 use Rattle.cache_opening.proofs.open_with.Tie as tie
 
-file-rules-requires : tie.Need-file-rules-requires
-file-rules-requires c κs = search beginning
-
 is-cyclic-requires : tie.Need-is-cyclic-requires
 is-cyclic-requires c κs = search beginning
 
@@ -31,7 +28,6 @@ pub open-with-spec : {M : Type 1} → statement M
 open-with-spec =
     tie.close
     (tie.spec
-    file-rules-requires
     is-cyclic-requires
     refuse-requires
     returns

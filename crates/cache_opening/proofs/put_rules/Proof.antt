@@ -1,18 +1,18 @@
--- `cache_opening::put_rules` meets its contract. The invariant: the count and the first i rules are written, and the next field's place is known.
+-- `cache_opening::put_rules` meets its contract. The invariant: the count and the first i rules are written.
 use Prim.Native.Nat.{_≤_, _-_}
 use mathlib.Core.Path.{_≡_}
-use lib.ListN.{length}
-use Rattle.file_format.specs.Scan.{fieldPlace, rulesAt}
+use lib.ListN.{length, take}
 use Rattle.cache_model.specs.State.{stateSize}
-use Rattle.cache_opening.proofs.OpenSteps.{written, putting}
+use Rattle.cache_opening.proofs.OpenSteps.{written}
+use Rattle.cache_opening.proofs.OpenSteps.{putting, rules-more}
 use Rattle.cache_opening.proofs.put_rules.Statement.{statement}
 use Rattle.cache_opening.proofs.put_rules.Tie as tie
 
 abbrev Inv-loop : tie.InvT-loop
-Inv-loop state₀ file n at₀ i₀ state at i = (i ≤ n) × (length state ≡ stateSize) × (at ≡ fieldPlace file 0 i) × (state ≡ written n (rulesAt file i))
+Inv-loop state₀ rules i₀ state i = (i ≤ rules .count) × (length state ≡ stateSize) × (state ≡ written (rules .count) (take i (rules .items)))
 
 abbrev μ-loop : tie.MeasureT-loop
-μ-loop state₀ file n at₀ i₀ state at i = n - i
+μ-loop state₀ rules i₀ state i = rules .count - i
 
 cast-state : tie.Need-cast-state Inv-loop μ-loop
 cast-state c = search putting
@@ -26,14 +26,14 @@ loop-holds c = search putting
 rule-place-requires : tie.Need-rule-place-requires Inv-loop μ-loop
 rule-place-requires c κs = search putting
 
-rule-at-requires : tie.Need-rule-at-requires Inv-loop μ-loop
-rule-at-requires c κs = search putting
+mul-put-rule : tie.Need-mul-put-rule Inv-loop μ-loop
+mul-put-rule c = search putting
+
+element-copy-out-put-rule : tie.Need-element-copy-out-put-rule Inv-loop μ-loop
+element-copy-out-put-rule c = search putting
 
 put-rule-requires : tie.Need-put-rule-requires Inv-loop μ-loop
 put-rule-requires c κs = search putting
-
-end-of-requires : tie.Need-end-of-requires Inv-loop μ-loop
-end-of-requires c κs = search putting
 
 add-i : tie.Need-add-i Inv-loop μ-loop
 add-i c = search putting
@@ -42,7 +42,11 @@ loop-less : tie.Need-loop-less Inv-loop μ-loop
 loop-less c = search putting
 
 loop-again : tie.Need-loop-again Inv-loop μ-loop
-loop-again c = search putting
+loop-again c = (
+  search putting,
+  search putting,
+  rules-more _ _ _ _ _ (c .before .before .put-rule .ensures) (c .before .before .before .before .rule-place .ensures) (c .before .before .before .before .before .before .before .loop .inv .2) (search putting) (c .before .before .before .before .before .before .before .before .before .pre .0) (search putting),
+)
 
 same-length : tie.Need-same-length Inv-loop μ-loop
 same-length c = search putting
@@ -60,9 +64,9 @@ put-rules-spec =
     slice-write-state
     loop-holds
     rule-place-requires
-    rule-at-requires
+    mul-put-rule
+    element-copy-out-put-rule
     put-rule-requires
-    end-of-requires
     add-i
     loop-less
     loop-again

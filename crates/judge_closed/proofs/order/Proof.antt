@@ -3,6 +3,9 @@ use Rattle.judge_closed.proofs.OrderLaws.{ordering}
 use Rattle.judge_closed.proofs.order.Statement.{statement}
 use Rattle.judge_closed.proofs.order.Tie as tie
 
+slice-aggregate-close : tie.Need-slice-aggregate-close
+slice-aggregate-close c = search ordering
+
 close-requires : tie.Need-close-requires
 close-requires c κs = search ordering
 
@@ -16,4 +19,11 @@ returns : tie.Need-returns
 returns c = search ordering
 
 pub order-spec : {M : Type 1} → statement M
-order-spec = tie.close (tie.spec close-requires fill-dependencies-requires fill-dependents-requires returns)
+order-spec =
+    tie.close
+    (tie.spec
+    slice-aggregate-close
+    close-requires
+    fill-dependencies-requires
+    fill-dependents-requires
+    returns)

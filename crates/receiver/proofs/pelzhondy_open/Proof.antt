@@ -21,6 +21,9 @@ refuse-requires-2 c κs = search opening
 returns-2 : tie.Need-returns-2
 returns-2 c = search opening
 
+file-rules-requires : tie.Need-file-rules-requires
+file-rules-requires c κs = search opening
+
 open-with-requires : tie.Need-open-with-requires
 open-with-requires c κs = search opening
 
@@ -49,6 +52,7 @@ pelzhondy-open-spec =
     enum-known-scan
     refuse-requires-2
     returns-2
+    file-rules-requires
     open-with-requires
     enum-known-scan-2
     code-of-requires

@@ -1,13 +1,14 @@
 -- `relation::close` meets its contract. The invariant: the rows are closed by way of the numbers below k.
 use mathlib.Core.Path.{_≡_}
 use Prim.Native.Nat.{_≤_, _-_}
+use lib.ListN.{length, take}
 use Rattle.relation.specs.Finite.{closed}
 use Rattle.relation.proofs.ClosureSteps.{steps}
 use Rattle.relation.proofs.close.Statement.{statement}
 use Rattle.relation.proofs.close.Tie as tie
 
 abbrev Inv-loop : tie.InvT-loop
-Inv-loop rows₀ n k₀ rows k = (k ≤ n) × (rows ≡ closed k rows₀)
+Inv-loop rows₀ n k₀ rows k = (k ≤ n) × (length rows ≡ length rows₀) × (take n rows ≡ take n (closed k rows₀))
 
 abbrev μ-loop : tie.MeasureT-loop
 μ-loop rows₀ n k₀ rows k = n - k
@@ -27,10 +28,13 @@ loop-less c = search steps
 loop-again : tie.Need-loop-again Inv-loop μ-loop
 loop-again c = search steps
 
+same-length : tie.Need-same-length Inv-loop μ-loop
+same-length c = search steps
+
 returns : tie.Need-returns Inv-loop μ-loop
 returns c = search steps
 
 pub close-spec : {M : Type 1} → statement M
 close-spec =
     tie.close
-    (tie.spec Inv-loop μ-loop loop-holds join-all-requires add-k loop-less loop-again returns)
+    (tie.spec Inv-loop μ-loop loop-holds join-all-requires add-k loop-less loop-again same-length returns)

@@ -8,10 +8,10 @@ use Rattle.relation.proofs.join_all.Statement.{statement}
 use Rattle.relation.proofs.join_all.Tie as tie
 
 abbrev Inv-loop : tie.InvT-loop
-Inv-loop rows₀ k through i₀ rows i = (i ≤ 64) × (length rows ≡ 64) × (rows ≡ mapped (joined k through) rows₀ i)
+Inv-loop rows₀ k n through i₀ rows i = (i ≤ n) × (length rows ≡ length rows₀) × (rows ≡ mapped (joined k through) rows₀ i)
 
 abbrev μ-loop : tie.MeasureT-loop
-μ-loop rows₀ k through i₀ rows i = 64 - i
+μ-loop rows₀ k n through i₀ rows i = n - i
 
 mul-through : tie.Need-mul-through Inv-loop μ-loop
 mul-through c = search steps

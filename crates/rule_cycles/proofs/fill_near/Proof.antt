@@ -2,6 +2,7 @@
 use mathlib.Core.Path.{_≡_}
 use Prim.Native.Nat.{_≤_, _-_}
 use lib.ListN.{length, take}
+use Rattle.model.specs.Limits.{mostRules}
 use Rattle.rule_match.specs.Held.{rulesOf}
 use Rattle.rule_cycles.specs.Links.{near}
 use Rattle.rule_cycles.proofs.CycleSteps.{steps, filled}
@@ -9,7 +10,7 @@ use Rattle.rule_cycles.proofs.fill_near.Statement.{statement}
 use Rattle.rule_cycles.proofs.fill_near.Tie as tie
 
 abbrev Inv-loop : tie.InvT-loop
-Inv-loop rows₀ buckets among rules i₀ rows i = (i ≤ rules .count) × (length rows ≡ 64) × (take i rows ≡ filled (near among (rulesOf rules)) (rules .count) i)
+Inv-loop rows₀ buckets among rules i₀ rows i = (i ≤ rules .count) × (length rows ≡ mostRules) × (take i rows ≡ filled (near among (rulesOf rules)) (rules .count) i)
 
 abbrev μ-loop : tie.MeasureT-loop
 μ-loop rows₀ buckets among rules i₀ rows i = rules .count - i

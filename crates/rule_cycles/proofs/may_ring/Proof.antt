@@ -15,17 +15,14 @@ fill-buckets-requires c κs = search steps
 slice-aggregate-fill-near : tie.Need-slice-aggregate-fill-near
 slice-aggregate-fill-near c = search steps
 
-slice-aggregate-fill-near-2 : tie.Need-slice-aggregate-fill-near-2
-slice-aggregate-fill-near-2 c = search steps
-
 fill-near-requires : tie.Need-fill-near-requires
 fill-near-requires c κs = search steps
 
-slice-aggregate-has-ring : tie.Need-slice-aggregate-has-ring
-slice-aggregate-has-ring c = search steps
-
 has-ring-requires : tie.Need-has-ring-requires
 has-ring-requires c κs = search steps
+
+same-length : tie.Need-same-length
+same-length c = search steps
 
 returns-2 : tie.Need-returns-2
 returns-2 c = search steps
@@ -38,8 +35,7 @@ may-ring-spec =
     slice-aggregate-fill-buckets
     fill-buckets-requires
     slice-aggregate-fill-near
-    slice-aggregate-fill-near-2
     fill-near-requires
-    slice-aggregate-has-ring
     has-ring-requires
+    same-length
     returns-2)

@@ -9,8 +9,8 @@ returns c = search steps
 mul-has-bit : tie.Need-mul-has-bit
 mul-has-bit c = search steps
 
-element-copy-out-has-bit : tie.Need-element-copy-out-has-bit
-element-copy-out-has-bit c = search steps
+shared-slice-read-has-bit : tie.Need-shared-slice-read-has-bit
+shared-slice-read-has-bit c = search steps
 
 has-bit-requires : tie.Need-has-bit-requires
 has-bit-requires c κs = search steps
@@ -18,8 +18,8 @@ has-bit-requires c κs = search steps
 mul-has-bit-2 : tie.Need-mul-has-bit-2
 mul-has-bit-2 c = search steps
 
-element-copy-out-has-bit-2 : tie.Need-element-copy-out-has-bit-2
-element-copy-out-has-bit-2 c = search steps
+shared-slice-read-has-bit-2 : tie.Need-shared-slice-read-has-bit-2
+shared-slice-read-has-bit-2 c = search steps
 
 has-bit-requires-2 : tie.Need-has-bit-requires-2
 has-bit-requires-2 c κs = search steps
@@ -36,10 +36,10 @@ meets-at-spec =
     (tie.spec
     returns
     mul-has-bit
-    element-copy-out-has-bit
+    shared-slice-read-has-bit
     has-bit-requires
     mul-has-bit-2
-    element-copy-out-has-bit-2
+    shared-slice-read-has-bit-2
     has-bit-requires-2
     returns-2
     returns-3)

@@ -1,4 +1,4 @@
--- `rule_cycles::row` meets its contract: one law for each of its returns.
+-- `rule_cycles::row` meets its contract: a row has what a rule of the set leads to in the set.
 use Rattle.rule_cycles.proofs.CycleSteps.{steps}
 use Rattle.rule_cycles.proofs.row.Statement.{statement}
 use Rattle.rule_cycles.proofs.row.Tie as tie
@@ -9,25 +9,8 @@ has-bit-requires c κs = search steps
 returns : tie.Need-returns
 returns c = search steps
 
-mul-starting : tie.Need-mul-starting
-mul-starting c = search steps
-
-element-copy-out-starting : tie.Need-element-copy-out-starting
-element-copy-out-starting c = search steps
-
-starting-requires : tie.Need-starting-requires
-starting-requires c κs = search steps
-
 returns-2 : tie.Need-returns-2
 returns-2 c = search steps
 
 pub row-spec : {M : Type 1} → statement M
-row-spec =
-    tie.close
-    (tie.spec
-    has-bit-requires
-    returns
-    mul-starting
-    element-copy-out-starting
-    starting-requires
-    returns-2)
+row-spec = tie.close (tie.spec has-bit-requires returns returns-2)
