@@ -106,8 +106,9 @@ fn fill_near(rows: &mut [u64], buckets: &[u32], rules: Rules, among: u64)
     }
 }
 
-// Whether rules of a set may lead round, in a table lent for it; told by the lowest bits of their names. Where they may not, there is
+// Whether rules of a set may lead round, told by the lowest bits of their names. Where they may not, there is
 // no ring of = rules, nor one of a > and a < rule; where they may, names have to be compared, each with each.
+// (This and the next two are lent one table to work in, whatever it holds.)
 fn may_ring(rows: &mut [u64], rules: Rules, among: u64) -> bool
     requires { ⌜ (rules .count ≤ mostRules) × (length (now rows) ≡ mostRules) ⌝ }
     ensures { λ r. ⌜ r ≡ hasRing (near among (rulesOf rules)) (rules .count) ⌝ }
