@@ -46,7 +46,7 @@ fn place(c: Rules, rule: Rule) -> usize
     k
 }
 
-// A rule put behind the first k. (The others are copied one by one: a set that is handed on is copied whole.)
+// A rule put behind the first k. (In one copy of the set, and not in one for each rule that moves up.)
 fn splice(c: Rules, k: usize, rule: Rule) -> Rules
     requires { ⌜ (c .count < mostRules) × (k ≤ c .count) ⌝ }
     ensures { λ r. ⌜ (rulesOf r ≡ take k (rulesOf c) ++ (rule ∷ drop k (rulesOf c))) × (r .count ≡ c .count + 1) ⌝ }

@@ -34,7 +34,7 @@ use Rattle.rule_match.specs.Held.{itemAt, rulesOf}
 use Rattle.rule_cycles.specs.Links.{starts, linked, inBucket, Buckets, near, everything, Suspects, meetsBy, meetsFrom}
 use Rattle.rule_match.proofs.MatchSteps.{length-mapped, held-at, held-length}
 
--- ---- having, starting: a mask made rule by rule
+-- ---- having, and what a rule leads to: a mask made rule by rule
 
 pub having-more : (rules : Rules) (p i mask next : ℕ) → i < rules .count → mask ≡ maskOf (has (rulesOf rules) p) i
     → next ≡ cond (eqb (itemAt rules i .predicate) p) (withBit mask i) mask → next ≡ maskOf (has (rulesOf rules) p) (i + 1)

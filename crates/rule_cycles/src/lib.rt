@@ -13,7 +13,7 @@ ghost use Rattle.relation.specs.Finite.{rowsOf, closed, hasRing};
 ghost use Rattle.model.specs.Limits.{mostRules};
 ghost use Rattle.model.specs.Cyclic.{leads, has, equalLeads, meets, cyclic};
 ghost use Rattle.rule_match.specs.Held.{rulesOf};
-ghost use Rattle.rule_cycles.specs.Links.{starts, linked, Buckets, near, Suspects, meetsBy, meetsFrom};
+ghost use Rattle.rule_cycles.specs.Links.{linked, Buckets, near, Suspects, meetsBy};
 
 // All numbers below 64, and so all rules.
 const ALL: u64 = 18446744073709551615;
@@ -108,7 +108,7 @@ fn fill_near(rows: &mut [u64], buckets: &[u32], rules: Rules, among: u64)
 
 // Whether rules of a set may lead round, told by the lowest bits of their names. Where they may not, there is
 // no ring of = rules, nor one of a > and a < rule; where they may, names have to be compared, each with each.
-// (This and the next two are lent one table to work in, whatever it holds.)
+// (It, equal_ring and mixed_ring are lent one table to work in, whatever it holds.)
 fn may_ring(rows: &mut [u64], rules: Rules, among: u64) -> bool
     requires { ⌜ (rules .count ≤ mostRules) × (length (now rows) ≡ mostRules) ⌝ }
     ensures { λ r. ⌜ r ≡ hasRing (near among (rulesOf rules)) (rules .count) ⌝ }

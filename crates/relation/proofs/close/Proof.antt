@@ -1,4 +1,4 @@
--- `relation::close` meets its contract. The invariant: the rows are closed by way of the numbers below k.
+-- `relation::close` meets its contract. The invariant: the first n rows are closed by way of the numbers below k.
 use mathlib.Core.Path.{_≡_}
 use Prim.Native.Nat.{_≤_, _-_}
 use lib.ListN.{length, take}
