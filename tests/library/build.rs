@@ -16,8 +16,6 @@ const LIBRARIES: [(&str, &[(&str, bool)]); 2] = [
             ("cyclic", true),
             ("judge", true),
             ("verdict", true),
-            ("judge_storable", true),
-            ("verdict_storable", true),
             ("judge_lines", true),
             ("find", true),
             ("trace", true),

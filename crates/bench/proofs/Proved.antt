@@ -25,10 +25,9 @@ use Rattle.model.specs.Rules.{stands, matches, depends_on, known}
 use Rattle.model.specs.Cyclic.{no_rule, leads, has, equal_leads, meets, cyclic}
 use Rattle.model.specs.Schedule.{store, run, written, no_write, valid}
 use Rattle.model.specs.Check.{damaged, range_holds, holds, consistent}
-use Rattle.relation.specs.Count.{count_below}
-use Rattle.model.specs.Test.{Test, File, file, initial_disk, Bad, bad, test_holds, smallest_bad, shown_of, schedules, valid_count, bad_count}
+use Rattle.model.specs.Test.{Test, File, file, initial_disk, Bad, bad, test_holds, smallest_bad, shown_of, schedules, count_below, valid_count, bad_count}
 use Rattle.model.specs.Find.{before, picked, pairing, inserted, from_write, from_trace, candidates_of, suffices, preferred, chosen}
-use Rattle.relation.proofs.CountLaws.{count-all}
+use Rattle.model.proofs.CountLaws.{count-all}
 use Rattle.model.proofs.TestLaws.{bad-true, true-bad, bad-fails, count-holds, computed_smallest}
 use Rattle.file_format.specs.Bytes.{half, word, block_in, narrow_write_bytes, wide_write_bytes, narrow_rule_bytes, wide_rule_bytes}
 use Rattle.file_format.specs.Encode.{field_bytes, rule_field_bytes, rule_fields, write_field_bytes, write_fields, check_field_bytes, check_fields, test_bytes, tests_bytes, file_bytes}
@@ -37,8 +36,7 @@ use Rattle.rule_cyclelaws.proofs.Examples.{K5-not-cyclic, K6-cyclic}
 use Rattle.judge_search.specs.Verdict.{verdict_by}
 use Rattle.judge_cases.specs.Judge.{Case, case_of, case_in, judgement_of, verdict_of}
 use Rattle.judge_cases.specs.Examples.{four_not_three, nothing_stored}
-use Rattle.judge_storable.specs.Judge.{ringless, storable_case_in, storable_judgement, storable_verdict}
-use Rattle.judge_answers.specs.Judged.{judgement_code, verdict_code, judge_answer_by, verdict_answer_by, judge_answer, judge_storable_answer}
+use Rattle.judge_answers.specs.Judged.{judgement_code, verdict_code, judge_answer, verdict_answer}
 use Rattle.log_get.specs.Puts.{start, after, put_writes, writes_of, after_all, log_test, puts_of, empty_put, Traced, traced, trace_of}
 use Rattle.log_get.specs.Get.{keyed, get_from, get_of}
 use Rattle.log_get.specs.Theorem.{filled, Meets}
@@ -47,13 +45,12 @@ use Rattle.judge_text.specs.Decimal.{decimal_with, decimal}
 use Rattle.judge_text.specs.Lines.{refused_line, test_line, lines, text_of, program_text}
 use Rattle.find_candidates.specs.Tests.{too_long}
 use Rattle.find_call.specs.Finder.{Found, found, found_length, over, wrote, find_among, find_in, find_of}
-use Rattle.model.specs.Storable.{storable}
 use Rattle.model.specs.Needs.{needs, needs_ring, met, ready_from, ready, late}
 use Rattle.cache_model.specs.Entries.{flag_at, flag_count}
 use Rattle.cache_model.specs.State.{rule_in, write_in, rules_in, writes_in, stored_in, entries_in, bytes_each, entry_bytes, front, back, state_of, opened, handed, marked, stored_on}
 use Rattle.cache_model.specs.Sound.{same, layout, ruled, needs_hold, sound}
 use Rattle.cache_model.specs.Calls.{open_with, open_of, hand_in_of, storing, checked, stepped, step_of}
-use Rattle.bench.specs.Sheet.{FindingAll, logged, mixed-K, sixteen, waits, put, K, K3-rules, together, Finding, RangeAt, Call, call, Gave, gave, calls, blank, Calling, Sheet, K-initial, K-main, Unstarred, trimmed, long, puts, K10_case, Requested}
+use Rattle.bench.specs.Sheet.{FindingAll, logged, mixed-K, sixteen, waits, put, K, K3-rules, together, Finding, RangeAt, Call, call, Gave, gave, calls, blank, Calling, Sheet, K-initial, K-main, Unstarred, trimmed, long, puts, Requested}
 
 -- ---- what the lines are computed by: to unfold one of these is to unfold all that it unfolds
 
@@ -231,13 +228,8 @@ all_valid t = count-all (valid [] t.main) (schedules t) (unruled t.main)
 
 -- a case of [4], its file and its answers
 shows : Case → ℕ
-unfolding case_read four_not_three nothing_stored K10_case judge_answer_by verdict_answer_by judgement_code verdict_code judgement_of verdict_of verdict_by shown_of
+unfolding case_read four_not_three nothing_stored judge_answer verdict_answer judgement_code verdict_code judgement_of verdict_of verdict_by shown_of
 shows c = judge_answer (answer c)
-
--- by the second judgement
-shows_storable : Case → ℕ
-unfolding shows storable_case_in ringless storable_judgement storable_verdict storable needs needs_ring
-shows_storable c = judge_storable_answer (answer c)
 
 -- files byte by byte
 spelt : List ℕ → Outcome File
@@ -288,10 +280,4 @@ requested =
       K_300 = finding _ _ (unfold named in refl) (unfold named in refl) (λ buffer. unfold named in refl);
       longest-file = (refl, refl);
       buffer_127 = (λ buffer e. finding_short _ _ (unfold named in refl) (unfold named in refl) (omega arith), refl);
-      K-storable = (
-        (unfold shows_storable in refl, unfold shows_storable in refl, unfold shows_storable in refl),
-        (unfold shows_storable in refl, unfold shows_storable in refl, unfold shows_storable in refl),
-        (unfold shows_storable in refl, unfold shows_storable in refl, unfold shows_storable in refl),
-      );
-      K10-storable = (unfold shows_storable in refl, (unfold shows in refl, unfold shows in refl, unfold shows in refl));
     }

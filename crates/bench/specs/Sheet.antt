@@ -19,8 +19,7 @@ use Rattle.file_format.specs.File.{read_of}
 use Rattle.file_reader.specs.Limits.{longest, longest_field}
 use Rattle.judge_cases.specs.Judge.{Case, case_in}
 use Rattle.judge_cases.specs.Examples.{four_not_three, nothing_stored}
-use Rattle.judge_storable.specs.Judge.{storable_case_in}
-use Rattle.judge_answers.specs.Judged.{judge_answer, verdict_answer, judge_storable_answer, verdict_storable_answer}
+use Rattle.judge_answers.specs.Judged.{judge_answer, verdict_answer}
 use Rattle.log_get.specs.Puts.{Put, start, writes_of, log_test, traced, trace_of}
 use Rattle.log_get.specs.Get.{get_of}
 use Rattle.log_get.specs.Theorem.{filled, Meets}
@@ -223,19 +222,6 @@ abbrev pub Shows : Case → ℕ → ℕ → Type 0
 Shows c judged decided =
     (case_in (file_bytes (file c.rules (c.test ∷ []))) 1 ≡ answer c) × (judge_answer (answer c) ≡ judged) × (verdict_answer (answer c) ≡ decided)
 
--- the same by the second judgement
-abbrev pub ShowsStorable : Case → ℕ → ℕ → Type 0
-ShowsStorable c judged decided =
-    (storable_case_in (file_bytes (file c.rules (c.test ∷ []))) 1 ≡ answer c) × (judge_storable_answer (answer c) ≡ judged) × (verdict_storable_answer (answer c) ≡ decided)
-
--- test K under these rules
-abbrev pub K-under : List Rule → Case
-K-under rules = record { rules = rules; test = K }
-
--- K10's two writes to one address as a test, under its rule, which is the other way round
-unfoldable pub K10_case : Case
-K10_case = record { rules = K10-rules; test = test [] (named1 5 1 ∷ named1 5 2 ∷ []) [] }
-
 -- test K, whose log blocks have this name
 unfoldable pub logged : ℕ → Test
 logged name =
@@ -327,7 +313,3 @@ pub record Requested : Type 0 where
   pub longest-file : (longest ≡ 22448) × (longest + longest_field ≡ 22462)
   -- the buffer of find must have 128 bytes, also where all names are small
   pub buffer_127 : ((buffer : List ℕ) → length buffer ≡ 127 → find_of (file_bytes (file [] (K ∷ []))) buffer ≡ found (refused 12 0) buffer) × (found_length ≡ 128)
-  -- [10] by the second judgement test K with only (2,=,1) gives 7 and 0, as it does with both rules; without rules 12 schedules count and 5 are bad, the first superblock alone
-  pub K-storable : ShowsStorable (K-under K3-rules) 7 0 × ShowsStorable (K-under K1-rules) 7 0 × ShowsStorable (K-under []) (12 + 2 ^ 21 * 5 + 2 ^ 42 * 2) 3
-  -- two writes to one address with a rule the other way round: 27; by the first judgement they are judged, 3 valid and none bad
-  pub K10-storable : (storable_case_in (file_bytes (file K10_case.rules (K10_case.test ∷ []))) 1 ≡ refused 27 0) × Shows K10_case 3 0

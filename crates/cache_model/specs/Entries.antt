@@ -6,7 +6,7 @@ use Rattle.model.specs.Limits.{most_rules, most_held}
 use Rattle.model.specs.Rules.{Known}
 use Rattle.model.specs.Cyclic.{Cyclic}
 use Rattle.model.specs.Schedule.{no_write}
-use Rattle.relation.specs.Count.{count_below}
+use Rattle.model.specs.Test.{count_below}
 use Rattle.model.specs.Needs.{Needs, NeedsRing}
 
 -- a write that is *accepted*; *stored* if flagged, *waiting* if not

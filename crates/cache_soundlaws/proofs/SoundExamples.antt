@@ -14,7 +14,7 @@ use Rattle.model.specs.Answer.{answer}
 use Rattle.model.specs.Rules.{stands, matches, depends_on, known}
 use Rattle.model.specs.Cyclic.{no_rule, leads, has, equal_leads, meets, cyclic}
 use Rattle.model.specs.Schedule.{no_write}
-use Rattle.relation.specs.Count.{count_below}
+use Rattle.model.specs.Test.{count_below}
 use Rattle.file_format.specs.Bytes.{half, word, disk_length, wide_write_bytes, wide_rule_bytes}
 use Rattle.file_format.specs.Encode.{WriteFits}
 use Rattle.file_format.specs.File.{wide_rule, wide_write}

@@ -13,7 +13,7 @@ use Rattle.relation.proofs.ListLaws.{untrue}
 use Rattle.model.specs.Limits.{most_held}
 use Rattle.model.specs.declared.Write.{Write}
 use Rattle.model.specs.Answer.{answer, refused}
-use Rattle.relation.proofs.CountLaws.{count_none}
+use Rattle.model.proofs.CountLaws.{count_none}
 use Rattle.file_format.specs.Bytes.{disk_length}
 use Rattle.file_format.specs.Encode.{WriteFits}
 use Rattle.model.specs.Needs.{NeedsRing, Earliest, Late, needs_ring, ready, late}

@@ -5,8 +5,7 @@ use Rattle.model.specs.Limits.{most_held}
 use Rattle.model.specs.declared.Write.{Write}
 use Rattle.model.specs.Answer.{answer, refused}
 use Rattle.model.specs.Cyclic.{Cyclic}
-use Rattle.relation.specs.Count.{count_below}
-use Rattle.model.specs.Test.{File}
+use Rattle.model.specs.Test.{File, count_below}
 use Rattle.file_format.specs.Bytes.{disk_length}
 use Rattle.file_format.specs.File.{read_of}
 use Rattle.file_format.specs.Encode.{WriteFits}

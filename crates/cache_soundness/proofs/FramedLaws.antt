@@ -8,7 +8,7 @@ use lib.Dec.{eqb}
 use lib.ListN.{length}
 use borrow.Author.Tests.{eqb-true, eq-eqb, leb-true, le-leb}
 use Rattle.relation.proofs.ListLaws.{and_intro, all_below-true, all_below_intro, bool_equal}
-use Rattle.relation.specs.Count.{count_below}
+use Rattle.model.specs.Test.{count_below}
 use Rattle.file_format.specs.Bytes.{byte}
 use Rattle.cache_model.specs.State.{state_size, writes_start, rule_count, accepted_count, stored_count, rule_base, write_base, stored_in}
 use Rattle.cache_model.specs.Sound.{layout}

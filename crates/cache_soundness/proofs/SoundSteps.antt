@@ -21,11 +21,11 @@ use Rattle.model.specs.Limits.{most_rules, most_held}
 use Rattle.model.specs.declared.Write.{Write}
 use Rattle.model.specs.Rules.{known}
 use Rattle.model.specs.Cyclic.{cyclic}
-use Rattle.relation.specs.Count.{count_below}
+use Rattle.model.specs.Test.{count_below}
 use Rattle.model.specs.Needs.{needs_ring, met}
 use Rattle.model.specs.Needs as cache
 use Rattle.model.proofs.NeedsLaws.{Alike, alike-rows}
-use Rattle.relation.proofs.CountLaws.{count_members, count_ext}
+use Rattle.model.proofs.CountLaws.{count_members, count_ext}
 use Rattle.file_format.specs.Bytes.{byte}
 use Rattle.rule_match.specs.declared.Rules.{Rules}
 use Rattle.rule_match.specs.Held.{rules_of}

@@ -4,7 +4,7 @@ ghost use Rattle.relation.specs.Bits.{mask_of};
 ghost use Rattle.relation.specs.Lists.{all_below};
 ghost use Rattle.model.specs.Limits.{most_rules, most_held};
 ghost use Rattle.model.specs.Rules.{known};
-ghost use Rattle.relation.specs.Count.{count_below};
+ghost use Rattle.model.specs.Test.{count_below};
 ghost use Rattle.rule_match.specs.Held.{rules_of};
 ghost use Rattle.cache_model.specs.State.{state_size, accepted_count, stored_count, stored_in};
 ghost use Rattle.cache_model.specs.Sound.{ruled, needs_hold};

@@ -14,8 +14,8 @@ use Rattle.model.specs.Limits.{most_rules, most_held}
 use Rattle.model.specs.declared.Write.{Write}
 use Rattle.model.specs.declared.Rule.{Rule}
 use Rattle.model.specs.Schedule.{no_write}
-use Rattle.relation.specs.Count.{count_below}
-use Rattle.relation.proofs.CountLaws.{count_ext}
+use Rattle.model.specs.Test.{count_below}
+use Rattle.model.proofs.CountLaws.{count_ext}
 use Rattle.file_format.specs.Bytes.{byte, Small, wide_write_bytes, wide_rule_bytes}
 use Rattle.file_format.specs.File.{wide_rule_length, wide_write_length, wide_write}
 use Rattle.file_format.specs.Encode.{WriteFits}

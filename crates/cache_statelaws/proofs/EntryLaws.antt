@@ -11,9 +11,10 @@ use lib.ListN.{length, get_or, length-append, length-set, length-map, get_or-app
 use lib.Seq.{get_or_at, get_or-set_same, get_or-set_other, map-set_same}
 use Rattle.model.specs.declared.Write.{Write}
 use Rattle.model.specs.Schedule.{no_write, write_at}
-use Rattle.relation.specs.Count.{count_below}
-use Rattle.relation.proofs.CountLaws.{count_ext, count-one-more}
+use Rattle.model.specs.Test.{count_below}
+use Rattle.model.proofs.CountLaws.{count_ext}
 use Rattle.cache_model.specs.Entries.{Entry, entry, accepted, flag_at, flag_count, appended, flagging}
+use Rattle.cache_statelaws.proofs.GeneralLaws.{count-one-more}
 
 pub length-accepted : (b : List Entry) → length (accepted b) ≡ length b
 length-accepted b = length-map b (λ e. e.write)

@@ -1,4 +1,4 @@
--- General facts on lists and counts: parts of lists whose elements agree, elements after several are set, those that pass a test and those that do not.
+-- General facts on lists and counts: parts of lists whose elements agree, elements after several are set, one more that passes a test.
 use mathlib.Core.Path.{◌≡◌, refl, sym, ap, ◌∙◌}
 use mathlib.Core.Logic.{◌≢◌, ◌⊎◌, inl, inr, ⊎_elim}
 use mathlib.Core.Bool.{Bool, true, false, cond, not}
@@ -8,8 +8,9 @@ use native.Mathlib.Omega.{arith}
 use lib.ListN.{length, get_or, take, drop, set, replicate, length-drop, length-set, length-replicate}
 use lib.Seq.{sets, sets-eq, ext_get_or, length-take-le, get_or-take, get_or-drop, get_or-set_same, get_or-set_other}
 use Rattle.relation.specs.Lists.{tabulate}
-use Rattle.relation.proofs.ListLaws.{length-tabulate, get_d_tabulate}
-use Rattle.relation.specs.Count.{count_below}
+use Rattle.relation.proofs.ListLaws.{length-tabulate, get_d_tabulate, below_suc}
+use Rattle.model.specs.Test.{count_below}
+use Rattle.model.proofs.CountLaws.{count_ext}
 
 -- ---- lists
 
@@ -90,6 +91,20 @@ rest-zero s k n e l h =
     get_or-drop k s i 0 ∙ h (k + i) (omega arith) (omega arith) ∙ sym (get_d_zeros (n - k) i))
 
 -- ---- counts
+
+-- one more passes
+pub count-one-more : (p q : ℕ → Bool) (i n : ℕ) → i < n → p i ≡ false → q i ≡ true → ((j : ℕ) → j ≢ i → q j ≡ p j) → count_below q n ≡ count_below p n + 1
+unfolding count_below
+count-one-more p q i zero h a c e = absurd (omega arith)
+count-one-more p q i (suc n) h a c e = ⊎_elim
+    (λ (z : i ≡ n).
+    let a' : p n ≡ false = rw z at a in
+    let c' : q n ≡ true = rw z at c in
+    rw (a', c', count_ext q p n (λ j l. e j (λ (y : j ≡ i). absurd (omega arith)))) (omega arith))
+    (λ (l : i < n).
+    let ih = count-one-more p q i n l a c e in
+    rw (e n (λ (y : n ≡ i). absurd (omega arith)), ih) (omega arith))
+    (below_suc i n h)
 
 -- those that pass and those that do not
 pub count-split : (p : ℕ → Bool) (n : ℕ) → count_below p n + count_below (λ i. not (p i)) n ≡ n

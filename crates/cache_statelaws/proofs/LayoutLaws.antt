@@ -17,7 +17,7 @@ use Rattle.model.specs.declared.Write.{Write}
 use Rattle.model.specs.declared.Rule.{Rule}
 use Rattle.model.specs.Cyclic.{no_rule}
 use Rattle.model.specs.Schedule.{no_write, write_at}
-use Rattle.relation.specs.Count.{count_below}
+use Rattle.model.specs.Test.{count_below}
 use Rattle.file_format.specs.Bytes.{byte, wide_write_bytes, wide_rule_bytes}
 use Rattle.file_format.specs.File.{wide_rule_length, wide_write_length, wide_write}
 use Rattle.file_encoding.proofs.PartLaws.{wide-words-back, wide-rule-back}

@@ -18,7 +18,7 @@ use Rattle.model.specs.Rules.{known}
 use Rattle.model.specs.Cyclic.{cyclic}
 use Rattle.model.specs.Schedule.{no_write}
 use Rattle.model.specs.Needs.{Needs, needs, needs_ring, met}
-use Rattle.relation.proofs.CountLaws.{count_most}
+use Rattle.model.proofs.CountLaws.{count_most}
 use Rattle.model.proofs.RuleLaws.{known-true, true-known}
 use Rattle.model.proofs.NeedsLaws.{needs-true, true-needs, needs_ring-true, true-needs_ring}
 use Rattle.model.proofs.ReadyLaws.{needs-left, needs_right}

@@ -5,7 +5,7 @@ use mathlib.Core.List.{List, [], Memᴰ}
 use Rattle.model.specs.Limits.{most_rules, most_held}
 use Rattle.model.specs.declared.Write.{Write}
 use Rattle.model.specs.declared.Rule.{Rule}
-use Rattle.relation.specs.Count.{count_below}
+use Rattle.model.specs.Test.{count_below}
 use Rattle.file_format.specs.Bytes.{byte, Small}
 use Rattle.file_format.specs.Encode.{WriteFits}
 use Rattle.cache_model.specs.Entries.{Entry, accepted, flag_at, appended, flagging}

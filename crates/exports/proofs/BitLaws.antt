@@ -11,7 +11,6 @@ use lib.Pow.{pow_mono}
 use borrow.Author.Tests.{leb-true, leb-false, ltb-false, le-ltb}
 use Rattle.relation.specs.Best.{Smallest}
 use Rattle.relation.specs.Lists.{any}
-use Rattle.relation.proofs.BestLaws.{smallest_is}
 use Rattle.relation.proofs.ListLaws.{and_left, and_right, or_none-left, or_none_right}
 use Rattle.model.specs.declared.Rule.{Rule}
 use Rattle.model.specs.declared.Write.{Write}
@@ -21,9 +20,9 @@ use Rattle.model.specs.Cyclic.{cyclic}
 use Rattle.model.specs.Disk.{second_of}
 use Rattle.model.specs.Find.{candidates_of, chosen, picked}
 use Rattle.model.specs.Schedule.{valid}
-use Rattle.model.specs.Storable.{storable}
-use Rattle.model.specs.Test.{Test, File, schedules, bad_for, smallest_bad_for, shown_of, count_for, bad_count_for, bad, bad_count, valid_count}
-use Rattle.relation.proofs.CountLaws.{count_most}
+use Rattle.model.specs.Test.{Test, File, schedules, Bad, bad, smallest_bad, shown_of, valid_count, bad_count}
+use Rattle.model.proofs.CountLaws.{count_most}
+use Rattle.model.proofs.TestLaws.{computed_smallest}
 use Rattle.file_format.specs.Bytes.{block_length, disk_length, block_in}
 use Rattle.file_format.specs.File.{put_length, end_length, read_of}
 use Rattle.file_format.specs.declared.Extent.{Extent}
@@ -32,10 +31,8 @@ use Rattle.file_format.specs.Scan.{Places, scan_of}
 use Rattle.file_reader.specs.Limits.{TestLimits}
 use Rattle.file_reader.proofs.CallerLaws.{holding-limits, refused-limits}
 use Rattle.judge_search.specs.Verdict.{verdict_by}
-use Rattle.judge_counting.specs.declared.Judgement.{Judgement}
-use Rattle.judge_cases.specs.Judge.{Case, case_of, case_in, judgement_for, verdict_for, judgement_of, verdict_of}
-use Rattle.judge_storable.specs.Judge.{ringless, storable_case_in, storable_judgement, storable_verdict}
-use Rattle.judge_answers.specs.Judged.{count_bits, judgement_code, parts_of, verdict_code, judge_answer_by, verdict_answer_by, judge_answer, verdict_answer, judge_storable_answer, verdict_storable_answer}
+use Rattle.judge_cases.specs.Judge.{Case, case_of, case_in, judgement_of, verdict_of}
+use Rattle.judge_answers.specs.Judged.{count_bits, judgement_code, parts_of, verdict_code, judge_answer, verdict_answer}
 use Rattle.file_calls.specs.File.{sizes, read_answer, packed_extent, Packed, located, locate_answer, cyclic_in, cyclic_answer}
 use Rattle.file_calls.proofs.FileLaws.{placed_packed}
 use Rattle.judge_text.specs.Decimal.{decimal}
@@ -55,7 +52,7 @@ use Rattle.cache_model.specs.Calls.{Left, storing, checked, stepped, drained, op
 use Rattle.cache_statelaws.proofs.SoundLaws.{sound-true, sound-most}
 use Rattle.model.proofs.ReadyLaws.{ready_earliest}
 use Rattle.cache_statelaws.proofs.LayoutLaws.{writes-length}
-use Rattle.exports.specs.Theorem.{bit63, ToldApart, NoneReachesBit63, JudgeTakenApart, StorableTakenApart}
+use Rattle.exports.specs.Theorem.{bit63, ToldApart, NoneReachesBit63, JudgeTakenApart}
 
 -- ---- outcomes by cases
 
@@ -212,89 +209,50 @@ few file k c = go (read_of file) refl
     go (refused number place) h q = unfold case_of in let z : ◌≡◌ {A = ℕ} 0 1 = cc in absurd (omega arith)
     go (answer f) h q = few_of f k c (holding-limits file f h).0.each (cyclic f.rules) (leb 1 k && leb k (length f.tests)) (unfold case_of in q)
 
--- a case of the second judgement is one of the first
-first_case : (file : List ℕ) (k : ℕ) (c : Case) → storable_case_in file k ≡ answer c → case_in file k ≡ answer c
-unfolding storable_case_in
-first_case file k c = go (case_in file k)
-  where
-    given : (d : Case) (b : Bool) → cond b (refused 27 0) (answer d) ≡ answer c → answer d ≡ answer c
-    given d true q = let z : ◌≡◌ {A = ℕ} 0 1 = cc in absurd (omega arith)
-    given d false q = q
-
-    go : (o : Outcome Case) → ringless o ≡ answer c → o ≡ answer c
-    go (refused number place) q = unfold ringless in q
-    go (answer d) q = given d (needs_ring d.rules d.test.main) (unfold ringless in q)
-
--- three numbers that are no more than there are schedules
-module _ (j : Judgement) (valid-most : j.valid ≤ most_schedules) (bad-most : j.bad ≤ most_schedules) (shown-most : j.shown ≤ most_schedules) where
-  code_below : judgement_code j < bit63
-  unfolding judgement_code
-  code_below = omega (arith, valid-most, bad-most, shown-most)
-
-  code_taken-apart : parts_of (judgement_code j) ≡ j
-  unfolding judgement_code parts_of
-  code_taken-apart =
-      let r = j.valid + 2 ^ count_bits * j.bad + 2 ^ (count_bits + count_bits) * j.shown in
-      let t : r / 2 ^ count_bits ≡ j.bad + 2 ^ count_bits * j.shown = omega (arith, valid-most, bad-most, shown-most) in
-      let u : r / 2 ^ (count_bits + count_bits) ≡ j.shown = omega (arith, valid-most, bad-most, shown-most) in
-      let x : r % 2 ^ count_bits ≡ j.valid = omega (arith, valid-most, bad-most, shown-most) in
-      let y : r / 2 ^ count_bits % 2 ^ count_bits ≡ j.bad = rw t (omega (arith, valid-most, bad-most, shown-most)) in
-      let z : r / 2 ^ (count_bits + count_bits) % 2 ^ count_bits ≡ j.shown = rw u (omega (arith, valid-most, bad-most, shown-most)) in
-      rw (x, y, z)
-
--- the numbers of a judgement, whichever schedules count
-module _ (counts : ℕ → Bool) (t : Test) (m : schedules t ≤ most_schedules) where
-  smallest_most : (o : Option ℕ) → smallest_bad_for counts t ≡ o → (shown_of o ≤ most_schedules) × (verdict_code (verdict_by o) < bit63)
-  unfolding shown_of verdict_by verdict_code Smallest
-  smallest_most none q = (omega arith, omega arith)
-  smallest_most (some s) q = let l = (smallest_is (bad_for counts t) (schedules t) s q).0.0 in (omega (arith, l, m), omega (arith, l, m))
-
-  counted-most : count_for counts t ≤ most_schedules
-  counted-most = let x = count_most counts (schedules t) in omega (arith, m, x)
-
-  bad-most : bad_count_for counts t ≤ most_schedules
-  bad-most = let y = count_most (bad_for counts t) (schedules t) in omega (arith, m, y)
-
-  judgement_below : judgement_code (judgement_for counts t) < bit63
-  judgement_below = code_below (judgement_for counts t) counted-most bad-most (smallest_most (smallest_bad_for counts t) refl).0
-
-  judgement_taken-apart : parts_of (judgement_code (judgement_for counts t)) ≡ judgement_for counts t
-  judgement_taken-apart = code_taken-apart (judgement_for counts t) counted-most bad-most (smallest_most (smallest_bad_for counts t) refl).0
-
-  verdict_for_below : verdict_code (verdict_for counts t) < bit63
-  verdict_for_below = (smallest_most (smallest_bad_for counts t) refl).1
-
+-- the three numbers of a judgement are no more than there are schedules
 module _ (file : List ℕ) (k : ℕ) (c : Case) (e : case_in file k ≡ answer c) where
+  valid-most : valid_count c.rules c.test ≤ most_schedules
+  unfolding valid_count
+  valid-most = let m = few file k c e in let x = count_most (valid c.rules c.test.main) (schedules c.test) in omega (arith, m, x)
+
+  bad-most : bad_count c.rules c.test ≤ most_schedules
+  unfolding bad_count bad
+  bad-most = let m = few file k c e in let y = count_most (bad c.rules c.test) (schedules c.test) in omega (arith, m, y)
+
+  smallest_most : (o : Option ℕ) → smallest_bad c.rules c.test ≡ o → (shown_of o ≤ most_schedules) × (verdict_code (verdict_by o) < bit63)
+  unfolding shown_of verdict_by verdict_code Smallest Bad
+  smallest_most none q = (omega arith, omega arith)
+  smallest_most (some s) q = let l = (computed_smallest c.rules c.test s q).0.0 in let m = few file k c e in (omega (arith, l, m), omega (arith, l, m))
+
   judge-below : judge_answer (answer c) < bit63
-  unfolding judge_answer_by judgement_of
-  judge-below = judgement_below (valid c.rules c.test.main) c.test (few file k c e)
+  unfolding judge_answer judgement_of judgement_code valid_count bad_count smallest_bad
+  judge-below =
+      let a = valid-most in
+      let b = bad-most in
+      let s = (smallest_most (smallest_bad c.rules c.test) refl).0 in
+      omega (arith, a, b, s)
 
   taken-apart : parts_of (judge_answer (answer c)) ≡ judgement_of c
-  unfolding judge_answer_by judgement_of
-  taken-apart = judgement_taken-apart (valid c.rules c.test.main) c.test (few file k c e)
+  unfolding judge_answer judgement_of judgement_code parts_of valid_count bad_count smallest_bad
+  taken-apart = go (valid_count c.rules c.test) (bad_count c.rules c.test) (shown_of (smallest_bad c.rules c.test)) valid-most bad-most (smallest_most (smallest_bad c.rules c.test) refl).0
+    where
+      go : (a b s : ℕ) → a ≤ most_schedules → b ≤ most_schedules → s ≤ most_schedules
+          → parts_of (judgement_code (record { valid = a; bad = b; shown = s })) ≡ record { valid = a; bad = b; shown = s }
+      go a b s h l m =
+          let r = a + 2 ^ count_bits * b + 2 ^ (count_bits + count_bits) * s in
+          let t : r / 2 ^ count_bits ≡ b + 2 ^ count_bits * s = omega (arith, h, l, m) in
+          let u : r / 2 ^ (count_bits + count_bits) ≡ s = omega (arith, h, l, m) in
+          let x : r % 2 ^ count_bits ≡ a = omega (arith, h, l, m) in
+          let y : r / 2 ^ count_bits % 2 ^ count_bits ≡ b = rw t (omega (arith, h, l, m)) in
+          let z : r / 2 ^ (count_bits + count_bits) % 2 ^ count_bits ≡ s = rw u (omega (arith, h, l, m)) in
+          rw (x, y, z)
 
   verdict-below : verdict_answer (answer c) < bit63
-  unfolding verdict_answer_by verdict_of
-  verdict-below = verdict_for_below (valid c.rules c.test.main) c.test (few file k c e)
-
-module _ (file : List ℕ) (k : ℕ) (c : Case) (e : storable_case_in file k ≡ answer c) where
-  judge-storable-below : judge_storable_answer (answer c) < bit63
-  unfolding judge_answer_by storable_judgement
-  judge-storable-below = judgement_below (storable c.rules c.test.main) c.test (few file k c (first_case file k c e))
-
-  storable-apart : parts_of (judge_storable_answer (answer c)) ≡ storable_judgement c
-  unfolding judge_answer_by storable_judgement
-  storable-apart = judgement_taken-apart (storable c.rules c.test.main) c.test (few file k c (first_case file k c e))
-
-  verdict-storable-below : verdict_storable_answer (answer c) < bit63
-  unfolding verdict_answer_by storable_verdict
-  verdict-storable-below = verdict_for_below (storable c.rules c.test.main) c.test (few file k c (first_case file k c e))
+  unfolding verdict_answer verdict_of smallest_bad
+  verdict-below = (smallest_most (smallest_bad c.rules c.test) refl).1
 
 pub judge-taken-apart : JudgeTakenApart
 judge-taken-apart = taken-apart
-
-pub storable-taken-apart : StorableTakenApart
-storable-taken-apart = storable-apart
 
 -- ---- lines: one for each test, or that of a refusal
 
@@ -432,8 +390,6 @@ none-reaches-bit63 =
       cyclic = cyclic-apart;
       judge = judge-below;
       verdict = verdict-below;
-      judge-storable = judge-storable-below;
-      verdict-storable = verdict-storable-below;
       lines = lines-below;
       find = find-apart;
       trace = trace-apart;

@@ -14,7 +14,6 @@ use Rattle.file_encoding.proofs.BeforeLaws.{old_files_read}
 use Rattle.file_encoding.proofs.RewriteLaws.{rewritten_files}
 use Rattle.file_calls.specs.File.{read_answer, cyclic_answer}
 use Rattle.judge_cases.specs.Judge.{case_in}
-use Rattle.judge_storable.specs.Judge.{storable_case_in}
 use Rattle.judge_text.specs.Lines.{program_text}
 use Rattle.find_call.specs.Finder.{find_of}
 use Rattle.cache_model.specs.State.{state_size}
@@ -22,11 +21,10 @@ use Rattle.cache_model.specs.Calls.{open_of}
 use Rattle.exports.specs.Theorem.{AnswersFor, OldFilesAnswered, RewrittenAnswered}
 
 by_reading : (s : List ℕ) (reading : Outcome File) → read_of s ≡ reading → AnswersFor s reading
-unfolding case_in storable_case_in program_text find_of read_answer cyclic_answer open_of
+unfolding case_in program_text find_of read_answer cyclic_answer open_of
 by_reading s reading e =
     record {
       judged = λ k. rw e;
-      judged-storable = λ k. rw e;
       printed = rw e;
       found = λ buffer. rw e;
       read = rw e;

@@ -1,4 +1,4 @@
--- What holds of the answers of all fifteen exported routines: bit 63 tells a refusal from an answer. A judge's three numbers can be told from its
+-- What holds of the answers of all thirteen exported routines: bit 63 tells a refusal from an answer. A judge's three numbers can be told from its
 -- one. And old files keep their answers, as they stand and rewritten with names of two bytes.
 use Rattle.std.specs.Prelude.{ℕ, ◌≤◌, ◌<◌, ◌≡◌, ◌⊎◌, Bool, List, [], length}
 use Rattle.std.proofs.Math.Option.{Option}
@@ -15,8 +15,7 @@ use Rattle.cache_model.specs.Calls.{open_with, open_of, hand_in_of, step_of, dra
 use Rattle.log_get.specs.Get.{get_of, value_code}
 use Rattle.log_get.specs.Puts.{trace_of}
 use Rattle.judge_cases.specs.Judge.{Case, case_of, case_in, judgement_of}
-use Rattle.judge_storable.specs.Judge.{ringless, storable_case_in, storable_judgement}
-use Rattle.judge_answers.specs.Judged.{parts_of, judge_answer, verdict_answer, judge_storable_answer, verdict_storable_answer}
+use Rattle.judge_answers.specs.Judged.{parts_of, judge_answer, verdict_answer}
 use Rattle.file_calls.specs.File.{sizes, read_answer, locate_answer, cyclic_in, cyclic_answer}
 use Rattle.find_call.specs.Finder.{find_in, find_of}
 use Rattle.judge_text.specs.Lines.{text_of, program_text, text_length}
@@ -44,8 +43,6 @@ pub record NoneReachesBit63 : Type 0 where
   pub cyclic : (file : List ℕ) → ToldApart (cyclic_answer file)
   pub judge : (file : List ℕ) (k : ℕ) (c : Case) → case_in file k ≡ answer c → judge_answer (answer c) < bit63
   pub verdict : (file : List ℕ) (k : ℕ) (c : Case) → case_in file k ≡ answer c → verdict_answer (answer c) < bit63
-  pub judge-storable : (file : List ℕ) (k : ℕ) (c : Case) → storable_case_in file k ≡ answer c → judge_storable_answer (answer c) < bit63
-  pub verdict-storable : (file : List ℕ) (k : ℕ) (c : Case) → storable_case_in file k ≡ answer c → verdict_storable_answer (answer c) < bit63
   pub lines : (file buffer : List ℕ) → text_length ≤ length buffer → (printed_of file buffer).answer < bit63
   pub find : (file buffer : List ℕ) → ToldApart (find_of file buffer).outcome
   pub trace : (initial main buffer : List ℕ) → ToldApart (trace_of initial main buffer).outcome
@@ -54,17 +51,12 @@ pub record NoneReachesBit63 : Type 0 where
 abbrev pub JudgeTakenApart : Type 0
 JudgeTakenApart = (file : List ℕ) (k : ℕ) (c : Case) → case_in file k ≡ answer c → parts_of (judge_answer (answer c)) ≡ judgement_of c
 
--- and so by the second judgement (02, [10])
-abbrev pub StorableTakenApart : Type 0
-StorableTakenApart = (file : List ℕ) (k : ℕ) (c : Case) → storable_case_in file k ≡ answer c → parts_of (judge_storable_answer (answer c)) ≡ storable_judgement c
-
 -- ---- old files (02, [2])
 
 -- what is answered of a file, by all routines that are lent one, is what follows from this reading, a file or a refusal; but for locate, which
 -- answers places
 pub record AnswersFor (s : List ℕ) (reading : Outcome File) : Type 0 where
   pub judged : (k : ℕ) → case_in s k ≡ case_of reading k
-  pub judged-storable : (k : ℕ) → storable_case_in s k ≡ ringless (case_of reading k)
   pub printed : program_text s ≡ text_of reading
   pub found : (buffer : List ℕ) → find_of s buffer ≡ find_in reading buffer
   pub read : read_answer s ≡ sizes reading

@@ -15,9 +15,8 @@ use Rattle.judge_cases.specs.declared.Judged.TheVariants as Judged
 use Rattle.judge_cases.specs.declared.Decided.{Decided}
 use Rattle.judge_cases.specs.declared.Decided.TheVariants.{As}
 use Rattle.judge_cases.specs.declared.Decided.TheVariants as Decided
-use Rattle.file_reader.specs.Limits.{longest}
-use Rattle.judge_cases.specs.Judge.{Case, judged_by, decided_by, FewNumbers, Few, FewDecided}
-use Rattle.judge_answers.specs.Judged.{judgement_code, verdict_code, judge_answer_by, verdict_answer_by}
+use Rattle.judge_cases.specs.Judge.{Case, judgement_of, verdict_of, judged_of, decided_of, SmallRefusal, FewNumbers, Few, FewDecided}
+use Rattle.judge_answers.specs.Judged.{judgement_code, verdict_code, judge_answer, verdict_answer}
 
 module _ (x : Judged) (few : Few x) where
   pub counts-few : (j : Judgement) → x ≡ Counts j → FewNumbers j
@@ -27,18 +26,19 @@ module _ (x : Judged) (few : Few x) where
   pub refused-fits : (why : Refusal) → x ≡ Judged.Refused why → why.place < words
   unfolding Few
   refused-fits why e =
-      let b : why.place ≤ longest = rw e at few in
+      let h : SmallRefusal why = rw e at few in
+      let b = h.1 in
       omega arith
 
-pub judge-counts : (says : Case → Judgement) (o : Outcome Case) (x : Judged) (j : Judgement) (r : ℕ) → x ≡ judged_by says o → x ≡ Counts j → r ≡ judgement_code j → r ≡ judge_answer_by says o
-unfolding judged_by judge_answer_by
-judge-counts says (refused n p) x j r h e q = let z : ◌≡◌ {A = ℕ} 0 1 = cc in absurd (omega arith)
-judge-counts says (answer c) x j r h e q = let z : j ≡ says c = cc in rw (← z) q
+pub judge-counts : (o : Outcome Case) (x : Judged) (j : Judgement) (r : ℕ) → x ≡ judged_of o → x ≡ Counts j → r ≡ judgement_code j → r ≡ judge_answer o
+unfolding judged_of judge_answer
+judge-counts (refused n p) x j r h e q = let z : ◌≡◌ {A = ℕ} 0 1 = cc in absurd (omega arith)
+judge-counts (answer c) x j r h e q = let z : j ≡ judgement_of c = cc in rw (← z) q
 
-pub judge-refused : (says : Case → Judgement) (o : Outcome Case) (x : Judged) (why : Refusal) (r : ℕ) → x ≡ judged_by says o → x ≡ Judged.Refused why → r ≡ refusal why.number why.place → r ≡ judge_answer_by says o
-unfolding judged_by judge_answer_by
-judge-refused says (refused n p) x why r h e q = let a : why ≡ record { number = n; place = p } = cc in rw a at q
-judge-refused says (answer c) x why r h e q = let z : ◌≡◌ {A = ℕ} 0 1 = cc in absurd (omega arith)
+pub judge-refused : (o : Outcome Case) (x : Judged) (why : Refusal) (r : ℕ) → x ≡ judged_of o → x ≡ Judged.Refused why → r ≡ refusal why.number why.place → r ≡ judge_answer o
+unfolding judged_of judge_answer
+judge-refused (refused n p) x why r h e q = let a : why ≡ record { number = n; place = p } = cc in rw a at q
+judge-refused (answer c) x why r h e q = let z : ◌≡◌ {A = ℕ} 0 1 = cc in absurd (omega arith)
 
 module _ (x : Decided) (few : FewDecided x) where
   pub decided_few : (v : Verdict) → x ≡ As v → FewDecided (As v)
@@ -47,18 +47,19 @@ module _ (x : Decided) (few : FewDecided x) where
   pub decided_fits : (why : Refusal) → x ≡ Decided.Refused why → why.place < words
   unfolding FewDecided
   decided_fits why e =
-      let b : why.place ≤ longest = rw e at few in
+      let h : SmallRefusal why = rw e at few in
+      let b = h.1 in
       omega arith
 
-pub verdict_decided : (says : Case → Verdict) (o : Outcome Case) (x : Decided) (v : Verdict) (r : ℕ) → x ≡ decided_by says o → x ≡ As v → r ≡ verdict_code v → r ≡ verdict_answer_by says o
-unfolding decided_by verdict_answer_by
-verdict_decided says (refused n p) x v r h e q = let z : ◌≡◌ {A = ℕ} 0 1 = cc in absurd (omega arith)
-verdict_decided says (answer c) x v r h e q = let z : v ≡ says c = cc in rw (← z) q
+pub verdict_decided : (o : Outcome Case) (x : Decided) (v : Verdict) (r : ℕ) → x ≡ decided_of o → x ≡ As v → r ≡ verdict_code v → r ≡ verdict_answer o
+unfolding decided_of verdict_answer
+verdict_decided (refused n p) x v r h e q = let z : ◌≡◌ {A = ℕ} 0 1 = cc in absurd (omega arith)
+verdict_decided (answer c) x v r h e q = let z : v ≡ verdict_of c = cc in rw (← z) q
 
-pub verdict-refused : (says : Case → Verdict) (o : Outcome Case) (x : Decided) (why : Refusal) (r : ℕ) → x ≡ decided_by says o → x ≡ Decided.Refused why → r ≡ refusal why.number why.place → r ≡ verdict_answer_by says o
-unfolding decided_by verdict_answer_by
-verdict-refused says (refused n p) x why r h e q = let a : why ≡ record { number = n; place = p } = cc in rw a at q
-verdict-refused says (answer c) x why r h e q = let z : ◌≡◌ {A = ℕ} 0 1 = cc in absurd (omega arith)
+pub verdict-refused : (o : Outcome Case) (x : Decided) (why : Refusal) (r : ℕ) → x ≡ decided_of o → x ≡ Decided.Refused why → r ≡ refusal why.number why.place → r ≡ verdict_answer o
+unfolding decided_of verdict_answer
+verdict-refused (refused n p) x why r h e q = let a : why ≡ record { number = n; place = p } = cc in rw a at q
+verdict-refused (answer c) x why r h e q = let z : ◌≡◌ {A = ℕ} 0 1 = cc in absurd (omega arith)
 
 pub fails-fits : (v : Verdict) (s : ℕ) → v ≡ Fails s → FewDecided (As v) → s ≤ most_schedules
 unfolding FewDecided

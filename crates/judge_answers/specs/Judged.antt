@@ -5,7 +5,6 @@ use Rattle.judge_counting.specs.declared.Judgement.{Judgement}
 use Rattle.judge_search.specs.declared.Verdict.{Verdict}
 use Rattle.judge_search.specs.declared.Verdict.TheVariants.{Holds, Fails}
 use Rattle.judge_cases.specs.Judge.{Case, judgement_of, verdict_of}
-use Rattle.judge_storable.specs.Judge.{storable_judgement, storable_verdict}
 
 -- the bits of a count: 20 main writes have 2^20 schedules, and all of these may be counted
 abbrev pub count_bits : ℕ
@@ -24,26 +23,12 @@ unfoldable pub verdict_code : Verdict → ℕ
 verdict_code Holds = 0
 verdict_code (Fails s) = s + 1
 
--- a judge's answer, by what it says of a case: the refusal, or the code of the case's numbers
-unfoldable pub judge_answer_by : (Case → Judgement) → Outcome Case → ℕ
-judge_answer_by says (refused number place) = refusal number place
-judge_answer_by says (answer c) = judgement_code (says c)
+-- the judge's answer: the refusal, or the code of the case's numbers
+unfoldable pub judge_answer : Outcome Case → ℕ
+judge_answer (refused number place) = refusal number place
+judge_answer (answer c) = judgement_code (judgement_of c)
 
--- a verdict's: the refusal, or the code of the verdict on the case
-unfoldable pub verdict_answer_by : (Case → Verdict) → Outcome Case → ℕ
-verdict_answer_by says (refused number place) = refusal number place
-verdict_answer_by says (answer c) = verdict_code (says c)
-
--- where the valid schedules count
-abbrev pub judge_answer : Outcome Case → ℕ
-judge_answer o = judge_answer_by judgement_of o
-
-abbrev pub verdict_answer : Outcome Case → ℕ
-verdict_answer o = verdict_answer_by verdict_of o
-
--- where the storable ones do (02, [10])
-abbrev pub judge_storable_answer : Outcome Case → ℕ
-judge_storable_answer o = judge_answer_by storable_judgement o
-
-abbrev pub verdict_storable_answer : Outcome Case → ℕ
-verdict_storable_answer o = verdict_answer_by storable_verdict o
+-- the verdict's: the refusal, or the code of the verdict on the case
+unfoldable pub verdict_answer : Outcome Case → ℕ
+verdict_answer (refused number place) = refusal number place
+verdict_answer (answer c) = verdict_code (verdict_of c)

@@ -18,8 +18,7 @@ use Rattle.model.specs.Rules.{stands, matches, depends_on}
 use Rattle.model.specs.Cyclic.{Cyclic, no_rule, leads, has, equal_leads, meets, cyclic}
 use Rattle.model.specs.Schedule.{store, run, written, no_write, valid}
 use Rattle.model.specs.Check.{damaged, range_holds, holds, consistent}
-use Rattle.relation.specs.Count.{count_below}
-use Rattle.model.specs.Test.{Test, File, file, initial_disk, Bad, bad, smallest_bad, shown_of, valid_count, bad_count}
+use Rattle.model.specs.Test.{Test, File, file, initial_disk, Bad, bad, smallest_bad, shown_of, count_below, valid_count, bad_count}
 use Rattle.model.proofs.TestLaws.{bad-true, bad-fails}
 use Rattle.rule_cyclelaws.specs.Examples.{equal_alone}
 use Rattle.rule_cyclelaws.proofs.CyclicLaws.{true-cyclic}

@@ -25,7 +25,7 @@ use Rattle.model.specs.Rules.{depends_on}
 use Rattle.model.specs.Cyclic.{cyclic}
 use Rattle.model.specs.Schedule.{valid}
 use Rattle.model.specs.Test.{File, bad_for, smallest_bad_for, shown_of}
-use Rattle.relation.proofs.CountLaws.{count_ext, count_most}
+use Rattle.model.proofs.CountLaws.{count_ext, count_most}
 use Rattle.file_format.specs.declared.Extent.{Extent}
 use Rattle.file_format.specs.declared.Scan.{Scan}
 use Rattle.file_format.specs.declared.Scan.TheVariants.{Accepted, Refused}
@@ -57,7 +57,7 @@ use Rattle.judge_cases.specs.declared.Judged.TheVariants.{Counts}
 use Rattle.judge_cases.specs.declared.Judged.TheVariants as Judged
 use Rattle.judge_cases.specs.declared.Decided.TheVariants.{As}
 use Rattle.judge_cases.specs.declared.Decided.TheVariants as Decided
-use Rattle.judge_cases.specs.Judge.{Case, case_of, case_in, case_at, judgement_for, verdict_for, judgement_of, verdict_of, SmallRefusal, judged_file, OpensTo, SelectsTo, judged_by, decided_by, judged_of, decided_of, FewNumbers, Few, FewDecided}
+use Rattle.judge_cases.specs.Judge.{Case, case_of, case_in, case_at, judgement_for, verdict_for, judgement_of, verdict_of, SmallRefusal, judged_file, OpensTo, SelectsTo, judged_of, decided_of, FewNumbers, Few, FewDecided}
 
 -- ---- the rows
 
@@ -71,7 +71,7 @@ narrow_rows rules column rows n e i h =
 -- ---- a loaded test, and rows that decide which of its schedules count
 
 -- by the rows a schedule counts, and its disk is inconsistent
-abbrev pub bad_loaded : Loaded → List ℕ → List Check → ℕ → Bool
+abbrev bad_loaded : Loaded → List ℕ → List Check → ℕ → Bool
 bad_loaded test rows cs = bad_rows rows test.main test.base (held_from test.stores 0 test.main) (take test.checks cs)
 
 module _ (counts : ℕ → Bool) (s : List ℕ) (e : Extent) (test : Loaded) (rows : List ℕ) (cs : List Check) (el : LoadsTest (test_at s e) test)
@@ -282,20 +282,20 @@ module _ (s : List ℕ) (k : ℕ) (rules : Rules) (x : Choice) (t : SelectsTo s 
     refused_so = rw e at t
 
     pub judging_refused : Judged.Refused why ≡ judged_of (case_in s k)
-    unfolding judged_by
+    unfolding judged_of
     judging_refused = rw refused_so.0
 
     pub deciding_refused : Decided.Refused why ≡ decided_of (case_in s k)
-    unfolding decided_by
+    unfolding decided_of
     deciding_refused = rw refused_so.0
 
     pub few-refused : Few (Judged.Refused why)
     unfolding Few
-    few-refused = refused_so.1.1
+    few-refused = refused_so.1
 
     pub few_decided_refused : FewDecided (Decided.Refused why)
     unfolding FewDecided
-    few_decided_refused = refused_so.1.1
+    few_decided_refused = refused_so.1
 
   module _ (e : Extent) (q : x ≡ Choice.Test e) where
     chosen : (case_in s k ≡ answer (case_at (rules_of rules) s e)) × (rules.count ≤ most_rules) × Inside s e
@@ -309,7 +309,7 @@ module _ (s : List ℕ) (k : ℕ) (rules : Rules) (x : Choice) (t : SelectsTo s 
     chosen-inside = chosen.2
 
     pub judging_found : (j : Judgement) → j ≡ judgement_of (case_at (rules_of rules) s e) → Counts j ≡ judged_of (case_in s k)
-    unfolding judged_by
+    unfolding judged_of
     judging_found j p = rw (chosen.0, p)
 
     pub few-found : (j : Judgement) → FewNumbers j → Few (Counts j)
@@ -317,7 +317,7 @@ module _ (s : List ℕ) (k : ℕ) (rules : Rules) (x : Choice) (t : SelectsTo s 
     few-found j f = f
 
     pub deciding_found : (v : Verdict) → v ≡ verdict_of (case_at (rules_of rules) s e) → As v ≡ decided_of (case_in s k)
-    unfolding decided_by
+    unfolding decided_of
     deciding_found v p = rw (chosen.0, p)
 
     pub few_decided_found : (v : Verdict) → v ≡ verdict_of (case_at (rules_of rules) s e) → FewDecided (As v)

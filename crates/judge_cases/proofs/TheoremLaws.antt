@@ -12,17 +12,18 @@ use borrow.Author.Tests.{leb-false, le-leb, lt-leb}
 use Rattle.model.specs.Answer.{Outcome, answer, refused}
 use Rattle.model.specs.Cyclic.{Cyclic, cyclic}
 use Rattle.model.specs.Schedule.{Valid, valid}
-use Rattle.model.specs.Test.{Test, File, HoldsFor, bad_for, SmallestBadFor, smallest_bad_for, bad_count_for, shown_of}
+use Rattle.model.specs.declared.Rule.{Rule}
+use Rattle.model.specs.Test.{Test, File, HoldsFor, SmallestBadFor, smallest_bad_for, bad_count_for, TestHolds, bad, bad_count, shown_of}
 use Rattle.model.specs.Theorem.{Agrees, SmallestFailingFor}
 use Rattle.model.proofs.TestLaws.{valid_agrees}
-use Rattle.model.proofs.Theorems.{holding-test_for, smallest_schedule_for, bad-schedule_for}
+use Rattle.model.proofs.Theorems.{holding-test_for, smallest_schedule_for, bad-schedule, holding-test}
 use Rattle.rule_cyclelaws.proofs.CyclicLaws.{cyclic_exactly}
 use Rattle.file_format.specs.File.{read_of}
 use Rattle.file_reader.proofs.CallerLaws.{refused-limits, holding-limits}
 use Rattle.judge_search.specs.declared.Verdict.TheVariants.{Holds, Fails}
 use Rattle.judge_search.specs.Verdict.{verdict_by}
 use Rattle.judge_cases.specs.Judge.{Case, case_of, case_in, judgement_for, verdict_for, judgement_of, verdict_of}
-use Rattle.judge_cases.specs.Theorem.{NoSuchTest, case_of_test, CaseFor, NumbersSayFor, VerdictSaysFor, NumbersSay, VerdictSays, JudgedAsMeant}
+use Rattle.judge_cases.specs.Theorem.{NoSuchTest, case_of_test, CaseFor, NumbersSay, VerdictSays, JudgedAsMeant}
 
 -- ---- what the judge is given
 
@@ -114,35 +115,21 @@ module _ (Counts : ℕ → Type 0) (counts : ℕ → Bool) (t : Test) (agrees : 
   shown-none none e h = refl
   shown-none (some s) e h = let z : none ≡ some s = sym (small.holds.0 h) ∙ e in let y : ◌≡◌ {A = ℕ} 0 1 = cc in absurd (omega arith)
 
-  judgement_shown : (bad_count_for counts t ≡ 0 → ⊥) → SmallestBadFor Counts t (judgement_for counts t).shown
+  pub judgement_shown : (bad_count_for counts t ≡ 0 → ⊥) → SmallestBadFor Counts t (judgement_for counts t).shown
   judgement_shown n = shown_smallest (smallest_bad_for counts t) refl (λ h. n ((holding-test_for Counts counts t agrees).1.0 h))
 
-  judgement_none : bad_count_for counts t ≡ 0 → (judgement_for counts t).shown ≡ 0
+  pub judgement_none : bad_count_for counts t ≡ 0 → (judgement_for counts t).shown ≡ 0
   judgement_none z = shown-none (smallest_bad_for counts t) refl ((holding-test_for Counts counts t agrees).1.1 z)
 
-  verdict-holds : verdict_for counts t ≡ Holds ↔ HoldsFor Counts t
+  pub verdict-holds : verdict_for counts t ≡ Holds ↔ HoldsFor Counts t
   verdict-holds =
       let o = smallest_bad_for counts t in
       (λ e. small.holds.1 ((holds_by o).0 e), λ h. (holds_by o).1 (small.holds.0 h))
 
-  verdict-fails : (s : ℕ) → verdict_for counts t ≡ Fails s ↔ SmallestBadFor Counts t s
+  pub verdict-fails : (s : ℕ) → verdict_for counts t ≡ Fails s ↔ SmallestBadFor Counts t s
   verdict-fails s =
       let o = smallest_bad_for counts t in
       (λ e. (small.computed s).1 ((fails_by o s).0 e), λ b. (fails_by o s).1 ((small.computed s).0 b))
-
-  pub numbers_say_for : NumbersSayFor Counts t (judgement_for counts t)
-  numbers_say_for =
-      let h = (holding-test_for Counts counts t agrees).1 in
-      record {
-        valid = (counts, agrees, refl);
-        bad = (bad_for counts t, λ s l. bad-schedule_for Counts counts t agrees s l, refl);
-        shown = judgement_shown;
-        none = judgement_none;
-        holds = (h.1, h.0);
-      }
-
-  pub verdict_says_for : VerdictSaysFor Counts t (verdict_for counts t)
-  verdict_says_for = record { holds = verdict-holds; fails = verdict-fails }
 
 pub shown-same : (counts : ℕ → Bool) (t : Test) (s : ℕ) → verdict_for counts t ≡ Fails s → (judgement_for counts t).shown ≡ s
 unfolding shown_of
@@ -151,17 +138,34 @@ shown-same counts t s e = rw ((fails_by (smallest_bad_for counts t) s).0 e)
 -- ---- and of a case, where the valid schedules count
 
 module _ (c : Case) where
+  abbrev rules : List Rule
+  rules = c.rules
+
+  abbrev t : Test
+  t = c.test
+
   numbers_say : NumbersSay c (judgement_of c)
-  unfolding judgement_of
-  numbers_say = numbers_say_for (Valid c.rules c.test.main) (valid c.rules c.test.main) c.test (valid_agrees c.rules c.test)
+  unfolding judgement_of bad_count bad
+  numbers_say =
+      let h = (holding-test rules t).1 in
+      record {
+        valid = (valid rules t.main, valid_agrees rules t, refl);
+        bad = (bad rules t, λ s l. bad-schedule rules t s l, refl);
+        shown = judgement_shown (Valid rules t.main) (valid rules t.main) t (valid_agrees rules t);
+        none = judgement_none (Valid rules t.main) (valid rules t.main) t (valid_agrees rules t);
+        holds = (h.1, h.0);
+      }
 
   verdict_says : VerdictSays c (verdict_of c)
-  unfolding verdict_of
-  verdict_says = verdict_says_for (Valid c.rules c.test.main) (valid c.rules c.test.main) c.test (valid_agrees c.rules c.test)
+  unfolding verdict_of TestHolds
+  verdict_says = record {
+    holds = verdict-holds (Valid rules t.main) (valid rules t.main) t (valid_agrees rules t);
+    fails = verdict-fails (Valid rules t.main) (valid rules t.main) t (valid_agrees rules t);
+  }
 
   same-shown : (s : ℕ) → verdict_of c ≡ Fails s → (judgement_of c).shown ≡ s
   unfolding verdict_of judgement_of
-  same-shown = shown-same (valid c.rules c.test.main) c.test
+  same-shown = shown-same (valid rules t.main) t
 
 pub judged_as_meant : JudgedAsMeant
 judged_as_meant = record { refused-file = passed_on; read-file = case-read; judge = numbers_say; verdict = verdict_says; same = same-shown }

@@ -95,32 +95,25 @@ SelectsTo s k rules (Choice.Test e) = (case_in s k ≡ answer (case_at (rules_of
 abbrev pub Selects : List ℕ → ℕ → Selected → Type 0
 Selects s k r = SelectsTo s k r.rules r.choice
 
--- a judge, by what it says of a case: the refusal, or the numbers of the case
-unfoldable pub judged_by : (Case → Judgement) → Outcome Case → Judged
-judged_by says (refused number place) = Judged.Refused (record { number = number; place = place })
-judged_by says (answer c) = Counts (says c)
+-- the judge: the refusal, or the numbers of the case
+unfoldable pub judged_of : Outcome Case → Judged
+judged_of (refused number place) = Judged.Refused (record { number = number; place = place })
+judged_of (answer c) = Counts (judgement_of c)
 
--- a verdict alone: the refusal, or the verdict on the case
-unfoldable pub decided_by : (Case → Verdict) → Outcome Case → Decided
-decided_by says (refused number place) = Decided.Refused (record { number = number; place = place })
-decided_by says (answer c) = As (says c)
+-- the verdict alone: the refusal, or the verdict on the case
+unfoldable pub decided_of : Outcome Case → Decided
+decided_of (refused number place) = Decided.Refused (record { number = number; place = place })
+decided_of (answer c) = As (verdict_of c)
 
--- where the valid schedules count
-abbrev pub judged_of : Outcome Case → Judged
-judged_of o = judged_by judgement_of o
-
-abbrev pub decided_of : Outcome Case → Decided
-decided_of o = decided_by verdict_of o
-
--- a test has at most so many schedules, and no number of an answer is larger; a refusal's place is at most the longest file's length
+-- a test has at most so many schedules, and no number of an answer is larger
 unfoldable pub FewNumbers : Judgement → Type 0
 FewNumbers j = (j.valid ≤ most_schedules) × (j.bad ≤ most_schedules) × (j.shown ≤ most_schedules)
 
 unfoldable pub Few : Judged → Type 0
 Few (Counts j) = FewNumbers j
-Few (Judged.Refused why) = why.place ≤ longest
+Few (Judged.Refused why) = SmallRefusal why
 
 unfoldable pub FewDecided : Decided → Type 0
 FewDecided (As Holds) = Unit {0}
 FewDecided (As (Fails s)) = s ≤ most_schedules
-FewDecided (Decided.Refused why) = why.place ≤ longest
+FewDecided (Decided.Refused why) = SmallRefusal why

@@ -1,11 +1,10 @@
 -- The theorem of judging, for all files and test numbers: what a judge is given (`case_in`), and what `judgement_of` and `verdict_of` say of it. The exported
--- contracts cite these three. Here they are told by meanings, `Cyclic`, `Valid`, and what it is that a test is bad or holds for these schedules, and not by what is computed.
+-- contracts cite these three. Here they are told by meanings, `Cyclic`, `Valid`, `Bad`, `SmallestBad` and `TestHolds`, and not by what is computed.
 use Rattle.std.specs.Prelude.{ℕ, ◌-◌, ◌≤◌, ◌<◌, ◌≡◌, ◌↔◌, ◌⊎◌, Bool, true, List, length}
 use Rattle.model.specs.Answer.{Outcome, answer, refused}
 use Rattle.model.specs.Cyclic.{Cyclic}
 use Rattle.model.specs.Schedule.{Valid}
-use Rattle.relation.specs.Count.{count_below}
-use Rattle.model.specs.Test.{Test, File, schedules, HoldsFor, BadFor, SmallestBadFor}
+use Rattle.model.specs.Test.{File, schedules, TestHolds, Bad, SmallestBad, count_below}
 use Rattle.file_format.specs.File.{read_of}
 use Rattle.file_format.specs.Held.{test_of}
 use Rattle.judge_counting.specs.declared.Judgement.{Judgement}
@@ -36,33 +35,23 @@ pub record CaseFor (f : File) (k : ℕ) (o : Outcome Case) : Type 0 where
 abbrev pub CountOf : (ℕ → Type 0) → ℕ → ℕ → Type 0
 CountOf P m n = (p : ℕ → Bool) × ((s : ℕ) → s < m → P s ↔ p s ≡ true) × (n ≡ count_below p m)
 
--- ---- for any meaning `Counts` of which schedules count
-
--- what a judge's three numbers say of a test
-pub record NumbersSayFor (Counts : ℕ → Type 0) (t : Test) (j : Judgement) : Type 0 where
-  -- the count of schedules that count
-  pub valid : CountOf Counts (schedules t) j.valid
-  -- the count of those of them that are inconsistent
-  pub bad : CountOf (BadFor Counts t) (schedules t) j.bad
+-- what the judge's three numbers say of a test under rules
+pub record NumbersSay (c : Case) (j : Judgement) : Type 0 where
+  -- the count of valid schedules
+  pub valid : CountOf (λ s. Valid c.rules c.test.main s) (schedules c.test) j.valid
+  -- the count of valid and inconsistent ones
+  pub bad : CountOf (λ s. Bad c.rules c.test s) (schedules c.test) j.bad
   -- the number of the smallest such schedule: the one with the fewest flagged writes, and among those the smallest number (02, [4])
-  pub shown : (j.bad ≡ 0 → ⊥) → SmallestBadFor Counts t j.shown
+  pub shown : (j.bad ≡ 0 → ⊥) → SmallestBad c.rules c.test j.shown
   -- or 0 where that count is 0
   pub none : j.bad ≡ 0 → j.shown ≡ 0
   -- and that count is 0 exactly if the test holds
-  pub holds : j.bad ≡ 0 ↔ HoldsFor Counts t
+  pub holds : j.bad ≡ 0 ↔ TestHolds c.rules c.test
 
--- what a verdict alone says of it: holds exactly if the test holds; fails exactly with the smallest inconsistent schedule of those that count
-pub record VerdictSaysFor (Counts : ℕ → Type 0) (t : Test) (v : Verdict) : Type 0 where
-  pub holds : v ≡ Holds ↔ HoldsFor Counts t
-  pub fails : (s : ℕ) → v ≡ Fails s ↔ SmallestBadFor Counts t s
-
--- ---- where the valid schedules count
-
-abbrev pub NumbersSay : Case → Judgement → Type 0
-NumbersSay c j = NumbersSayFor (Valid c.rules c.test.main) c.test j
-
-abbrev pub VerdictSays : Case → Verdict → Type 0
-VerdictSays c v = VerdictSaysFor (Valid c.rules c.test.main) c.test v
+-- what the verdict alone says of it: holds exactly if the test holds; fails exactly with the smallest valid and inconsistent schedule
+pub record VerdictSays (c : Case) (v : Verdict) : Type 0 where
+  pub holds : v ≡ Holds ↔ TestHolds c.rules c.test
+  pub fails : (s : ℕ) → v ≡ Fails s ↔ SmallestBad c.rules c.test s
 
 -- the theorem
 pub record JudgedAsMeant : Type 0 where

@@ -133,7 +133,7 @@ pub fn open_file(file: &[u8]) -> Opened
 }
 
 // The test to be judged, or the refusal: that of opening, 9.
-pub fn select(file: &[u8], test: u64) -> Selected
+fn select(file: &[u8], test: u64) -> Selected
     ensures { Selects file.now test result }
 {
     let opened = open_file(file);

@@ -20,8 +20,8 @@ use Rattle.relation.proofs.UnionLaws.{bits_same, bit-ones, part-true, part_intro
 use Rattle.relation.proofs.MemberLaws.{member_below}
 use Rattle.relation.proofs.SetLaws.{bit-without, without_less}
 use Rattle.model.specs.Limits.{most_main, most_schedules}
-use Rattle.relation.specs.Count.{count_below}
-use Rattle.relation.proofs.CountLaws.{count_ext, count_most, count-split, count-one, count-turned}
+use Rattle.model.specs.Test.{count_below}
+use Rattle.model.proofs.CountLaws.{count_ext, count_most, count-split, count-one, count-turned}
 use Rattle.judge_schedules.specs.Valid.{valid_rows}
 use Rattle.judge_schedules.proofs.ValidLaws.{valid-row, row-valid}
 use Rattle.judge_closed.specs.Closed.{Order, between, valid_between, Choice, alone}

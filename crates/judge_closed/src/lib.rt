@@ -5,7 +5,7 @@ ghost use Rattle.std.specs.Prelude.{◌≡◌, ◌&&◌, ◌%◌, ◌^◌, ◌<�
 ghost use Rattle.relation.specs.Bits.{with_bit};
 ghost use Rattle.relation.specs.Tables.{Filled};
 ghost use Rattle.model.specs.Limits.{most_main};
-ghost use Rattle.relation.specs.Count.{count_below};
+ghost use Rattle.model.specs.Test.{count_below};
 ghost use Rattle.judge_schedules.specs.Valid.{Narrow};
 ghost use Rattle.judge_closed.specs.Closed.{Order, Orders, valid_between, Choice, reached_row, reaching_row, alone};
 

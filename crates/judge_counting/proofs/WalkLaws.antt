@@ -23,9 +23,8 @@ use Rattle.relation.proofs.UnionLaws.{part_intro}
 use Rattle.model.specs.declared.Check.{Check}
 use Rattle.model.specs.Limits.{most_main, most_schedules}
 use Rattle.model.specs.Check.{consistent}
-use Rattle.relation.specs.Count.{count_below}
-use Rattle.model.specs.Test.{shown_of}
-use Rattle.relation.proofs.CountLaws.{count_ext, count_less, count_most, none-count}
+use Rattle.model.specs.Test.{shown_of, count_below}
+use Rattle.model.proofs.CountLaws.{count_ext, count_less, count_most, none-count}
 use Rattle.judge_checks.proofs.CheckSteps.{checks-start}
 use Rattle.judge_disks.specs.Packed.{held_from}
 use Rattle.judge_schedules.specs.Valid.{valid_rows, bad_rows}

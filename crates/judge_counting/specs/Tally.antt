@@ -4,8 +4,7 @@ use Rattle.relation.specs.Best.{smallest_below}
 use Rattle.relation.specs.Rank.{small_sets, rank}
 use Rattle.model.specs.declared.Check.{Check}
 use Rattle.model.specs.Limits.{most_schedules}
-use Rattle.relation.specs.Count.{count_below}
-use Rattle.model.specs.Test.{shown_of}
+use Rattle.model.specs.Test.{shown_of, count_below}
 use Rattle.judge_closed.specs.Closed.{valid_between}
 use Rattle.judge_settled.specs.Settled.{all_hold, least_of}
 use Rattle.judge_counting.specs.declared.Judgement.{Judgement}

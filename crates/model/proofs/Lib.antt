@@ -4,6 +4,6 @@ pub mod NeedsLaws
 pub mod ReadyLaws
 pub mod BehindLaws
 pub mod CheckLaws
+pub mod CountLaws
 pub mod TestLaws
-pub mod StorableLaws
 pub mod Theorems

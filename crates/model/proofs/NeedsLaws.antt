@@ -11,7 +11,6 @@ use lib.Seq.{get_or_at}
 use borrow.Author.Tests.{ltb-true, lt-ltb, eqb-true, eq-eqb}
 use Rattle.relation.specs.Bits.{mask_of}
 use Rattle.relation.specs.Lists.{tabulate, any_below}
-use Rattle.relation.specs.Transitive.{Ring}
 use Rattle.relation.specs.Finite.{Below, rows_of, has_ring}
 use Rattle.relation.proofs.BitLaws.{mask_ext}
 use Rattle.relation.proofs.ListLaws.{or_cases, or_left, or_right, and_left, and_right, and_intro, any_below-true, any_below_intro, any_below_ext, tabulate_ext, below_suc}
@@ -49,21 +48,17 @@ module _ (rules : List Rule) (ws : List Write) where
   pub below-needs : (i j : ℕ) → Below (length ws) (needs rules ws) i j → Needs rules ws i j
   below-needs i j b = needs-true i j b.0 b.1 b.2
 
-  pub below-ring : Ring (Below (length ws) (needs rules ws)) → NeedsRing rules ws
-  unfolding NeedsRing
-  below-ring r = (r.0, plus_map {R = Below (length ws) (needs rules ws)} {S = Needs rules ws} (λ i. i) below-needs r.1)
-
-  pub ring-below : NeedsRing rules ws → Ring (Below (length ws) (needs rules ws))
-  unfolding NeedsRing
-  ring-below r = (r.0, plus_map {R = Needs rules ws} {S = Below (length ws) (needs rules ws)} (λ i. i) needs-below r.1)
-
   pub needs_ring-true : needs_ring rules ws ≡ true → NeedsRing rules ws
-  unfolding needs_ring
-  needs_ring-true e = below-ring (has_ring-ring (needs rules ws) (length ws) e)
+  unfolding needs_ring NeedsRing
+  needs_ring-true e =
+      let r = has_ring-ring (needs rules ws) (length ws) e in
+      (r.0, plus_map {R = Below (length ws) (needs rules ws)} {S = Needs rules ws} (λ i. i) below-needs r.1)
 
   pub true-needs_ring : NeedsRing rules ws → needs_ring rules ws ≡ true
-  unfolding needs_ring
-  true-needs_ring r = ring-has_ring (needs rules ws) (length ws) (ring-below r)
+  unfolding needs_ring NeedsRing
+  true-needs_ring r =
+      ring-has_ring (needs rules ws) (length ws)
+      (r.0, plus_map {R = Needs rules ws} {S = Below (length ws) (needs rules ws)} (λ i. i) needs-below r.1)
 
   module _ (stored : ℕ → Bool) (w : Write) where
     pub late-true : late rules ws stored w ≡ true → Late rules ws stored w

@@ -18,7 +18,7 @@ use Rattle.model.specs.Test.{Test, schedules, disk_after, HoldsFor, holds_for, B
 use Rattle.model.specs.Theorem.{Agrees}
 use Rattle.model.proofs.ScheduleLaws.{valid-true, true-valid}
 use Rattle.model.proofs.CheckLaws.{consistent-true, true-consistent}
-use Rattle.relation.proofs.CountLaws.{count_none, none-count}
+use Rattle.model.proofs.CountLaws.{count_none, none-count}
 
 module _ (Counts : ℕ → Type 0) (counts : ℕ → Bool) (t : Test) (agrees : Agrees Counts counts t) where
   -- ---- a bad schedule

@@ -1,6 +1,6 @@
 -- The agreement theorems, each put together from its two directions.
 use lib.ListN.{length}
-use Rattle.model.specs.Theorem.{NeededWrites, RingOfNeeds, LateWrite, EarliestReady, Depends, KnownRules, ValidSchedule, DamagedRange, CheckHolds, ConsistentDisk, BadScheduleFor, HoldingTestFor, DecidedFor, SmallestScheduleFor, BadSchedule, HoldingTest, Decided, FlagsCounted, SmallestSchedule, StorableSchedule, StorableExactly, StoreOrders, StorableAmongValid}
+use Rattle.model.specs.Theorem.{NeededWrites, RingOfNeeds, LateWrite, EarliestReady, Depends, KnownRules, ValidSchedule, DamagedRange, CheckHolds, ConsistentDisk, BadScheduleFor, HoldingTestFor, DecidedFor, SmallestScheduleFor, BadSchedule, HoldingTest, Decided, FlagsCounted, SmallestSchedule}
 use Rattle.model.proofs.NeedsLaws.{needs-true, true-needs, needs_ring-true, true-needs_ring, late-true, true-late}
 use Rattle.model.proofs.ReadyLaws.{ready_earliest, earliest_ready}
 use Rattle.model.specs.Schedule.{Valid, valid}
@@ -8,8 +8,7 @@ use Rattle.model.specs.Test.{TestHolds, test_holds, Bad, bad, bad_count, smalles
 use Rattle.model.proofs.RuleLaws.{depends_on-true, true-depends_on, known-true, true-known}
 use Rattle.model.proofs.ScheduleLaws.{valid-true, true-valid}
 use Rattle.model.proofs.CheckLaws.{damaged-true, true-damaged, damaged-fails-all, holds-true, true-holds, consistent-true, true-consistent}
-use Rattle.relation.proofs.CountLaws.{count_members}
-use Rattle.model.proofs.StorableLaws.{storable-true, true-storable, storable-valid, holds-storable, moment_storable, storable_moment, order-ringless, ringless-order}
+use Rattle.model.proofs.CountLaws.{count_members}
 use Rattle.model.proofs.TestLaws.{is-bad_for, bad_for-is, is-holds_for, holds_for-is, count-holds_for, holds_for-count, holds_for_or_bad, bad_for-fails, some_smallest_for, smallest_for_only, smallest_for_computed, computed_smallest_for, holds_for-none, none-holds_for, valid_agrees}
 
 pub depends : Depends
@@ -83,17 +82,3 @@ unfolding TestHolds smallest_bad
 smallest_schedule rules t =
     let f = smallest_schedule_for (Valid rules t.main) (valid rules t.main) t (valid_agrees rules t) in
     record { one = f.one; only = f.only; computed = f.computed; holds = f.holds }
-
--- ---- the second judgement
-
-pub storable-schedule : StorableSchedule
-storable-schedule rules ws s = (true-storable rules ws s, storable-true rules ws s)
-
-pub storable_exactly : StorableExactly
-storable_exactly rules ws no_ring s = (storable_moment rules ws no_ring s, moment_storable rules ws s)
-
-pub store_orders : StoreOrders
-store_orders rules ws = (order-ringless rules ws, ringless-order rules ws)
-
-pub storable-among-valid : StorableAmongValid
-storable-among-valid = record { schedule = storable-valid; test = holds-storable }

@@ -6,7 +6,6 @@ pub mod Schedule
 pub mod Check
 pub mod Needs
 pub mod Test
-pub mod Storable
 pub mod Answer
 pub mod Find
 pub mod Theorem

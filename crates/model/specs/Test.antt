@@ -1,8 +1,7 @@
 -- Tests, and what the judge counts.
-use Rattle.std.specs.Prelude.{ℕ, ◌^◌, ◌<◌, Bool, not, ◌&&◌, List, length}
+use Rattle.std.specs.Prelude.{ℕ, zero, suc, ◌+◌, ◌^◌, ◌<◌, Bool, cond, not, ◌&&◌, List, length}
 use Rattle.std.proofs.Math.Option.{Option, none, some}
 use Rattle.relation.specs.Best.{Smallest, smallest_below}
-use Rattle.relation.specs.Count.{count_below}
 use Rattle.relation.specs.Lists.{all_below}
 use Rattle.model.specs.declared.Write.{Write}
 use Rattle.model.specs.declared.Rule.{Rule}
@@ -39,6 +38,11 @@ schedules t = 2 ^ length t.main
 -- the disk that a schedule of the main writes leaves
 abbrev pub disk_after : Test → ℕ → List ℕ
 disk_after t s = run t.main s (initial_disk t)
+
+-- how many numbers below n pass a test
+unfoldable pub count_below : (ℕ → Bool) → ℕ → ℕ
+count_below p zero = 0
+count_below p (suc n) = cond (p n) 1 0 + count_below p n
 
 -- ---- for any meaning `Counts` of which schedules count
 

@@ -10,10 +10,8 @@ use Rattle.model.specs.declared.Check.{Check}
 use Rattle.model.specs.Rules.{Label, DependsOn, depends_on, Known, known}
 use Rattle.model.specs.Schedule.{flagged, Valid, valid}
 use Rattle.model.specs.Needs.{Needs, NeedsRing, Earliest, Late, needs, needs_ring, ready, late}
-use Rattle.model.specs.Storable.{Storable, storable, TestHoldsStorable, StoreOrder, StoredAtSomeMoment}
 use Rattle.model.specs.Check.{RangeHolds, Damaged, damaged, Holds, holds, Consistent, consistent}
-use Rattle.relation.specs.Count.{count_below}
-use Rattle.model.specs.Test.{Test, schedules, HoldsFor, holds_for, BadFor, bad_for, bad_count_for, SmallestBadFor, smallest_bad_for, TestHolds, test_holds, Bad, bad, bad_count, SmallestBad, smallest_bad}
+use Rattle.model.specs.Test.{Test, schedules, HoldsFor, holds_for, BadFor, bad_for, bad_count_for, SmallestBadFor, smallest_bad_for, TestHolds, test_holds, Bad, bad, count_below, bad_count, SmallestBad, smallest_bad}
 
 -- a label depends on another
 abbrev pub Depends : Type 0
@@ -110,22 +108,3 @@ pub record SmallestFailing (rules : List Rule) (t : Test) : Type 0 where
 
 abbrev pub SmallestSchedule : Type 0
 SmallestSchedule = (rules : List Rule) (t : Test) → SmallestFailing rules t
-
--- ---- the second judgement (02, [10])
-
--- a schedule is storable
-abbrev pub StorableSchedule : Type 0
-StorableSchedule = (rules : List Rule) (ws : List Write) (s : ℕ) → Storable rules ws s ↔ storable rules ws s ≡ true
-
--- *these are exactly the sets stored at some moment of some order of stores*, without a ring of needs
-abbrev pub StorableExactly : Type 0
-StorableExactly = (rules : List Rule) (ws : List Write) → (NeedsRing rules ws → ⊥) → (s : ℕ) → Storable rules ws s ↔ StoredAtSomeMoment rules ws s
-
--- and with a ring there is no such order
-abbrev pub StoreOrders : Type 0
-StoreOrders = (rules : List Rule) (ws : List Write) → ((order : List ℕ) × StoreOrder rules ws order) ↔ (NeedsRing rules ws → ⊥)
-
--- a schedule that the second judgement counts is one that the first counts; so a test that holds by the first holds by the second
-pub record StorableAmongValid : Type 0 where
-  pub schedule : (rules : List Rule) (ws : List Write) (s : ℕ) → Storable rules ws s → Valid rules ws s
-  pub test : (rules : List Rule) (t : Test) → TestHolds rules t → TestHoldsStorable rules t

@@ -9,10 +9,8 @@ pub mod UnionLaws
 pub mod WithoutLaws
 pub mod SetLaws
 pub mod TableLaws
-pub mod CountLaws
 pub mod BestLaws
 pub mod MemberLaws
 pub mod PeelLaws
 pub mod ReachLaws
 pub mod AddedLaws
-pub mod OrderLaws

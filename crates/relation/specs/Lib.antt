@@ -4,9 +4,7 @@ pub mod Transitive
 pub mod Finite
 pub mod Union
 pub mod Tables
-pub mod Count
 pub mod Best
 pub mod Rank
 pub mod Peel
 pub mod Reach
-pub mod Orders

@@ -26,8 +26,7 @@ use Rattle.model.specs.Rules.{stands, matches, DependsOn, depends_on, known}
 use Rattle.model.specs.Cyclic.{no_rule, leads, has, equal_leads, meets, cyclic}
 use Rattle.model.specs.Schedule.{store, run, written, no_write, valid, label_at}
 use Rattle.model.specs.Check.{damaged, range_holds, holds, consistent, Consistent}
-use Rattle.relation.specs.Count.{count_below}
-use Rattle.model.specs.Test.{Test, test, file, initial_disk, bad, bad_count, TestHolds}
+use Rattle.model.specs.Test.{Test, test, file, initial_disk, bad, count_below, bad_count, TestHolds}
 use Rattle.model.proofs.RuleLaws.{depends_on-true, true-depends_on}
 use Rattle.model.proofs.CheckLaws.{true-consistent}
 use Rattle.model.proofs.TestLaws.{count-holds}

@@ -1,6 +1,6 @@
 -- What stays true of a book: a cache can hold it under the opened rules, and its writes are of the right widths.
 use mathlib.Core.Path.{◌≡◌, refl, subst}
-use mathlib.Core.Logic.{inr}
+use mathlib.Core.Logic.{inl, inr}
 use mathlib.Core.Bool.{false}
 use mathlib.Core.List.{List, [], ◌∷◌, ◌++◌}
 use Prim.Native.Nat.{ℕ, zero, suc, ◌<◌}
@@ -8,7 +8,8 @@ use lib.ListN.{length, get_or}
 use Rattle.model.specs.Limits.{most_held}
 use Rattle.model.specs.declared.Write.{Write}
 use Rattle.model.specs.declared.Rule.{Rule}
-use Rattle.model.specs.Schedule.{no_write, write_at}
+use Rattle.model.specs.Rules.{DependsOn}
+use Rattle.model.specs.Schedule.{no_write, write_at, label_at}
 use Rattle.model.specs.Needs.{Needs, NeedsRing, Late, ready}
 use Rattle.file_format.specs.Encode.{WriteFits}
 use Rattle.cache_model.specs.Entries.{entry, accepted, flag_at, appended, Holdable}
@@ -19,6 +20,10 @@ use Rattle.cache_statelaws.proofs.LayoutLaws.{Worded}
 use Rattle.cache_statelaws.proofs.SoundLaws.{holdable_sound}
 use Rattle.cache_soundlaws.proofs.HoldableLaws.{holdable_flagging, holdable_appended, each-appended}
 use Rattle.run_laws.specs.Book.{Book, step_entered, steps_entered}
+
+pub needs-by-rule : (rules : List Rule) (ws : List Write) (i j : ℕ) → i < length ws → j < length ws → DependsOn rules (label_at ws i) (label_at ws j) → Needs rules ws i j
+unfolding Needs
+needs-by-rule rules ws i j hi hj d = (hi, hj, inl d)
 
 pub needs-by-address : (rules : List Rule) (ws : List Write) (i j : ℕ) → i < length ws → j < length ws → j < i → (write_at ws j).address ≡ (write_at ws i).address → Needs rules ws i j
 unfolding Needs

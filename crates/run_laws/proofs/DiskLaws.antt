@@ -1,6 +1,6 @@
 -- The disk: a store on top of the stored writes in order of arrival is the same as the write flagged in its place, because no stored
 -- write behind it has its address. And the disk of bytes follows the disk of blocks.
-use mathlib.Core.Path.{◌≡◌, refl, sym, ap, subst, ◌∙◌}
+use mathlib.Core.Path.{◌≡◌, refl, sym, ap, subst, subst₂, ◌∙◌}
 use mathlib.Core.Logic.{◌≢◌, ◌⊎◌, inl, inr, ⊎_elim}
 use mathlib.Core.Bool.{Bool, true, false, cond, false≢true}
 use mathlib.Core.List.{List, [], ◌∷◌, ◌++◌}
@@ -20,13 +20,10 @@ use Rattle.relation.proofs.ListLaws.{length-tabulate, get_d_tabulate}
 use Rattle.model.specs.declared.Write.{Write}
 use Rattle.model.specs.declared.Rule.{Rule}
 use Rattle.model.specs.Limits.{disk_blocks}
-use Rattle.model.specs.Rules.{DependsOn}
+use Rattle.model.specs.Rules.{DependsOn, label_of}
 use Rattle.model.specs.Check.{Consistent}
 use Rattle.model.specs.Test.{Test, initial_disk, disk_after, TestHolds}
 use Rattle.model.specs.Schedule.{no_write, write_at, label_at, store, run, Valid}
-use Rattle.model.specs.Needs.{Needs}
-use Rattle.model.specs.Storable.{Storable, TestHoldsStorable}
-use Rattle.model.proofs.StorableLaws.{storable-valid, holds-storable}
 use Rattle.file_format.specs.Bytes.{byte, half, word, bytes4, block_length, disk_length, block_in, blocks_of}
 use Rattle.file_format.specs.Encode.{WriteFits}
 use Rattle.file_format.proofs.ByteLaws.{number}
@@ -37,7 +34,7 @@ use Rattle.cache_statelaws.proofs.EntryLaws.{length-accepted, accepted-at, flag-
 use Rattle.cache_soundlaws.proofs.KeepLaws.{length-stored}
 use Rattle.run_laws.specs.Book.{Book, applied, schedule_of, Begins}
 use Rattle.run_laws.specs.Theorem.{NoneBeyond}
-use Rattle.run_laws.proofs.BookLaws.{Lawful, needs-by-address}
+use Rattle.run_laws.proofs.BookLaws.{Lawful, needs-by-address, needs-by-rule}
 
 -- ---- stores to different places commute
 
@@ -105,16 +102,12 @@ bit_beyond : (b : Book) (i : ℕ) → length b ≤ i → bit (schedule_of b) i �
 unfolding schedule_of
 bit_beyond b i h = bit_mask (flag_at b) (length b) i ∙ rw (le-ltb i (length b) h)
 
--- the stored writes of a book need only stored ones
-pub storable-book : (rules : List Rule) (b : Book) → Lawful rules b → Storable rules (accepted b) (schedule_of b)
-unfolding Storable
-storable-book rules b f i j p n =
-    let bi : i < length b = subst (λ (k : ℕ). i < k) (length-accepted b) (unfold Needs in n.0) in
-    let bj : j < length b = subst (λ (k : ℕ). j < k) (length-accepted b) (unfold Needs in n.1) in
-    bit-schedule b j bj ∙ f.fine.closed i j (sym (bit-schedule b i bi) ∙ p) n
-
 pub valid-book : (rules : List Rule) (b : Book) → Lawful rules b → Valid rules (accepted b) (schedule_of b)
-valid-book rules b f = storable-valid rules (accepted b) (schedule_of b) (storable-book rules b f)
+unfolding Valid
+valid-book rules b f i j hi hj p d =
+    let bi : i < length b = subst (λ (n : ℕ). i < n) (length-accepted b) hi in
+    let bj : j < length b = subst (λ (n : ℕ). j < n) (length-accepted b) hj in
+    bit-schedule b j bj ∙ f.fine.closed i j (sym (bit-schedule b i bi) ∙ p) (needs-by-rule rules (accepted b) i j hi hj d)
 
 -- ---- bytes and blocks
 
@@ -206,28 +199,25 @@ run-front (w ∷ ws) rest s d h = run-front ws rest (s / 2) (cond (eqb (s % 2) 1
 
 -- ---- the disk left is consistent
 
--- what a trace's beginning needs in the trace it needs among these writes, or it depends on a write beyond them: an earlier write to its address is never beyond
-front-needs : (rules : List Rule) (ws rest : List Write) (i j : ℕ) → i < length ws → Needs rules (ws ++ rest) i j
-    → Needs rules ws i j ⊎ ((length ws ≤ j) × (j < length (ws ++ rest)) × DependsOn rules (label_at (ws ++ rest) i) (label_at (ws ++ rest) j))
-unfolding Needs
-front-needs rules ws rest i j hi (a, b, n) = elim (dec_lt j (length ws)) [
-  | yes hj ↦
-      let same : write_at (ws ++ rest) i ≡ write_at ws i = get_or-append ws rest no_write i hi in
-      let there : write_at (ws ++ rest) j ≡ write_at ws j = get_or-append ws rest no_write j hj in
-      inl (hi, hj, rw (same, there) at n)
-  | no ge ↦ ⊎_elim
-      (λ (d : DependsOn rules (label_at (ws ++ rest) i) (label_at (ws ++ rest) j)). inr (omega arith, b, d))
-      (λ (e : (j < i) × ((write_at (ws ++ rest) j).address ≡ (write_at (ws ++ rest) i).address)). let l = e.0 in absurd (omega arith))
-      n
-]
+label-front : (ws rest : List Write) (i : ℕ) → i < length ws → label_at (ws ++ rest) i ≡ label_at ws i
+label-front ws rest i h = ap label_of (get_or-append ws rest no_write i h)
 
 pub consistent-left : (rules : List Rule) (b : Book) (disk : List ℕ) → Lawful rules b → length disk ≡ disk_length
-    → (t : Test) → blocks_of disk ≡ initial_disk t → Begins (accepted b) t.main → TestHolds rules t ⊎ TestHoldsStorable rules t → NoneBeyond rules b t.main
+    → (t : Test) → blocks_of disk ≡ initial_disk t → Begins (accepted b) t.main → TestHolds rules t → NoneBeyond rules b t.main
     → Consistent t.checks (blocks_of (applied b disk))
-unfolding Begins TestHoldsStorable NoneBeyond
+unfolding Begins TestHolds NoneBeyond
 consistent-left rules b disk f size t start begins holds beyond =
-    subst (Consistent t.checks) same (⊎_elim (holds-storable rules t) (λ h. h) holds (schedule_of b) below storable)
+    subst (Consistent t.checks) same (holds (schedule_of b) below valid)
   where
+    valid-at : (i j : ℕ) → i < length b → j < length b → bit (schedule_of b) i ≡ true → DependsOn rules (label_at (accepted b) i) (label_at (accepted b) j) → bit (schedule_of b) j ≡ true
+    valid-at i j bi bj p d = bit-schedule b j bj ∙ f.fine.closed i j (sym (bit-schedule b i bi) ∙ p) (needs-by-rule rules (accepted b) i j (subst (λ (n : ℕ). i < n) (sym (length-accepted b)) bi) (subst (λ (n : ℕ). j < n) (sym (length-accepted b)) bj) d)
+
+    ws : List Write
+    ws = accepted b
+
+    rest : List Write
+    rest = begins.0
+
     short : length b ≤ length t.main
     short = let a = ap length begins.1 in let c = length-append (accepted b) begins.0 in let e = length-accepted b in omega arith
 
@@ -237,15 +227,16 @@ consistent-left rules b disk f size t start begins holds beyond =
     below : schedule_of b < 2 ^ length t.main
     below = lt_of_lt_of_le mask (pow_mono {i = length b} {j = length t.main} short)
 
-    storable : Storable rules t.main (schedule_of b)
-    storable = unfold Storable in λ i j p n. elim (dec_lt i (length b)) [
+    front : (i : ℕ) → i < length b → label_at t.main i ≡ label_at (accepted b) i
+    front i h = ap (λ (m : List Write). label_at m i) begins.1 ∙ label-front (accepted b) begins.0 i (subst (λ (n : ℕ). i < n) (sym (length-accepted b)) h)
+
+    valid : Valid rules t.main (schedule_of b)
+    valid = unfold Valid in λ i j hi hj p d. elim (dec_lt i (length b)) [
       | no ge ↦ absurd (false≢true (sym (bit_beyond b i (omega arith)) ∙ p))
-      | yes bi ↦ ⊎_elim
-          (λ (m : Needs rules (accepted b) i j). unfold Storable in storable-book rules b f i j p m)
-          (λ (d : (length (accepted b) ≤ j) × (j < length (accepted b ++ begins.0)) × DependsOn rules (label_at (accepted b ++ begins.0) i) (label_at (accepted b ++ begins.0) j)).
-          absurd (beyond i j bi (sym (bit-schedule b i bi) ∙ p) (subst (λ (k : ℕ). k ≤ j) (length-accepted b) d.0)
-          (rw begins.1 d.1) (rw begins.1 d.2)))
-          (front-needs rules (accepted b) begins.0 i j (subst (λ (k : ℕ). i < k) (sym (length-accepted b)) bi) (rw begins.1 at n))
+      | yes bi ↦ elim (dec_lt j (length b)) [
+        | yes bj ↦ valid-at i j bi bj p (subst₂ (DependsOn rules) (front i bi) (front j bj) d)
+        | no ge ↦ absurd (beyond i j bi (sym (bit-schedule b i bi) ∙ p) (omega arith) hj d)
+      ]
     ]
 
     same : disk_after t (schedule_of b) ≡ blocks_of (applied b disk)

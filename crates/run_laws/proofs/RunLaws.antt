@@ -41,7 +41,7 @@ use Rattle.run_laws.specs.Gives.{lent_disk, kind_conditions, conditions, StepAns
 use Rattle.run_laws.specs.Theorem.{Safe, Answers, Made, now, later, inside, begun, Demand3}
 use Rattle.model.proofs.ReadyLaws.{ready_earliest, none-ready}
 use Rattle.run_laws.proofs.BookLaws.{Lawful, lawful_words, lawful_stepped, lawful_steps, lawful_appended, lawful_sound}
-use Rattle.run_laws.proofs.DiskLaws.{storable-book, valid-book, consistent-left, length-applied}
+use Rattle.run_laws.proofs.DiskLaws.{valid-book, consistent-left, length-applied}
 use Rattle.run_laws.proofs.StepLaws.{step-book, drain-book}
 use Rattle.run_laws.proofs.GivesLaws.{answer-refused, done, tested, tested_by, past, gives-answer, by_single, Singles, gives_one}
 use Rattle.run_laws.proofs.CallLaws.{kept_same, right_length, decide-length, decide_soundness, both_own, own_usable, outcome_of, by_length, by_soundness, leaves, get-gives, gets_one, open_gives, opens-none}
@@ -69,7 +69,7 @@ module _ (rules : List Rule) (disk : List ℕ) (size : length disk ≡ disk_leng
   mirrored b f = record { fine = f; same = refl }
 
   safe : (b : Book) → Lawful rules b → Safe rules disk (at rules disk b)
-  safe b f = record { sound = lawful_sound rules b f; size = length-applied b disk ∙ size; equals = refl; valid = valid-book rules b f; storable = storable-book rules b f; consistent = consistent-left rules b disk f size }
+  safe b f = record { sound = lawful_sound rules b f; size = length-applied b disk ∙ size; equals = refl; valid = valid-book rules b f; consistent = consistent-left rules b disk f size }
 
   -- ---- the buffers of a call
 

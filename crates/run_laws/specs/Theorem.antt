@@ -1,5 +1,5 @@
 -- The claim about whole runs: demand 3.
-use Rattle.std.specs.Prelude.{ℕ, ◌≤◌, ◌<◌, ◌≡◌, ◌↔◌, ◌⊎◌, true, length}
+use Rattle.std.specs.Prelude.{ℕ, ◌≤◌, ◌<◌, ◌≡◌, ◌↔◌, true, length}
 use mathlib.Core.List.{List, [], ◌∷◌, Memᴰ}
 use Rattle.model.specs.declared.Write.{Write}
 use Rattle.model.specs.declared.Rule.{Rule}
@@ -8,7 +8,6 @@ use Rattle.model.specs.Rules.{DependsOn}
 use Rattle.model.specs.Schedule.{label_at, Valid}
 use Rattle.model.specs.Check.{Consistent}
 use Rattle.model.specs.Test.{Test, File, initial_disk, TestHolds}
-use Rattle.model.specs.Storable.{Storable, TestHoldsStorable}
 use Rattle.file_format.specs.Bytes.{disk_length, blocks_of}
 use Rattle.file_format.specs.File.{read_of}
 use Rattle.file_format.specs.Encode.{WriteFits}
@@ -29,17 +28,15 @@ NoneBeyond rules b trace =
     (i j : ℕ) → i < length b → flag_at b i ≡ true → length b ≤ j → j < length trace → DependsOn rules (label_at trace i) (label_at trace j) → ⊥
 
 -- wherever the supply is cut: the disk left is the disk at opening with the book's stored writes applied in the order they came;
--- these are a valid schedule of the accepted writes, and one that the second judgement counts (02, [10]); and the disk left is consistent, if the
--- disk at opening is a test's initial disk, the accepted writes begin its main trace, the test holds under the opened rules, by either judgement,
--- and no stored write depends on a main write beyond.
+-- these are a valid schedule of the accepted writes; and the disk left is consistent, if the disk at opening is a test's initial disk,
+-- the accepted writes begin its main trace, the test holds under the opened rules, and no stored write depends on a main write beyond.
 -- State and disk are such that a call on the run's own meets neither 14 nor 15
 pub record Safe (rules : List Rule) (disk : List ℕ) (m : Moment) : Type 0 where
   pub sound : Sound m.held.state
   pub size : length m.held.disk ≡ disk_length
   pub equals : m.held.disk ≡ applied m.book disk
   pub valid : Valid rules (accepted m.book) (schedule_of m.book)
-  pub storable : Storable rules (accepted m.book) (schedule_of m.book)
-  pub consistent : (t : Test) → blocks_of disk ≡ initial_disk t → Begins (accepted m.book) t.main → TestHolds rules t ⊎ TestHoldsStorable rules t
+  pub consistent : (t : Test) → blocks_of disk ≡ initial_disk t → Begins (accepted m.book) t.main → TestHolds rules t
       → NoneBeyond rules m.book t.main → Consistent t.checks (blocks_of m.held.disk)
 
 -- ---- what is claimed of every call

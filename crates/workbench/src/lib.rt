@@ -5,8 +5,7 @@ ghost use Rattle.judge_cases.specs.Judge.{case_in};
 ghost use Rattle.find_call.specs.Finder.{find_leaves, found_coded, find_of};
 ghost use Rattle.log_trace.specs.Traced.{trace_out, trace_answer};
 ghost use Rattle.workbench.specs.Printed.{printed, printed_of};
-ghost use Rattle.judge_storable.specs.Judge.{storable_case_in};
-ghost use Rattle.judge_answers.specs.Judged.{judge_answer, verdict_answer, judge_storable_answer, verdict_storable_answer};
+ghost use Rattle.judge_answers.specs.Judged.{judge_answer, verdict_answer};
 ghost use Rattle.file_calls.specs.File.{read_answer, locate_answer, cyclic_answer};
 
 use judge_cases::{Decided, Judged};
@@ -56,31 +55,6 @@ pub extern "C" fn pelzhondy_verdict(file: &[u8], test: u64) -> u64
     ensures { result ≡ verdict_answer (case_in file.now test) }
 {
     match judge_cases::decide(file, test) {
-        Decided::As(v) => judge_answers::code_of_verdict(v),
-        Decided::Refused(why) => model::code_of(why),
-    }
-}
-
-// Judges test `test`, counted from 1, by the second judgement: only those schedules count in which the
-// dependencies of each flagged write, and the earlier writes to its address, are flagged too. The answer is as
-// judge's. Refused by reading, 8, 9, 27.
-#[unsafe(no_mangle)]
-pub extern "C" fn pelzhondy_judge_storable(file: &[u8], test: u64) -> u64
-    ensures { result ≡ judge_storable_answer (storable_case_in file.now test) }
-{
-    match judge_storable::judge(file, test) {
-        Judged::Counts(j) => judge_answers::code_of(j),
-        Judged::Refused(why) => model::code_of(why),
-    }
-}
-
-// The verdict on test `test`, counted from 1, by the second judgement. The answer is as verdict's. Refused by
-// reading, 8, 9, 27.
-#[unsafe(no_mangle)]
-pub extern "C" fn pelzhondy_verdict_storable(file: &[u8], test: u64) -> u64
-    ensures { result ≡ verdict_storable_answer (storable_case_in file.now test) }
-{
-    match judge_storable::decide(file, test) {
         Decided::As(v) => judge_answers::code_of_verdict(v),
         Decided::Refused(why) => model::code_of(why),
     }

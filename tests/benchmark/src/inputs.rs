@@ -317,7 +317,7 @@ fn longest() -> File {
         let tests: Vec<Test> = (0..MOST_TESTS).map(&mut test).collect();
         let judged = |test| counts::judge_test(&rules, test);
         let judged: Vec<_> = tests.iter().map(judged).collect();
-        let valid: u64 = judged.iter().map(|judgement| judgement.counted).sum();
+        let valid: u64 = judged.iter().map(|judgement| judgement.valid).sum();
         let hold = judged.iter().filter(|judgement| judgement.bad == 0).count();
         let file = File { rules, tests };
         let is_telling = (2000..3000).contains(&valid) && (1..MOST_TESTS).contains(&hold);
@@ -345,7 +345,7 @@ pub fn dense_file() -> Vec<u8> {
         let is_dense = rules.len() >= 6
             && test.checks.len() == MOST_CHECKS
             && judgement.bad == 0
-            && (300..1500).contains(&judgement.counted);
+            && (300..1500).contains(&judgement.valid);
         let tests = vec![test];
         is_dense.then(|| File { rules, tests }.to_bytes())
     };
@@ -554,12 +554,8 @@ mod tests {
         let test = &file.tests[0];
         assert_eq!(test.main.len(), MOST_MAIN);
         assert_eq!(test.checks.len(), MOST_CHECKS);
-        let Judgement {
-            counted,
-            bad,
-            shown,
-        } = counts::judge_test(&file.rules, test);
-        (counted, bad, shown)
+        let Judgement { valid, bad, shown } = counts::judge_test(&file.rules, test);
+        (valid, bad, shown)
     }
 
     /// The inputs for the schedule shown are what their rows say.

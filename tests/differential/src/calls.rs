@@ -28,14 +28,6 @@ pub fn verdict(file: &Lent, test: u64) -> u64 {
     unsafe { linked(library::VERDICT)(file.pointer(), file.len(), test) }
 }
 
-pub fn judge_storable(file: &Lent, test: u64) -> u64 {
-    unsafe { linked(library::JUDGE_STORABLE)(file.pointer(), file.len(), test) }
-}
-
-pub fn verdict_storable(file: &Lent, test: u64) -> u64 {
-    unsafe { linked(library::VERDICT_STORABLE)(file.pointer(), file.len(), test) }
-}
-
 pub fn judge_lines(file: &Lent, out: &mut Lent) -> u64 {
     let routine = linked(library::JUDGE_LINES);
     unsafe { routine(file.pointer(), file.len(), out.buffer(), out.len()) }

@@ -8,7 +8,6 @@ mod child;
 mod cyclic;
 mod finding;
 mod harness;
-mod judges;
 mod judging;
 mod lent;
 mod lines;
@@ -21,7 +20,6 @@ mod reading;
 mod receiver;
 mod stack;
 mod stacks;
-mod storable;
 mod tracing;
 
 use std::env;
@@ -34,9 +32,7 @@ const BASE_SEED: u64 = 141;
 /// All suites. A new module of suites joins here.
 fn parts() -> Vec<Part> {
     use library::{CYCLIC, FIND, JUDGE, JUDGE_LINES, LOCATE, READ, TRACE, VERDICT};
-    use library::{JUDGE_STORABLE, VERDICT_STORABLE};
     let judge = JUDGE.is_some() && VERDICT.is_some();
-    let storable = judge && JUDGE_STORABLE.is_some() && VERDICT_STORABLE.is_some();
     let program = paths::program().is_file();
     let part = Part::new;
     let mut parts = vec![
@@ -44,17 +40,12 @@ fn parts() -> Vec<Part> {
         part("locate", LOCATE.is_some(), locate::suites()),
         part("cyclic", CYCLIC.is_some(), cyclic::suites()),
         part("judge, verdict", judge, judging::suites()),
-        part(
-            "judge_storable, verdict_storable",
-            storable,
-            storable::suites(),
-        ),
         part("judge_lines", JUDGE_LINES.is_some(), lines::suites()),
         part("the judging program", program, program::suites()),
         part("find", FIND.is_some(), finding::suites()),
         part("trace", TRACE.is_some(), tracing::suites()),
     ];
-    let stacks = storable && JUDGE_LINES.is_some() && FIND.is_some();
+    let stacks = judge && JUDGE_LINES.is_some() && FIND.is_some();
     parts.push(part("stack", stacks, stacks::suites()));
     parts.extend(receiver::parts());
     let all = parts.iter().all(|part| part.is_there);

@@ -428,9 +428,9 @@ fn cut_and_judged(run: &mut Run) -> Outcome {
         let known = expected(&file.rules, &file.tests[0]);
         let bytes = file.to_mixed_bytes(&mut random);
         let lent = Lent::new(&mut random, &bytes);
-        let judged = answer::judged(known);
+        let judged = known.valid + (known.bad << 21) + (known.shown << 42);
         same_answer("judge", &bytes, judged, calls::judge(&lent, 1))?;
-        let verdict = answer::told(known.verdict());
+        let verdict = if known.bad == 0 { 0 } else { 1 + known.shown };
         same_answer("verdict", &bytes, verdict, calls::verdict(&lent, 1))?;
         for (count, cut) in telling.iter_mut().zip(CUTS) {
             let (rules, test) = (cut.rules(&file.rules), cut.test(&file.tests[0]));

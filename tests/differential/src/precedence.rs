@@ -311,8 +311,12 @@ fn judging(run: &mut Run) -> Outcome {
                 ];
                 let known = unread.or_else(|| first(&listed));
                 let inputs = [("file", &bytes[..])];
-                let judged = judge::judge(&bytes, number).map(answer::judged);
-                let verdict = judge::verdict(&bytes, number).map(answer::told);
+                let judged =
+                    judge::judge(&bytes, number).map(|j| j.valid + (j.bad << 21) + (j.shown << 42));
+                let verdict = judge::verdict(&bytes, number).map(|verdict| match verdict {
+                    judge::Verdict::Holds => 0,
+                    judge::Verdict::Fails(schedule) => 1 + schedule,
+                });
                 same("judge", &inputs, known, judged, calls::judge(&lent, number))?;
                 same(
                     "verdict",

@@ -2,7 +2,7 @@
 
 use crate::file::{each_rule, half, scan, word, MOST_RULES};
 use crate::refused;
-use crate::rules::{add_meetings, has_ring, Rules, MOST_WRITES};
+use crate::rules::{has_ring, Rules, MOST_WRITES};
 use crate::sources::members;
 
 pub const SIZE: usize = 1024;
@@ -101,8 +101,17 @@ impl State {
     }
 
     fn fill_needs(&mut self) {
+        // The place, from 1, of the last write to each address.
+        let mut last = [0u8; 256];
         let count = self.count;
-        self.meet = add_meetings(&self.address[..count], &mut self.needs[..count]);
+        for (i, &address) in self.address[..count].iter().enumerate() {
+            let last = &mut last[address as usize];
+            if *last != 0 {
+                self.needs[i] = 1 << (*last - 1);
+                self.meet = true;
+            }
+            *last = i as u8 + 1;
+        }
         let (name, epoch) = (&self.name[..count], &self.epoch[..count]);
         self.rules
             .add_dependencies(name, epoch, &mut self.needs[..count]);

@@ -1,10 +1,9 @@
 // Judging: of valid schedules only, one at a time or 64 at a time, or only of those that a check hangs
 // on, with the others counted. The verdict goes the last two ways, too, and passes over what has too
-// many flags to be shown; or it looks for nothing but the two blocks that break a check. Of storable
-// schedules there is the fastest way of each.
+// many flags to be shown; or it looks for nothing but the two blocks that break a check.
 
 use crate::file::{scan, Test};
-use crate::order::{Order, Rows};
+use crate::order::{flagged_by, Order};
 use crate::refused;
 use crate::rules::Rules;
 use crate::settled::{each_failing, Closed, Failing};
@@ -15,24 +14,24 @@ use crate::words::{each_word, smallest_of};
 /// A test's counts, and its smallest bad schedule.
 #[derive(Clone, Copy)]
 pub struct Judgement {
-    pub counted: u64,
+    pub valid: u64,
     pub bad: u64,
     pub smallest: Smallest,
 }
 
 impl Judgement {
     const NONE: Judgement = Judgement {
-        counted: 0,
+        valid: 0,
         bad: 0,
         smallest: Smallest::NONE,
     };
 
     fn answer(&self) -> u64 {
-        self.counted + (self.bad << 21) + (self.smallest.shown() << 42)
+        self.valid + (self.bad << 21) + (self.smallest.shown() << 42)
     }
 }
 
-/// counted + 2^21 * bad + 2^42 * the number of the smallest bad schedule, or 0.
+/// valid + 2^21 * bad + 2^42 * the number of the smallest bad schedule, or 0.
 #[inline(never)]
 pub fn judge(file: &[u8], number: u64) -> u64 {
     on_test(file, number, |rules, test| {
@@ -49,17 +48,7 @@ pub fn judge_by_words(file: &[u8], number: u64) -> u64 {
 /// The same without going through what is settled.
 #[inline(never)]
 pub fn judge_settled(file: &[u8], number: u64) -> u64 {
-    on_test(file, number, |rules, test| {
-        settled(test, &Order::of(rules, &test.main)).answer()
-    })
-}
-
-/// The same of storable schedules.
-#[inline(never)]
-pub fn judge_storable(file: &[u8], number: u64) -> u64 {
-    on_needs(file, number, |needs, test| {
-        settled(test, &Order::of_rows(needs)).answer()
-    })
+    on_test(file, number, |rules, test| settled(rules, test).answer())
 }
 
 /// 0 if the test holds, else 1 + the number of the smallest bad schedule. 64 schedules at a time.
@@ -91,22 +80,10 @@ pub fn verdict_settled(file: &[u8], number: u64) -> u64 {
 #[inline(never)]
 pub fn verdict_by_blocks(file: &[u8], number: u64) -> u64 {
     on_test(file, number, |rules, test| {
-        by_blocks(test, || Rows::of_dependencies(rules, &test.main))
+        let mut sources = Sources::NONE;
+        sources.fill(test);
+        smallest_bad(&sources, || flagged_by(rules, &test.main)).verdict()
     })
-}
-
-/// The same of storable schedules.
-#[inline(never)]
-pub fn verdict_storable(file: &[u8], number: u64) -> u64 {
-    on_needs(file, number, |needs, test| by_blocks(test, || needs))
-}
-
-/// A test's verdict by the two blocks that break a check, given how to come to know the rows.
-#[inline(always)]
-fn by_blocks(test: &Test, rows: impl FnOnce() -> Rows) -> u64 {
-    let mut sources = Sources::NONE;
-    sources.fill(test);
-    smallest_bad(&sources, || rows().flags()).verdict()
 }
 
 impl Smallest {
@@ -155,22 +132,11 @@ fn on_test(file: &[u8], number: u64, answer: impl FnOnce(&Rules, &Test) -> u64) 
     answer(&rules, &test)
 }
 
-/// Likewise for the needs of the test's main writes, unless they form a ring.
-#[inline(always)]
-fn on_needs(file: &[u8], number: u64, answer: impl FnOnce(Rows, &Test) -> u64) -> u64 {
-    on_test(file, number, |rules, test| {
-        match Rows::of_needs(rules, &test.main) {
-            Some(needs) => answer(needs, test),
-            None => refused(27, 0),
-        }
-    })
-}
-
 /// A test's judgement, 64 schedules at a time.
 fn by_words(rules: &Rules, test: &Test) -> Judgement {
     let mut judged = Judgement::NONE;
     each_word(test, &Order::of(rules, &test.main), |from, valid, bad| {
-        judged.counted += valid.count_ones() as u64;
+        judged.valid += valid.count_ones() as u64;
         judged.bad += bad.count_ones() as u64;
         judged.smallest.add_of_word(from, bad);
         ANY_FLAGS
@@ -194,18 +160,19 @@ impl Failing for Counted<'_> {
 }
 
 /// A test's judgement without going through what is settled.
-pub fn settled(test: &Test, order: &Order) -> Judgement {
+pub fn settled(rules: &Rules, test: &Test) -> Judgement {
     let mut sources = Sources::NONE;
     sources.fill(test);
-    let closed = Closed::new(test, order);
+    let order = Order::of(rules, &test.main);
+    let closed = Closed::new(test, &order);
     let mut counted = Counted {
         closed: &closed,
         bad: 0,
         smallest: Smallest::NONE,
     };
-    each_failing(&sources, order, &mut counted);
+    each_failing(&sources, &order, &mut counted);
     Judgement {
-        counted: closed.count((1 << test.main.count) - 1),
+        valid: closed.count((1 << test.main.count) - 1),
         bad: counted.bad,
         smallest: counted.smallest,
     }
@@ -261,7 +228,7 @@ impl Visits<'_> {
 
     #[inline(always)]
     fn visit(&mut self, schedule: u64, disk: u64) {
-        self.judged.counted += 1;
+        self.judged.valid += 1;
         if !self.sources.consistent(disk) {
             self.judged.bad += 1;
             self.judged.smallest.add(schedule);

@@ -2,7 +2,6 @@
 
 use crate::file::{scan, Test};
 use crate::judge::settled;
-use crate::order::Order;
 use crate::refused;
 use crate::rules::Rules;
 
@@ -64,8 +63,8 @@ fn put_lines(file: &[u8], text: &mut Text) -> Result<(), u64> {
     for (number, place) in (1..).zip(&scan.places[..scan.tests]) {
         let mut test = Test::NONE;
         test.fill(file, place);
-        let judged = settled(&test, &Order::of(&rules, &test.main));
-        for figure in [number, judged.counted, judged.bad] {
+        let judged = settled(&rules, &test);
+        for figure in [number, judged.valid, judged.bad] {
             text.put_number(figure);
             text.put(b" ");
         }

@@ -110,24 +110,6 @@ impl Rules {
     }
 }
 
-/// Adds to each write's row the last one before it to its address, which has the others in turn behind it.
-/// Says whether there is any.
-#[inline(always)]
-pub fn add_meetings(addresses: &[u8], rows: &mut [u64]) -> bool {
-    // The place, from 1, of the last write to each address.
-    let mut last = [0u8; 256];
-    let mut meet = false;
-    for (i, (row, &address)) in rows.iter_mut().zip(addresses).enumerate() {
-        let last = &mut last[address as usize];
-        if *last != 0 {
-            *row |= 1 << (*last - 1);
-            meet = true;
-        }
-        *last = i as u8 + 1;
-    }
-    meet
-}
-
 /// Up to 64 epochs, ranked: equal ones have the same rank, and a lower one has a lower rank.
 struct Ranks {
     rank: [u8; MOST_WRITES],

@@ -3,12 +3,11 @@
 use reference::checks::Check;
 use reference::counts;
 use reference::crashes;
-use reference::crowded::{crowded_file_of, guarded_file_of};
 use reference::damage;
 use reference::file::{File, Test, LONGEST, MOST_MAIN};
 use reference::find::MOST_MAIN as MOST_TO_FIND;
 use reference::generate::{self, Values};
-use reference::judge::{numbered, readable, ringless, Judgement, Verdict};
+use reference::judge::{numbered, readable, Judgement};
 use reference::random::Random;
 use reference::refusal::{self, Refusal};
 use reference::smallest::{at_limits, bad_at_start, fewer_flags, ties, two_blocks};
@@ -95,43 +94,26 @@ fn same_beginnings(bytes: &[u8]) {
     }
 }
 
-/// The answers of a judge and of a verdict.
-fn answers(of: Result<Judgement, Refusal>) -> (u64, u64) {
-    let judged = |j: Judgement| j.counted + (j.bad << 21) + (j.shown << 42);
-    let told = |j: Judgement| match j.verdict() {
-        Verdict::Holds => 0,
-        Verdict::Fails(schedule) => 1 + schedule,
-    };
-    (answer(of.map(judged)), answer(of.map(told)))
-}
-
 /// All judges and verdicts on tests of a file.
 fn same_judgements(bytes: &[u8], numbers: impl IntoIterator<Item = u64>, seed: u64) {
     let file = readable(bytes);
-    let file = file.as_ref().map_err(|refusal| *refusal);
     for number in numbers {
-        let (judged, told) = answers(file.and_then(|file| {
+        let test = file.as_ref().map_err(|refusal| *refusal);
+        let expected = test.and_then(|file| {
             let test = numbered(file, number)?;
             Ok(counts::expected(&file.rules, test))
-        }));
+        });
+        let judged = |j: Judgement| j.valid + (j.bad << 21) + (j.shown << 42);
+        let judged = answer(expected.map(judged));
         for judge in [judge::judge, judge::judge_by_words, judge::judge_settled] {
             assert_eq!(judge(bytes, number), judged, "seed {seed}");
         }
+        let verdict = |j: Judgement| if j.bad == 0 { 0 } else { 1 + j.shown };
+        let told = answer(expected.map(verdict));
         for verdict in VERDICTS {
             assert_eq!(verdict(bytes, number), told, "seed {seed}");
         }
-        same_storable(bytes, number, seed);
     }
-}
-
-/// The second judge and verdict on a test of a file.
-fn same_storable(bytes: &[u8], number: u64, seed: u64) {
-    let (judged, told) = answers(readable(bytes).and_then(|file| {
-        let test = ringless(&file, number)?;
-        Ok(counts::expected_storable(&file.rules, test))
-    }));
-    assert_eq!(judge::judge_storable(bytes, number), judged, "seed {seed}");
-    assert_eq!(judge::verdict_storable(bytes, number), told, "seed {seed}");
 }
 
 const VERDICTS: [fn(&[u8], u64) -> u64; 3] = [
@@ -219,33 +201,6 @@ fn judging_the_smallest() {
             }
         }
     }
-}
-
-/// Many writes to few addresses: with and without a ring of needs, and such that hold by the second
-/// judgement only.
-#[test]
-fn judging_storable_schedules() {
-    let (mut rings, mut holds, mut only_so) = (0, 0, 0);
-    const FILES: u64 = 3000;
-    for seed in 0..FILES {
-        let mut random = Random::new(seed);
-        let main = random.between(0, MOST_MAIN);
-        let make = random.pick(&[crowded_file_of, guarded_file_of]);
-        let mut file = make(&mut random, main);
-        let fails = counts::expected(&file.rules, &file.tests[0]).bad > 0;
-        // A test without a ring stands behind it, or before it.
-        let number = random.between(1, 2);
-        file.tests.insert(2 - number, Test::default());
-        let bytes = file.to_mixed_bytes(&mut random);
-        (0..4).for_each(|number| same_storable(&bytes, number, seed));
-        match judge::verdict_storable(&bytes, number as u64) {
-            0 if fails => only_so += 1,
-            0 => holds += 1,
-            refused => rings += u64::from(refused >> 63),
-        }
-    }
-    let kinds = [rings, holds, only_so];
-    assert!(kinds.iter().all(|&count| count > FILES / 30), "{kinds:?}");
 }
 
 /// The verdicts alone on tests of 20 main writes, which a judge takes long for.

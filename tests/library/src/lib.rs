@@ -35,9 +35,6 @@ routines! {
     "judge" JUDGE = pelzhondy_judge(Bytes, usize, u64);
     /// Of a file and a test's number: 0 if the test holds, else 1 + the smallest bad schedule's number.
     "verdict" VERDICT = pelzhondy_verdict(Bytes, usize, u64);
-    /// The judge and the verdict of [10] of document 02, of storable schedules in place of valid ones.
-    "judge_storable" JUDGE_STORABLE = pelzhondy_judge_storable(Bytes, usize, u64);
-    "verdict_storable" VERDICT_STORABLE = pelzhondy_verdict_storable(Bytes, usize, u64);
     /// Of a file and a buffer: the length of what the judging program prints, written there.
     "judge_lines" JUDGE_LINES = pelzhondy_judge_lines(Bytes, usize, Buffer, usize);
     /// Of a file and a buffer: the number of rules found, whose fields are written there.

@@ -1,5 +1,5 @@
-// A second way to judge, which goes through no schedules: that a schedule counts, and that its disk is
-// consistent, are decision diagrams over the flags. A diagram asks for one flag after another, in
+// A second way to judge, which goes through no schedules: that a schedule is valid, and that its disk
+// is consistent, are decision diagrams over the flags. A diagram asks for one flag after another, in
 // the order of the writes, up to yes or no, and parts that are the same are one. What the document
 // says of validity, disks and checks becomes diagrams by "if"; how many schedules lead to yes, and which
 // of them is the smallest, is then found part by part.
@@ -9,9 +9,8 @@ use std::collections::HashMap;
 use crate::checks::Check;
 use crate::file::Test;
 use crate::judge::{self, Judgement};
-use crate::needs::needs;
 use crate::schedule::dependencies;
-use crate::writes::{Block, Rule, BLOCKS};
+use crate::writes::{Block, Rule, Write, BLOCKS};
 
 /// Up to so many main writes the schedules are few enough to go through them all, again and again.
 pub const FEW: usize = 12;
@@ -25,52 +24,32 @@ pub fn expected(rules: &[Rule], test: &Test) -> Judgement {
     }
 }
 
-/// The same of the second judgement, whether there is a ring or not.
-pub fn expected_storable(rules: &[Rule], test: &Test) -> Judgement {
-    if test.main.len() <= FEW {
-        judge::judge_storable_test(rules, test)
-    } else {
-        judge_storable_test(rules, test)
-    }
-}
-
 /// The judgement by diagrams.
 pub fn judge_test(rules: &[Rule], test: &Test) -> Judgement {
-    judge_closed(&dependencies(rules, &test.main), test)
-}
-
-/// The second judgement by diagrams.
-pub fn judge_storable_test(rules: &[Rule], test: &Test) -> Judgement {
-    judge_closed(&needs(rules, &test.main), test)
-}
-
-/// The judgement by diagrams if those schedules count in which with each write all are flagged that it
-/// has here.
-fn judge_closed(on: &[Vec<usize>], test: &Test) -> Judgement {
     let mut diagrams = Diagrams::new();
-    let counted = closed(&mut diagrams, on);
+    let valid = valid(&mut diagrams, rules, &test.main);
     let consistent = consistent(&mut diagrams, test);
-    let bad = diagrams.when(consistent, NO, counted);
+    let bad = diagrams.when(consistent, NO, valid);
     Judgement {
-        counted: diagrams.count(counted, test.main.len()),
+        valid: diagrams.count(valid, test.main.len()),
         bad: diagrams.count(bad, test.main.len()),
         shown: diagrams.smallest(bad).unwrap_or(0),
     }
 }
 
-/// Is with every flagged write all flagged that it has?
-fn closed(diagrams: &mut Diagrams, on: &[Vec<usize>]) -> Diagram {
-    let mut closed = YES;
-    for (i, on) in on.iter().enumerate() {
+/// Is every dependency of every flagged write flagged?
+fn valid(diagrams: &mut Diagrams, rules: &[Rule], main: &[Write]) -> Diagram {
+    let mut valid = YES;
+    for (i, on) in dependencies(rules, main).iter().enumerate() {
         let all = on.iter().fold(YES, |all, &j| {
             let flag = diagrams.flag(j);
             diagrams.and(all, flag)
         });
         let flag = diagrams.flag(i);
         let kept = diagrams.when(flag, all, YES);
-        closed = diagrams.and(closed, kept);
+        valid = diagrams.and(valid, kept);
     }
-    closed
+    valid
 }
 
 /// Do all checks hold?

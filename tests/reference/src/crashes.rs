@@ -9,7 +9,7 @@ use crate::log;
 use crate::random::Random;
 use crate::samples::log_rules;
 use crate::schedule::dependencies;
-use crate::writes::{block, write, Block, Label, Name, Predicate, Rule, Write, EMPTY, PREDICATES};
+use crate::writes::{block, write, Block, Name, Predicate, Rule, Write, EMPTY, PREDICATES};
 
 /// Up to `most` rules that are not cyclic.
 pub fn acyclic_rules(random: &mut Random, values: &Values, most: usize) -> Vec<Rule> {
@@ -21,20 +21,6 @@ pub fn acyclic_rules(random: &mut Random, values: &Values, most: usize) -> Vec<R
         }
     }
     rules
-}
-
-/// Adds a rule by which one label depends on another, unless they are cyclic with it.
-pub fn tie(rules: &mut Vec<Rule>, one: Label, two: Label) {
-    let relates = |p: &&Predicate| p.relates(one.epoch, two.epoch);
-    let predicate = PREDICATES.iter().find(relates);
-    rules.push(Rule {
-        name: one.name,
-        predicate: *predicate.expect("one of the three"),
-        second: two.name,
-    });
-    if cyclic(rules) {
-        rules.pop();
-    }
 }
 
 /// As many rules as a file can have: these, and others that have none of the names, in any
@@ -72,7 +58,7 @@ fn few_names(random: &mut Random, count: usize) -> Vec<Name> {
 }
 
 /// A check about where writes of the test go and what they leave there.
-pub fn check_of(random: &mut Random, values: &Values, test: &Test) -> Check {
+fn check_of(random: &mut Random, values: &Values, test: &Test) -> Check {
     let writes: Vec<&Write> = test.initial.iter().chain(&test.main).collect();
     if writes.is_empty() || random.one_in(5) {
         return generate::check(random, values);
@@ -334,13 +320,8 @@ pub fn tangled_file(random: &mut Random) -> File {
 /// blocks that they write to, themselves too, or nothing, or what another one leaves; and each check
 /// is about these blocks.
 pub fn tangled_file_of(random: &mut Random, main: usize) -> File {
-    tangled_in(random, main, 6, &[0, 2, 6, 12])
-}
-
-/// Likewise, in up to so many blocks, and with up to one of so many rules.
-pub fn tangled_in(random: &mut Random, main: usize, blocks: usize, rules: &[usize]) -> File {
     let from = random.pick(&[0u16, 0, 1, 7, 250]);
-    let many = random.between(1, blocks) as u16;
+    let many = random.between(1, 6) as u16;
     let mut halves: Vec<u16> = (from..=from + many).collect();
     if random.one_in(4) {
         halves.push(random.pick(&[0, 1, 256, 257, 65_535]));
@@ -366,7 +347,7 @@ pub fn tangled_in(random: &mut Random, main: usize, blocks: usize, rules: &[usiz
         _ => random.between(1, 3),
     };
     add_checks(random, &values, &mut test, drawn);
-    let most = random.pick(rules);
+    let most = random.pick(&[0, 2, 6, 12]);
     File {
         rules: acyclic_rules(random, &values, most),
         tests: vec![test],
@@ -439,7 +420,15 @@ pub fn guarded_test(random: &mut Random, values: &Values, main: usize, most: usi
     let mut rules = Vec::new();
     for _ in 0..random.between(1, most) {
         let (one, two) = (random.pick(&main), random.pick(&main));
-        tie(&mut rules, one.label(), two.label());
+        let relates = |p: &&Predicate| p.relates(one.epoch, two.epoch);
+        rules.extend(PREDICATES.iter().find(relates).map(|&predicate| Rule {
+            name: one.name,
+            predicate,
+            second: two.name,
+        }));
+        if cyclic(&rules) {
+            rules.pop();
+        }
     }
     let mut checks = Vec::new();
     for (i, on) in dependencies(&rules, &main).iter().enumerate() {

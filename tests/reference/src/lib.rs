@@ -7,7 +7,6 @@ pub mod cache;
 pub mod checks;
 pub mod counts;
 pub mod crashes;
-pub mod crowded;
 pub mod cyclic;
 pub mod damage;
 pub mod file;
@@ -24,7 +23,6 @@ pub mod samples;
 pub mod schedule;
 pub mod smallest;
 pub mod states;
-pub mod stores;
 pub mod writes;
 
 #[cfg(test)]

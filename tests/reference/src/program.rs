@@ -12,7 +12,7 @@ pub fn output(file: &[u8]) -> String {
     for (i, test) in file.tests.iter().enumerate() {
         let judgement = expected(&file.rules, test);
         let verdict = if judgement.bad == 0 { "holds" } else { "fails" };
-        let (number, valid, bad) = (i + 1, judgement.counted, judgement.bad);
+        let (number, valid, bad) = (i + 1, judgement.valid, judgement.bad);
         lines.push_str(&format!("{number} {valid} {bad} {verdict}\n"));
     }
     lines

@@ -23,7 +23,6 @@ pub const EMPTY_PUT: u32 = 20;
 pub const LOG_DAMAGED: u32 = 21;
 pub const FILE_HAS_TESTS: u32 = 22;
 pub const TOO_MANY_TO_FIND: u32 = 24;
-pub const MAIN_NEEDS_RING: u32 = 27;
 
 #[derive(Clone, Copy, Debug, PartialEq, Eq)]
 pub struct Refusal {

@@ -39,16 +39,3 @@ pub fn valid(dependencies: &[Vec<usize>], schedule: u64) -> bool {
         .filter(|&i| flagged(schedule, i))
         .all(|i| dependencies[i].iter().all(|&j| flagged(schedule, j)))
 }
-
-/// By [10] of document 02: is it valid, and every earlier write of the trace to the address of a flagged
-/// one flagged too?
-pub fn storable(dependencies: &[Vec<usize>], trace: &[Write], schedule: u64) -> bool {
-    let earlier_are_flagged = |i: usize| {
-        let mut earlier = (0..i).filter(|&j| trace[j].address == trace[i].address);
-        earlier.all(|j| flagged(schedule, j))
-    };
-    valid(dependencies, schedule)
-        && (0..trace.len())
-            .filter(|&i| flagged(schedule, i))
-            .all(earlier_are_flagged)
-}

@@ -2,7 +2,8 @@
 // the writes that do come early or late in the trace.
 
 use crate::checks::Check;
-use crate::crashes::{acyclic_rules, add_checks, tie};
+use crate::crashes::{acyclic_rules, add_checks};
+use crate::cyclic::cyclic;
 use crate::file::{File, Test, MOST_CHECKS, MOST_INITIAL, MOST_MAIN, MOST_RULES};
 use crate::generate::{self, Values};
 use crate::random::Random;
@@ -211,7 +212,13 @@ impl Making {
         let new = self.write(random, one.address, block, on);
         if random.one_in(2) {
             let from = random.pick(self.main());
-            tie(&mut self.file.rules, from.label(), new);
+            let relates = |p: &&Predicate| p.relates(from.epoch, new.epoch);
+            let predicate = PREDICATES.iter().find(relates);
+            let predicate = *predicate.expect("one of the three");
+            self.file.rules.push(rule(from.name, predicate, new.name));
+            if cyclic(&self.file.rules) {
+                self.file.rules.pop();
+            }
         }
     }
 

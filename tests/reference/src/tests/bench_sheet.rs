@@ -43,12 +43,8 @@ fn k1_rules() -> [Rule; 2] {
     [rule(2, Equal, 1), rule(2, Greater, 2)]
 }
 
-fn judgement(counted: u64, bad: u64, shown: u64) -> Judgement {
-    Judgement {
-        counted,
-        bad,
-        shown,
-    }
+fn judgement(valid: u64, bad: u64, shown: u64) -> Judgement {
+    Judgement { valid, bad, shown }
 }
 
 #[test]

@@ -13,7 +13,7 @@ use crate::writes::{block, rule, write, Predicate, Rule};
 
 fn counts(rules: &[Rule], test: &Test) -> (u64, u64) {
     let judgement = judge_test(rules, test);
-    (judgement.counted, judgement.bad)
+    (judgement.valid, judgement.bad)
 }
 
 /// The same counts and the same bad schedule shown.

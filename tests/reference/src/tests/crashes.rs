@@ -64,7 +64,7 @@ fn all_things_meet() {
             depends(|i, j| j < i),
             depends(|i, j| i < j),
             judgement.bad == 0,
-            0 < judgement.bad && judgement.bad < judgement.counted,
+            0 < judgement.bad && judgement.bad < judgement.valid,
         ];
         for (count, is_so) in kinds.iter_mut().zip(all) {
             *count += u64::from(is_so);

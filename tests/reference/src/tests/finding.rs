@@ -28,7 +28,7 @@ fn valid_by_pairs(rules: &[Rule], test: &Test, schedule: u64) -> bool {
 fn judge_by_pairs(rules: &[Rule], test: &Test) -> Judgement {
     let initial = disk_of(&crate::writes::EMPTY_DISK, &test.initial, u64::MAX);
     let mut found = Judgement {
-        counted: 0,
+        valid: 0,
         bad: 0,
         shown: 0,
     };
@@ -37,7 +37,7 @@ fn judge_by_pairs(rules: &[Rule], test: &Test) -> Judgement {
         for schedule in (0..1u64 << test.main.len()).rev() {
             let is_next = schedule.count_ones() as usize == ones;
             if is_next && valid_by_pairs(rules, test, schedule) {
-                found.counted += 1;
+                found.valid += 1;
                 if !consistent(&test.checks, &disk_of(&initial, &test.main, schedule)) {
                     found.bad += 1;
                     found.shown = schedule;

@@ -13,4 +13,3 @@ mod samples;
 mod smallest;
 mod soundness;
 mod states;
-mod storable;

@@ -163,7 +163,7 @@ fn names_are_numbers() {
             tests: vec![test],
         };
         for bytes in [file.to_bytes(), file.to_wide_bytes()] {
-            assert_eq!(judge(&bytes, 1).unwrap().counted, valid);
+            assert_eq!(judge(&bytes, 1).unwrap().valid, valid);
         }
     }
 }
