@@ -1,7 +1,7 @@
 -- Counts of the numbers below a bound that pass a test: none, all, some or one of them; of tests that agree, and of a narrower one; of a sum; split by a second test; and
 -- of two tests that a bit turns into each other. By induction on the bound, the last one by blocks of 2 ^ (h + 1) numbers.
 use mathlib.Core.Path.{◌≡◌, refl, sym, ap, ◌∙◌}
-use mathlib.Core.Logic.{◌⊎◌, ⊎_elim}
+use mathlib.Core.Logic.{⊎_elim}
 use mathlib.Core.Bool.{Bool, true, false, cond, not, ◌&&◌, false≢true}
 use Prim.Native.Nat.{ℕ, zero, suc, ◌+◌, ◌-◌, ◌*◌, ◌^◌, ◌≤◌, ◌<◌}
 use native.Mathlib.Nat.{add-zero, add-suc, zero-mul, suc-mul, pow-suc}

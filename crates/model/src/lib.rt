@@ -1,4 +1,6 @@
 // Writes, rules and checks, whose meaning is in specs/, and how a refusal stands in one number.
+#![tactic(auto)]
+
 ghost use Rattle.std.specs.Prelude.{◌≡◌, ◌<◌};
 ghost use Rattle.model.specs.Limits.{words};
 ghost use Rattle.model.specs.Answer.{refusal};

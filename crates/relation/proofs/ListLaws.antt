@@ -157,15 +157,21 @@ module _ {A : Type 0} where
   any_intro p (Memᴰ.head {x = y} {xs = ys} q) e = or_left (p y) (any p ys) (rw q at e)
   any_intro p (Memᴰ.tail {x = y} {xs = ys} m) e = or_right (p y) (any p ys) (any_intro p m e)
 
-  pub any_false : (p : A → Bool) {l : List A} → any p l ≡ false → (x : A) → Memᴰ x l → p x ≡ false
+  any_false_at : (p : A → Bool) (x : A) {l : List A} → any p l ≡ false → Memᴰ x l → p x ≡ false
   unfolding any
-  any_false p e x (Memᴰ.head {x = y} {xs = ys} q) = rw q (or_none-left (p y) (any p ys) e)
-  any_false p e x (Memᴰ.tail {x = y} {xs = ys} m) = any_false p (or_none_right (p y) (any p ys) e) x m
+  any_false_at p x e (Memᴰ.head {x = y} {xs = ys} q) = rw q (or_none-left (p y) (any p ys) e)
+  any_false_at p x e (Memᴰ.tail {x = y} {xs = ys} m) = any_false_at p x (or_none_right (p y) (any p ys) e) m
+
+  pub any_false : (p : A → Bool) {l : List A} → any p l ≡ false → (x : A) → Memᴰ x l → p x ≡ false
+  any_false p e x m = any_false_at p x e m
+
+  all_true_at : (p : A → Bool) (x : A) {l : List A} → all p l ≡ true → Memᴰ x l → p x ≡ true
+  unfolding all
+  all_true_at p x e (Memᴰ.head {x = y} {xs = ys} q) = rw q (and_left (p y) (all p ys) e)
+  all_true_at p x e (Memᴰ.tail {x = y} {xs = ys} m) = all_true_at p x (and_right (p y) (all p ys) e) m
 
   pub all_true : (p : A → Bool) {l : List A} → all p l ≡ true → (x : A) → Memᴰ x l → p x ≡ true
-  unfolding all
-  all_true p e x (Memᴰ.head {x = y} {xs = ys} q) = rw q (and_left (p y) (all p ys) e)
-  all_true p e x (Memᴰ.tail {x = y} {xs = ys} m) = all_true p (and_right (p y) (all p ys) e) x m
+  all_true p e x m = all_true_at p x e m
 
   pub all_intro : (p : A → Bool) (l : List A) → ((x : A) → Memᴰ x l → p x ≡ true) → all p l ≡ true
   unfolding all

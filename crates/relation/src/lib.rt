@@ -1,4 +1,6 @@
 // Sets of numbers below 64 as masks, and relations on such numbers as tables of 64 rows.
+#![tactic(auto)]
+
 ghost use Rattle.std.specs.Prelude.{◌≡◌, cond, ◌+◌, ◌-◌, ◌^◌, ◌<◌, ◌≤◌, length, take};
 ghost use Rattle.relation.specs.Rank.{small_sets, rank};
 ghost use Rattle.relation.specs.Bits.{bit, with_bit, without, Highest, Lowest};

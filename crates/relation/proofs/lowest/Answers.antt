@@ -1,0 +1,9 @@
+-- `relation::lowest` meets its contract, by what the trailing zeros are.
+use Rattle.relation.proofs.SetLaws.{setting}
+use Rattle.relation.proofs.lowest.Goals as goal
+
+pub overflow_cast-result : goal.overflow_cast-result
+overflow_cast-result c = search setting
+
+pub returns : goal.returns
+returns c = search setting
