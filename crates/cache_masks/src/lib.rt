@@ -61,7 +61,7 @@ pub fn fill_same(table: &mut [u64], column: &[u16], n: usize)
 }
 
 // Which writes' epochs equal an epoch, are less and are greater.
-#[derive(Drop)]
+#[derive(Clone, Copy)]
 pub struct Epochs {
     pub equal: u64,
     pub less: u64,

@@ -65,7 +65,7 @@ fn add_to(rows: &mut [u64], firsts: u64, seconds: u64, p: u16, ranks: &[u8], bel
 
 // Rules that stand one behind the other, with one first name and one predicate: the first of them, where they end,
 // and the writes that have the second name of one of them.
-#[derive(Drop)]
+#[derive(Clone, Copy)]
 struct Run {
     head: Rule,
     end: usize,

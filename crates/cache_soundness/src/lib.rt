@@ -62,7 +62,7 @@ fn is_counted(state: &[u8], stored: u64) -> bool
 }
 
 // What is decoded of a state: whether it can be; if so, its rules and its stored writes.
-#[derive(Drop)]
+#[derive(Clone, Copy)]
 pub struct Examined {
     pub ruled: bool,
     pub rules: Rules,

@@ -51,7 +51,7 @@ pub fn step_sound(state: &mut [u8], disk: &mut [u8], rows: &[u64], mask: u64) ->
 }
 
 // What a step or a drain finds: the number of the refusal that it meets, or 0; and the stored writes.
-#[derive(Drop)]
+#[derive(Clone, Copy)]
 pub struct Looked {
     pub number: u64,
     pub stored: u64,

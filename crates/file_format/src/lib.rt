@@ -46,7 +46,7 @@ pub const DISK_LENGTH: usize = model::DISK_BLOCKS * BLOCK_LENGTH;
 
 // How much of a file has been read: its rules, its finished tests, whether a test has begun,
 // and that test's fields.
-#[derive(Drop)]
+#[derive(Clone, Copy)]
 pub struct Counts {
     pub rules: usize,
     pub tests: usize,
@@ -57,7 +57,7 @@ pub struct Counts {
 }
 
 // Where a test stands: the offset of its first field, and how many fields of each kind it has.
-#[derive(Drop)]
+#[derive(Clone, Copy)]
 pub struct Extent {
     pub at: usize,
     pub initial: usize,
@@ -66,21 +66,21 @@ pub struct Extent {
 }
 
 // A scan in progress: the counts, and where the test in hand begins.
-#[derive(Drop)]
+#[derive(Clone, Copy)]
 pub struct ScanState {
     pub counts: Counts,
     pub from: usize,
 }
 
 // What a scan finds: how many rules and tests a file holds, or a refusal.
-#[derive(Drop)]
+#[derive(Clone, Copy)]
 pub enum Scan {
     Accepted { rules: usize, tests: usize },
     Refused(Refusal),
 }
 
 // That, and where the tests stand, the first ones of an array.
-#[derive(Drop)]
+#[derive(Clone, Copy)]
 pub struct Scanned {
     pub scan: Scan,
     pub tests: [Extent; model::MOST_TESTS],

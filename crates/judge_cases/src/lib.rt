@@ -14,14 +14,14 @@ use model::Refusal;
 use rule_match::Rules;
 
 // What a file holds for the judge: how many tests, or a refusal.
-#[derive(Drop)]
+#[derive(Clone, Copy)]
 pub enum Cases {
     Tests(usize),
     Refused(Refusal),
 }
 
 // That, with its rules, and where its tests stand, the first ones of an array.
-#[derive(Drop)]
+#[derive(Clone, Copy)]
 pub struct Opened {
     pub rules: Rules,
     pub tests: [Extent; model::MOST_TESTS],
@@ -29,28 +29,28 @@ pub struct Opened {
 }
 
 // The test of a file that a call asks for, or the refusal of the call.
-#[derive(Drop)]
+#[derive(Clone, Copy)]
 pub enum Choice {
     Test(Extent),
     Refused(Refusal),
 }
 
 // That, with the file's rules.
-#[derive(Drop)]
+#[derive(Clone, Copy)]
 pub struct Selected {
     pub rules: Rules,
     pub choice: Choice,
 }
 
 // What a judge gives: its numbers, or a refusal.
-#[derive(Drop)]
+#[derive(Clone, Copy)]
 pub enum Judged {
     Counts(Judgement),
     Refused(Refusal),
 }
 
 // What the verdict alone gives.
-#[derive(Drop)]
+#[derive(Clone, Copy)]
 pub enum Decided {
     As(Verdict),
     Refused(Refusal),

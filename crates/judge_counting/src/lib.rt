@@ -14,7 +14,7 @@ use model::{Check, DISK_BLOCKS, MOST_CHECKS, MOST_INITIAL};
 
 // The judge's three numbers: valid schedules, bad ones, and the smallest of these by relation::rank, or 0
 // where there is none.
-#[derive(Drop)]
+#[derive(Clone, Copy)]
 pub struct Judgement {
     pub valid: u64,
     pub bad: u64,
@@ -22,7 +22,7 @@ pub struct Judgement {
 }
 
 // The counts so far, and the least rank of the bad ones.
-#[derive(Drop)]
+#[derive(Clone, Copy)]
 struct Tally {
     valid: u64,
     bad: u64,

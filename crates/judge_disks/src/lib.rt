@@ -1,4 +1,6 @@
 // Writes as columns of numbers, and the disk that a schedule of such writes leaves.
+#![tactic(auto)]
+
 ghost use Rattle.std.specs.Prelude.{◌≡◌, cond, ◌+◌, ◌<◌, ◌≤◌};
 ghost use Rattle.model.specs.Limits.{disk_blocks, most_initial};
 ghost use Rattle.model.specs.Rules.{label_of};

@@ -13,7 +13,7 @@ use model::Check;
 
 // A test without its checks: the initial disk, what a disk takes of each main write, the main writes'
 // labels, and how many main writes and checks there are.
-#[derive(Drop)]
+#[derive(Clone, Copy)]
 pub struct Loaded {
     pub base: [u32; model::DISK_BLOCKS],
     pub stores: [u64; model::MOST_INITIAL],

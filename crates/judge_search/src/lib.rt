@@ -11,7 +11,7 @@ use judge_suspects::MOST_LISTED;
 use model::{Check, DISK_BLOCKS, MOST_CHECKS, MOST_INITIAL};
 
 // The verdict alone.
-#[derive(Drop)]
+#[derive(Clone, Copy)]
 pub enum Verdict {
     Holds,
     Fails(u64),

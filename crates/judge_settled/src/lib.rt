@@ -10,7 +10,7 @@ ghost use Rattle.judge_settled.specs.Settled.{Says, is_yes, opposed, Names, agre
 use model::{Check, DISK_BLOCKS, MOST_CHECKS, MOST_INITIAL};
 
 // What all these schedules say: yes, or no; or nothing is said, and a free write is named on which it may hang.
-#[derive(Drop)]
+#[derive(Clone, Copy)]
 pub enum Answer {
     Yes,
     No,
@@ -18,7 +18,7 @@ pub enum Answer {
 }
 
 // The answer of the checks, and how many of them, from the first on, hold of all these schedules.
-#[derive(Drop)]
+#[derive(Clone, Copy)]
 pub struct Asked {
     pub held: usize,
     pub answer: Answer,

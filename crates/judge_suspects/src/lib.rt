@@ -13,7 +13,7 @@ use model::{Check, MOST_CHECKS, MOST_INITIAL};
 pub const MOST_LISTED: usize = 1 + model::MOST_MAIN + model::MOST_MAIN * (model::MOST_MAIN - 1) / 2;
 
 // The writes whose blocks can be the one that a failing check begins with, and those that can be the other one.
-#[derive(Drop)]
+#[derive(Clone, Copy)]
 struct Marks {
     own: u64,
     other: u64,

@@ -41,7 +41,7 @@ pub const CANDIDATE_SETS: usize = 1 << MOST_CANDIDATES;
 pub const MOST_HELD: usize = 64;
 
 // A write: its address, its label (a name and an epoch) and its block, both halves in one number.
-#[derive(Drop)]
+#[derive(Clone, Copy)]
 pub struct Write {
     pub address: u8,
     pub name: u16,
@@ -51,7 +51,7 @@ pub struct Write {
 
 // A rule: writes named `first` depend on writes named `second` whose epochs are so related. (The predicate is
 // of one byte everywhere else. With three numbers of one width there is no gap, and rules are copied as a whole.)
-#[derive(Drop)]
+#[derive(Clone, Copy)]
 pub struct Rule {
     pub first: u16,
     pub predicate: u16,
@@ -59,7 +59,7 @@ pub struct Rule {
 }
 
 // A check of a disk, with its addresses and blocks.
-#[derive(Drop)]
+#[derive(Clone, Copy)]
 pub enum Check {
     Range(u8),
     Pair { a: u8, v: u32, b: u8, w: u32 },
@@ -67,7 +67,7 @@ pub enum Check {
 }
 
 // A refusal: its number, and its place in the file.
-#[derive(Drop)]
+#[derive(Clone, Copy)]
 pub struct Refusal {
     pub number: u8,
     pub place: usize,

@@ -1,1 +1,3 @@
+#![tactic(auto)]
+
 // Theorems only: when rule sets are cyclic.

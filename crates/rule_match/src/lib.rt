@@ -1,4 +1,6 @@
 // Rule sets, and which labels a rule pairs.
+#![tactic(auto)]
+
 ghost use Rattle.std.specs.Prelude.{◌≡◌, [], ◌≤◌};
 ghost use Rattle.model.specs.Limits.{most_rules};
 ghost use Rattle.model.specs.Rules.{label, stands, matches};
@@ -7,7 +9,7 @@ ghost use Rattle.rule_match.specs.Held.{rules_of};
 use model::Rule;
 
 // Rules, as many as a file can have.
-#[derive(Drop)]
+#[derive(Clone, Copy)]
 pub struct Rules {
     pub items: [Rule; model::MOST_RULES],
     pub count: usize,

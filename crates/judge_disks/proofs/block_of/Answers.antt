@@ -1,0 +1,9 @@
+-- `judge_disks::block_of` meets its contract, by what a number stands for.
+use Rattle.judge_disks.proofs.DiskSteps.{steps}
+use Rattle.judge_disks.proofs.block_of.Goals as goal
+
+pub overflow_cast-result : goal.overflow_cast-result
+overflow_cast-result c = search steps
+
+pub returns : goal.returns
+returns c = search steps
