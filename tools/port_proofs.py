@@ -133,12 +133,64 @@ def turn(path, crate, function, names):
     return True
 
 
+def turn_cycle(path, crate, function, names):
+    """The same of a function that calls itself: proofs/+F."""
+    text = open(path, encoding="utf-8").read()
+    known = names["Rattle-%s-proofs.+%s.Lts-%s" % (crate, function, function)]
+    goals = {norm(a): b for a, b in known["needs"]}
+    steps = {}
+    for place in known["places"]:
+        old, new = place[2]
+        if old:
+            steps.setdefault(norm(old), new)
+    header, uses, answers, others, measure = [], [], [], [], None
+    for block in re.split(r"\n[ \t]*\n", text.strip("\n")):
+        lines = block.split("\n")
+        while lines and (lines[0].startswith("--") or lines[0].startswith("use ")):
+            line = lines.pop(0)
+            if line.startswith("--"):
+                header.append(line)
+            elif not re.search(r"\.(Tie|Statement|Kinds|Reads|PlainCycle|Lts-\w+|\+\w+\.\{statement\}|\+\w+\.Tie)(\.|\s|$)", line) and ".{statement}" not in line:
+                uses.append(line)
+        if not lines:
+            continue
+        block = "\n".join(lines)
+        m = re.match(r"abbrev μ-", block)
+        if m:
+            path_of = block.rsplit("=", 1)[1].strip()
+            params = known["params"]["%s::%s" % (crate, function)]
+            measure = params[path_of.count(".1")]
+            continue
+        if re.match(r"abbrev [\w-]+[-_](at|below)\s*:", block) or re.match(r"pub [+\w-]+[-_]spec\s*:", block):
+            continue
+        m = re.match(r"(?:pub )?[^\s:]+\s*:\s*\(t : ℕ\) → [\w-]+-lts\.Need-([\w-]+)", block)
+        if m:
+            goal = goals.get(norm(m.group(1)))
+            if goal is None:
+                print(function, "no goal", m.group(1), "; there are", sorted(goals))
+                continue
+            at = re.search(r"(?m)^[\w-]+ t c( κs)? =", block)
+            answers.append("pub %s : goal.%s\n%s t c =%s" % (goal, goal, goal, put_steps(block[at.end():], steps)))
+            continue
+        others.append(block)
+    folder = os.path.dirname(path)
+    base = "use Rattle.%s.proofs.+%s" % (crate, function)
+    with open(os.path.join(folder, "Invariants.antt"), "w", encoding="utf-8") as f:
+        f.write("\n".join(header + [base + ".Given as goal"]) + "\n\nabbrev pub decreases-%s : goal.decreases-%s\ndecreases-%s l = l.%s\n" % (function, function, function, measure))
+    with open(os.path.join(folder, "Answers.antt"), "w", encoding="utf-8") as f:
+        f.write("\n".join(header + uses + [base + ".Goals as goal"]) + "\n\n" + "\n\n".join(others + answers) + "\n")
+    os.remove(path)
+    return True
+
+
 def main():
     names = json.load(open(sys.argv[1], encoding="utf-8"))
     crate = os.path.basename(os.getcwd())
     count = 0
     for folder, _, files in sorted(os.walk("proofs")):
-        if "Proof.antt" in files and "+" not in folder:
+        if "Proof.antt" in files and "+" in folder:
+            count += turn_cycle(os.path.join(folder, "Proof.antt"), crate, os.path.basename(folder)[1:], names)
+        elif "Proof.antt" in files:
             function = os.path.relpath(folder, "proofs").replace(os.sep, ".")
             count += turn(os.path.join(folder, "Proof.antt"), crate, function, names)
     print(count, "turned")

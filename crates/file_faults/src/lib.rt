@@ -1,4 +1,6 @@
 // What is wrong with a field, by its refusal's number: unknown tags, order, limits, lengths, predicates.
+#![tactic(auto)]
+
 ghost use Rattle.std.specs.Prelude.{◌≡◌, ◌<◌, length};
 ghost use Rattle.file_format.specs.File.{is_tag, is_rule, is_check, body_length, out_of_order, over_limit, over_test, rule_fault, body_fault, fault_of};
 

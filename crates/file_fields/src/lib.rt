@@ -1,4 +1,6 @@
 // The readers of a rule's, a write's and a check's field.
+#![tactic(auto)]
+
 ghost use Rattle.std.specs.Prelude.{◌≡◌, true, ◌≤◌, length};
 ghost use Rattle.file_format.specs.Bytes.{byte};
 ghost use Rattle.file_format.specs.Scan.{rule_field, write_field, check_field};

@@ -1,5 +1,7 @@
 // A file's fields: a tag, a two-byte length and a body. What a file is, in specs/; here, numbers as
 // bytes, a field's length, and what a scan of a file keeps and gives.
+#![tactic(auto)]
+
 ghost use Rattle.std.specs.Prelude.{◌≡◌, ◌+◌, ◌<◌, ◌≤◌, length};
 ghost use Rattle.file_format.specs.Bytes.{half, word};
 ghost use Rattle.file_format.specs.File.{end_tag, wide_write_length, kind_of, is_wide, body_length, field_end};

@@ -1,4 +1,6 @@
 // A file's rules, loaded.
+#![tactic(auto)]
+
 ghost use Rattle.std.specs.Prelude.{◌≡◌, ◌≤◌};
 ghost use Rattle.model.specs.Limits.{most_rules};
 ghost use Rattle.rule_match.specs.Held.{rules_of};

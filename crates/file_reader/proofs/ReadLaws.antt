@@ -16,7 +16,7 @@ use Rattle.file_format.specs.declared.ScanState.{ScanState}
 use Rattle.file_format.specs.declared.Scan.TheVariants.{Accepted, Refused}
 use Rattle.file_format.specs.declared.Scanned.{Scanned}
 use Rattle.file_format.specs.Bytes.{byte, half}
-use Rattle.file_format.specs.File.{head_length, is_tag, kind_of, body_length, fault_of, field_end}
+use Rattle.file_format.specs.File.{head_length, is_tag, kind_of, fault_of, field_end}
 use Rattle.file_format.specs.Scan.{in_hand, counted, found, advanced, ended, scan_from, started, scan_of}
 use Rattle.file_format.specs.Held.{ScansTo, Scans}
 use Rattle.file_reader.specs.Limits.{Within}

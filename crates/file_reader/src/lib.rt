@@ -1,4 +1,6 @@
 // The reader of test files. A file is fields: a tag, a two-byte length and a body.
+#![tactic(auto)]
+
 ghost use Rattle.std.specs.Prelude.{◌≡◌, ◌&&◌, ◌-◌, leb, take};
 ghost use Rattle.file_format.specs.Scan.{counted, test_from, in_hand, advanced, ended, scan_of};
 ghost use Rattle.file_format.specs.Held.{Scans};

@@ -1,4 +1,6 @@
 // Bytes and numbers written into a lent buffer, one behind the other.
+#![tactic(auto)]
+
 ghost use Rattle.std.specs.Prelude.{◌∷◌, [], ◌+◌, ◌<◌, ◌≤◌, length};
 ghost use Rattle.file_format.specs.Bytes.{bytes2, bytes4};
 ghost use Rattle.file_writing.specs.Writing.{Wrote};

@@ -1,1 +1,3 @@
+#![tactic(auto)]
+
 // Theorems about finding: what the definitions of model/specs/Find.antt say of each other.

@@ -1,4 +1,6 @@
 // Rules held in order, each once, and the set of a number.
+#![tactic(auto)]
+
 ghost use Rattle.std.specs.Prelude.{◌≡◌, cond, ◌∷◌, ◌++◌, ◌+◌, ◌<◌, ◌≤◌, take, drop};
 ghost use Rattle.relation.specs.Bits.{bit};
 ghost use Rattle.model.specs.Limits.{most_rules, most_candidates};

@@ -1,4 +1,6 @@
 // The three checks of a disk.
+#![tactic(auto)]
+
 ghost use Rattle.std.specs.Prelude.{◌≡◌, ◌<◌};
 ghost use Rattle.model.specs.Disk.{first_of, second_of};
 ghost use Rattle.model.specs.Check.{damaged, range_holds, holds};

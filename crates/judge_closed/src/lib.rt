@@ -1,6 +1,8 @@
 // Valid schedules as closed sets of writes. A write is flagged with all that it depends on, and leaving one out
 // leaves out all that depends on it: so every choice leads to a valid schedule, and how many lie between
 // two sets is counted without going through those that are free of each other.
+#![tactic(auto)]
+
 ghost use Rattle.std.specs.Prelude.{◌≡◌, ◌&&◌, ◌%◌, ◌^◌, ◌<◌, ◌≤◌, length};
 ghost use Rattle.relation.specs.Bits.{with_bit};
 ghost use Rattle.relation.specs.Tables.{Filled};

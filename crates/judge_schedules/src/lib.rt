@@ -1,5 +1,7 @@
 // Which schedules of a trace are valid, by a table of rows: row i is the mask of the writes that write
 // i depends on; and the smallest valid one that flags a write.
+#![tactic(auto)]
+
 ghost use Rattle.std.specs.Prelude.{◌≡◌, ◌^◌, ◌<◌, ◌≤◌, length};
 ghost use Rattle.model.specs.Limits.{most_main};
 ghost use Rattle.judge_schedules.specs.Valid.{valid_rows, Narrow, Widens, Brings, Completes};

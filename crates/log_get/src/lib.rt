@@ -1,4 +1,6 @@
 // The reading log: get.
+#![tactic(auto)]
+
 ghost use Rattle.std.specs.Prelude.{◌≡◌, ◌-◌, ◌<◌, length, false};
 ghost use Rattle.model.specs.Limits.{disk_blocks};
 ghost use Rattle.model.specs.Check.{damaged};

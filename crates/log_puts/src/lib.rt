@@ -1,4 +1,6 @@
 // The fields of puts, written into a lent buffer.
+#![tactic(auto)]
+
 ghost use Rattle.std.specs.Prelude.{◌≡◌, ◌+◌, ◌*◌, ◌<◌, ◌≤◌, length};
 ghost use Rattle.model.specs.Limits.{last_block, most_initial_puts};
 ghost use Rattle.file_format.specs.File.{put_length, end_length, head_length, narrow_write_length};

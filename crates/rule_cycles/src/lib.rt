@@ -1,4 +1,6 @@
 // Whether labels can form a ring of dependencies.
+#![tactic(auto)]
+
 ghost use Rattle.std.specs.Prelude.{◌≡◌, cond, ◌%◌, ◌^◌, ◌<◌, ◌≤◌, eqb, length, take};
 ghost use Rattle.std.specs.Int.Bits.{bit_and};
 ghost use Rattle.relation.specs.Bits.{bit, mask_of, without};

@@ -1,6 +1,5 @@
 -- `judge_disks::restore` meets its contract. The invariant: the addresses of the first i writes are put back, the others are as they were.
-use Prim.Native.Nat.{◌-◌, ◌≤◌}
-use Rattle.judge_disks.proofs.RestoreLaws.{restoring, Restoring}
+use Rattle.judge_disks.proofs.RestoreLaws.{restoring}
 use Rattle.judge_disks.proofs.restore.Goals as goal
 
 pub loop-i-init : goal.loop-i-init

@@ -1,0 +1,49 @@
+-- `log_puts::put_end` meets its contract: its bytes, written one behind the other, are the fields.
+use native.Mathlib.Omega.{arith}
+use Rattle.log_puts.proofs.PutSteps.{end_wrote}
+use borrow.Author.Rules.{rules}
+use Rattle.log_puts.proofs.put_end.Goals as goal
+
+pub put-a-requires : goal.put-a-requires
+put-a-requires c = search rules
+
+pub put-b-requires : goal.put-b-requires
+put-b-requires c = search rules
+
+pub put-c-requires : goal.put-c-requires
+put-c-requires c = search rules
+
+pub put-d-requires : goal.put-d-requires
+put-d-requires c = search rules
+
+pub put-e-requires : goal.put-e-requires
+put-e-requires c = search rules
+
+pub put-f-requires : goal.put-f-requires
+put-f-requires c = search rules
+
+pub put-requires : goal.put-requires
+put-requires c = search rules
+
+pub shape_of-out : goal.shape_of-out
+shape_of-out c = search rules
+
+pub returns : goal.returns
+returns c =
+    let w =
+    end_wrote _ _ _ _ _ _ _ _ _ _ _ _ _ _ _ _
+    c.put-a.ensures
+    c.put-b.ensures
+    c.put-c.ensures
+    c.put-d.ensures
+    c.put-e.ensures
+    c.put-f.ensures
+    c.put.ensures in
+    let f0 = c.put-a.ensures.place in
+    let f1 = c.put-b.ensures.place in
+    let f2 = c.put-c.ensures.place in
+    let f3 = c.put-d.ensures.place in
+    let f4 = c.put-e.ensures.place in
+    let f5 = c.put-f.ensures.place in
+    let f6 = c.put.ensures.place in
+    (w, omega arith)
