@@ -39,6 +39,7 @@ def put_names(body, names):
 
 
 def put_steps(body, steps):
+    body = re.sub(r"\bapply\.new\.0", "apply.new.disk", body)
     body = re.sub(r"(\.before)+(?![\w-])", "", body)
     same = "|".join(["c"] + re.findall(r"let (\w+) = c in", body))
 
@@ -46,7 +47,15 @@ def put_steps(body, steps):
         word = m.group(2)
         return m.group(1) + "." + steps.get(norm(word), word)
 
-    return re.sub(r"(?<![\w.'-])(%s)\.([A-Za-z][\w-]*'?)" % same, one, body)
+    return re.sub(r"(?<![\w.'-])((?:%s)\.if-not-[\w-]+\.(?:true|false))(?![\w-])" % same, r"(ap not \1)", re.sub(r"(?<![\w.'-])(%s)\.([A-Za-z][\w-]*'?)" % same, one, body))
+
+
+def add_imports(uses, text):
+    """What `ap not` needs."""
+    if "(ap not " in text:
+        for name, module in (("ap", "mathlib.Core.Path"), ("not", "mathlib.Core.Bool")):
+            if not re.search(r"[{ ]%s[,}]" % name, "\n".join(uses)):
+                uses.append("use %s.{%s}" % (module, name))
 
 
 def turn(path, crate, function, names):
@@ -126,6 +135,7 @@ def turn(path, crate, function, names):
     if invariants:
         with open(os.path.join(folder, "Invariants.antt"), "w", encoding="utf-8") as f:
             f.write("\n".join(header + uses + [base + ".Given as goal"]) + "\n\n" + "\n\n".join(invariants) + "\n")
+    add_imports(uses, "\n".join(a for _, a in answers))
     if answers or others:
         with open(os.path.join(folder, "Answers.antt"), "w", encoding="utf-8") as f:
             f.write("\n".join(header + uses + [base + ".Goals as goal"]) + "\n\n" + "\n\n".join(others + [a for _, a in answers]) + "\n")
@@ -175,6 +185,7 @@ def turn_cycle(path, crate, function, names):
         others.append(block)
     folder = os.path.dirname(path)
     base = "use Rattle.%s.proofs.+%s" % (crate, function)
+    add_imports(uses, "\n".join(answers))
     with open(os.path.join(folder, "Invariants.antt"), "w", encoding="utf-8") as f:
         f.write("\n".join(header + [base + ".Given as goal"]) + "\n\nabbrev pub decreases-%s : goal.decreases-%s\ndecreases-%s l = l.%s\n" % (function, function, function, measure))
     with open(os.path.join(folder, "Answers.antt"), "w", encoding="utf-8") as f:

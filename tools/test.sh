@@ -1,19 +1,23 @@
 #!/usr/bin/env bash
 # The gate: proves every crate, then tests the proved libraries against the reference.
-#   tools/test.sh         all of it
-#   tools/test.sh soak    only the differential tests, with many more cases and another seed
-#   tools/test.sh bench   the benchmark
-#   tools/test.sh samples writes the sample files anew
-#   tools/test.sh pins    writes anew what tests/documents keeps of contracts, theorems and definitions
-#   tools/test.sh crates  writes crates.txt anew, from what the crates name
+#   tools/test.sh           all of it
+#   tools/test.sh soak      only the differential tests, with many more cases and another seed
+#   tools/test.sh bench     the benchmark
+#   tools/test.sh program   proves and builds the judging program, target/bin/judge
+#   tools/test.sh libraries proves and builds what C programs link, target/staticlib/lib*.a
+#   tools/test.sh samples   writes the sample files anew
+#   tools/test.sh pins      writes anew what tests/documents keeps of contracts, theorems and definitions
+#   tools/test.sh crates    writes crates.txt anew, from what the crates name
 # Each part runs whatever became of the ones before it. The very last line is 'N passed, M failed',
 # and the status is 0 only if M is 0.
 set -uo pipefail
 cd "$(dirname "${BASH_SOURCE[0]}")/.." || exit 1
 
-# Nothing but the libraries just proved is tested, and builds write below target/ only.
+# Nothing but what was just proved is tested, and builds write below target/ only; rt's own work stands
+# in out/ of each crate.
 unset PELZHONDY_TARGET
 export CARGO_TERM_COLOR=never CARGO_HOME="$PWD/target/cargo"
+# Those that C programs link: libNAME.a is made of the crate NAME_c.
 libraries='workbench receiver'
 
 passed=0
@@ -75,17 +79,52 @@ rust() { # VERB WORDS...
 }
 
 is_listed() { # CRATE
-    grep -Eq "^[[:space:]]*$1[[:space:]]*:" crates.txt
+    grep -Eq "^[[:space:]]*$1([[:space:]]+staticlib)?[[:space:]]*:" crates.txt
+}
+
+# rt ci proves over must-fail edits that are bad, and says how many on its line 'rt: ok'. Here each of
+# them is a failure, and so is it if it passed without such a line.
+add_bad_edits() {
+    local ok bad
+    ok=$(grep '^rt: ok' "$log" | tail -n 1)
+    if [ "$status" -eq 0 ] && [ -z "$ok" ]; then
+        echo "rt ci passed without a line 'rt: ok'"
+        failed=$((failed + 1))
+    fi
+    bad=$(printf '%s\n' "$ok" | sed -n -E 's/.*, ([0-9]+) bad(;.*)?$/\1/p')
+    if [ "${bad:-0}" -gt 0 ]; then
+        echo "bad must-fail edits: $bad"
+        failed=$((failed + bad))
+    fi
+}
+
+# The archive of a library's crate, under the library's name.
+static_library() { # LIBRARY
+    local made="out/lib${1}_c.a" archive="target/staticlib/lib$1.a"
+    mkdir -p target/staticlib && rm -f "$archive" &&
+        (cd "crates/${1}_c" && rm -f "$made" && rt lib) &&
+        cp "crates/${1}_c/$made" "$archive"
 }
 
 static_libraries() {
     local library
     for library in $libraries; do
-        if is_listed "$library"; then
-            part "rt staticlib $library" rt staticlib "$library"
+        if is_listed "${library}_c"; then
+            part "rt lib: $library" static_library "$library"
             [ "$status" -eq 0 ] || failed=$((failed + 1))
         fi
     done
+}
+
+# The judging program as it stands in its crate, where rt ci leaves it, or rt run.
+take_program() {
+    mkdir -p target/bin && rm -f target/bin/judge && cp crates/judge/out/judge target/bin/judge
+}
+
+# Without input it prints nothing.
+program() {
+    rm -f target/bin/judge
+    (cd crates/judge && rt run </dev/null) && take_program
 }
 
 differential_tests() {
@@ -173,6 +212,10 @@ case "${1:-}" in
     part 'rt ci' rt ci
     # shellcheck disable=SC2046
     add $(last_line_counts '')
+    add_bad_edits
+    # As rt ci built it.
+    part 'the judging program' take_program
+    [ "$status" -eq 0 ] || failed=$((failed + 1))
     static_libraries
     part 'tests of the reference and the turns' rust test -p reference -p fast -p benchmark
     # shellcheck disable=SC2046
@@ -182,7 +225,7 @@ case "${1:-}" in
     ;;
 soak)
     export PELZHONDY_CASES="${PELZHONDY_CASES:-20}" PELZHONDY_SEED="${PELZHONDY_SEED:-$(date +%s)}"
-    part 'rt check judge' rt check judge
+    part 'rt run: judge' program
     [ "$status" -eq 0 ] || failed=$((failed + 1))
     static_libraries
     differential_tests
@@ -199,6 +242,15 @@ bench)
     rust build -p benchmark && target/rust/release/benchmark
     exit
     ;;
+program)
+    program
+    exit
+    ;;
+libraries)
+    static_libraries
+    [ "$failed" -eq 0 ]
+    exit
+    ;;
 samples)
     rust run -p reference --bin samples -- samples
     exit
@@ -212,7 +264,7 @@ crates)
     exit
     ;;
 *)
-    echo "usage: tools/test.sh [soak | bench | samples | pins | crates]" >&2
+    echo "usage: tools/test.sh [soak | bench | program | libraries | samples | pins | crates]" >&2
     exit 2
     ;;
 esac

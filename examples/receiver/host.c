@@ -4,7 +4,7 @@
  * again from what the flash holds and reads the log back as the fitter would find it. Then it begins a
  * log on an empty flash, reads superblocks as a damaged flash could give them back, and shows what goes
  * wrong in another order of calls, and with a name that is cut to a byte. From the repository's root,
- * after 'rt staticlib receiver':
+ * after 'make libraries':
  *
  *     cc -std=c99 -Iinclude examples/receiver/host.c target/staticlib/libreceiver.a -o target/host
  *     target/host

@@ -2,7 +2,7 @@
  * Explains a test file, as one would to a colleague. Of each test that fails it tells the bad schedule
  * with the fewest writes on the disk: which main writes are there and which are not, the first check
  * that fails, and what stands in the one or two blocks by which it fails, and why. Then it tells the
- * fewest rules under which all tests would hold. From the repository's root, after 'rt staticlib workbench':
+ * fewest rules under which all tests would hold. From the repository's root, after 'make libraries':
  *
  *     cc -std=c99 -Iinclude examples/workbench/explain.c target/staticlib/libworkbench.a -o target/explain
  *     target/explain < samples/k3.bin

@@ -2,7 +2,7 @@
  * Calls every routine of the tester's library: makes test K of the bench sheet by trace, asks all that
  * can be asked of it with and without rules, asks the same, but for rules, of a log with as many puts
  * as a test can have, finds rules for names of one byte and of two, and then shows each refusal. From
- * the repository's root, after 'rt staticlib workbench':
+ * the repository's root, after 'make libraries':
  *
  *     cc -std=c99 -Iinclude examples/workbench/tour.c target/staticlib/libworkbench.a -o target/tour
  *     target/tour

@@ -83,7 +83,7 @@ fn main() {
                 println!("cargo:rustc-cfg=feature=\"{routine}\"");
             } else if *landed {
                 stop(format!(
-                    "no {PREFIX}{routine} in {}: run 'rt staticlib {library}' first",
+                    "no {PREFIX}{routine} in {}: run 'make libraries' first",
                     archive.display()
                 ));
             }

@@ -16,7 +16,7 @@
  *   - open, hand_in and get store nothing to the disk, and a refused call stores nothing at all.
  *
  * Then the same questions are put to routines that are wrong on purpose, and each of them must be
- * noticed. It needs Linux on x86-64. From the repository's root, after 'rt staticlib receiver':
+ * noticed. It needs Linux on x86-64. From the repository's root, after 'make libraries':
  *
  *     cc -std=gnu99 -O1 -Iinclude tests/stores/stores.c target/staticlib/libreceiver.a -o target/stores
  *     target/stores

@@ -1,1 +1,3 @@
+#![tactic(auto)]
+
 // The bench sheet, proved about the definitions. No functions.

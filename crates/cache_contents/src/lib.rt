@@ -1,4 +1,6 @@
 // What a state holds: its rules and its writes, and where they stand.
+#![tactic(auto)]
+
 ghost use Rattle.std.specs.Prelude.{◌≡◌, ◌+◌, ◌<◌, ◌≤◌, length};
 ghost use Rattle.model.specs.Limits.{most_rules, most_held};
 ghost use Rattle.rule_match.specs.Held.{rules_of};

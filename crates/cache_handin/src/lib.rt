@@ -1,4 +1,6 @@
 // A hand-in of the cache: its refusals.
+#![tactic(auto)]
+
 ghost use Rattle.std.specs.Prelude.{◌≡◌, false, cond, [], ◌∷◌, ◌++◌, ◌<◌, ◌≤◌, length, take};
 ghost use Rattle.relation.specs.Bits.{bit};
 ghost use Rattle.relation.specs.Finite.{rows_of};

@@ -1,4 +1,6 @@
 // The layout of a state, and its flags.
+#![tactic(auto)]
+
 ghost use Rattle.std.specs.Prelude.{◌≡◌, ◌-◌, ◌<◌, ◌≤◌, length};
 ghost use Rattle.relation.specs.Bits.{mask_of};
 ghost use Rattle.relation.specs.Lists.{all_below};

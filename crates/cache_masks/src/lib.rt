@@ -1,4 +1,6 @@
 // Columns of writes as masks: where a name or an address stands, and how epochs stand to each other.
+#![tactic(auto)]
+
 ghost use Rattle.std.specs.Prelude.{◌≡◌, cond, ◌+◌, ◌<◌, ◌≤◌, length};
 ghost use Rattle.relation.specs.Tables.{Filled, Blank};
 ghost use Rattle.model.specs.Limits.{most_held};

@@ -1,5 +1,7 @@
 // What writes need, as a table of masks, and what a write behind them needs and what depends on it. Writes are
 // given by their columns.
+#![tactic(auto)]
+
 ghost use Rattle.std.specs.Prelude.{◌≡◌, cond, List, [], ℕ, ◌<◌, ◌≤◌, length, take};
 ghost use Rattle.std.specs.Int.Bits.{bit_and, bit_or};
 ghost use Rattle.relation.specs.Tables.{Filled, Blank};

@@ -18,7 +18,7 @@ use Rattle.model.specs.Needs.{Needs, NeedsRing, Earliest, Late, ready}
 use Rattle.model.proofs.ReadyLaws.{ready_earliest}
 use Rattle.file_format.specs.Bytes.{bytes4, block_length, disk_length}
 use Rattle.file_format.specs.Encode.{WriteFits}
-use Rattle.cache_model.specs.Entries.{Entry, accepted, flag_at, appended, flagging}
+use Rattle.cache_model.specs.Entries.{Entry, flag_at, appended, flagging}
 use Rattle.cache_model.specs.State.{state_size, accepted_count, stored_count, rules_in, writes_in, stored_in, entries_in, state_of, handed, marked, stored_on}
 use Rattle.cache_model.specs.Sound.{Sound, sound}
 use Rattle.cache_model.specs.Calls.{Left, storing, checked, stepped, step_of, steps_of}

@@ -1,16 +1,12 @@
 -- What the parts of the code compute.
-use Rattle.std.specs.Prelude.{ℕ, ◌≤◌, ◌≡◌, Bool, true, not, ◌&&◌, ◌||◌, List, length, get_or, take}
+use Rattle.std.specs.Prelude.{ℕ, ◌≤◌, ◌≡◌, Bool, true, not, ◌||◌, List, length, get_or, take}
 use Rattle.relation.specs.Bits.{bit, mask_of}
-use Rattle.relation.specs.Lists.{all_below}
 use Rattle.relation.specs.Finite.{rows_of}
 use Rattle.relation.specs.Union.{part_of}
 use Rattle.model.specs.Limits.{most_rules, most_held}
-use Rattle.model.specs.Rules.{known}
-use Rattle.model.specs.Cyclic.{cyclic}
-use Rattle.model.specs.Needs.{needs, needs_ring, met}
+use Rattle.model.specs.Needs.{needs}
 use Rattle.rule_match.specs.Held.{rules_of}
 use Rattle.cache_model.specs.State.{accepted_count, rules_in, writes_in, stored_in}
-use Rattle.cache_model.specs.Sound.{layout}
 use Rattle.cache_contents.specs.Columns.{InColumns}
 use Rattle.cache_soundness.specs.declared.Examined.{Examined}
 

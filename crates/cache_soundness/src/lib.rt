@@ -1,4 +1,6 @@
 // Sound states of the cache: known predicates, acyclic rules, counts, and what stored writes need.
+#![tactic(auto)]
+
 ghost use Rattle.std.specs.Prelude.{◌≡◌, true, false, ◌<◌, ◌≤◌, eqb, length};
 ghost use Rattle.relation.specs.Bits.{mask_of};
 ghost use Rattle.relation.specs.Lists.{all_below};

@@ -14,7 +14,6 @@ use Rattle.relation.proofs.MaskLaws.{implies, implied}
 use Rattle.model.specs.Limits.{most_rules, most_held, words}
 use Rattle.model.specs.declared.Rule.{Rule}
 use Rattle.model.specs.declared.Write.{Write}
-use Rattle.model.specs.Rules.{known}
 use Rattle.model.specs.Cyclic.{cyclic}
 use Rattle.model.specs.Schedule.{no_write}
 use Rattle.model.specs.Needs.{Needs, needs, needs_ring, met}

@@ -1,4 +1,6 @@
 // A step and a drain of the cache: the earliest write whose needs are all stored, stored and marked.
+#![tactic(auto)]
+
 ghost use Rattle.std.specs.Prelude.{◌≡◌, true, cond, ◌-◌, ◌<◌, ◌≤◌, eqb, length};
 ghost use Rattle.relation.specs.Bits.{with_bit, mask_of};
 ghost use Rattle.model.specs.Limits.{most_held};

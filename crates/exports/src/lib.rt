@@ -1,1 +1,3 @@
+#![tactic(auto)]
+
 // Theorems only: about what the exported routines answer, all of them at once.

@@ -1,5 +1,7 @@
 // Questions about a file as a whole: how much it holds, where a test stands, whether its rules are
 // cyclic. Every refusal is `refusal number place`.
+#![tactic(auto)]
+
 ghost use Rattle.std.specs.Prelude.{◌≡◌};
 ghost use Rattle.model.specs.Answer.{coded};
 ghost use Rattle.file_calls.specs.File.{read_answer, packed_extent, locate_answer, cyclic_answer, Packed};

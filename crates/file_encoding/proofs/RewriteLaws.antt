@@ -1,26 +1,23 @@
 -- A file whose fields are rewritten with names of two bytes is read as the same file: each rewritten field is refused no more than the field was, and adds what it did.
-use mathlib.Core.Path.{◌≡◌, refl, sym, ap, ◌∙◌}
+use mathlib.Core.Path.{◌≡◌, refl, ap, ◌∙◌}
 use mathlib.Core.Bool.{Bool, true, false, cond}
 use mathlib.Core.List.{List, [], ◌∷◌, ◌++◌}
-use Prim.Native.Nat.{ℕ, zero, suc, ◌+◌, ◌*◌, ◌-◌, ◌≤◌}
+use Prim.Native.Nat.{ℕ, zero, suc, ◌+◌}
 use native.Mathlib.Nat.{zero-add}
 use native.Mathlib.Omega.{arith}
-use lib.ListN.{length, take, drop, length-drop}
+use lib.ListN.{length, drop, length-drop}
 use lib.Seq.{get_or-drop, length-take-le}
 use lib.Dec.{eqb, ltb}
 use borrow.Author.Tests.{le-ltb, eqb-true}
-use Rattle.model.specs.declared.Write.{Write}
-use Rattle.model.specs.declared.Rule.{Rule}
 use Rattle.model.specs.Answer.{answer, refused}
 use Rattle.model.specs.Test.{File, file}
-use Rattle.file_format.specs.declared.Counts.{Counts}
 use Rattle.file_format.specs.Bytes.{byte, half, word}
 use Rattle.file_format.specs.Encode.{field_bytes}
-use Rattle.file_format.specs.File.{head_length, narrow_write_length, wide_write_length, is_tag, is_wide, kind_of, is_rule, body_length, body_at, field_end, narrow_rule, wide_rule, rule_of, narrow_write, wide_write, write_of, rule_fault, body_fault, fault_of, Progress, counts_of, grown, finished, read_from, read_of, nothing}
+use Rattle.file_format.specs.File.{narrow_write_length, wide_write_length, is_tag, is_wide, kind_of, is_rule, body_length, body_at, field_end, narrow_rule, wide_rule, rule_of, narrow_write, wide_write, write_of, body_fault, fault_of, Progress, counts_of, grown, finished, read_from, read_of, nothing}
 use Rattle.file_reader.proofs.LimitLaws.{Clean, clean, by_tag}
 use Rattle.file_encoding.specs.Rewrite.{widened_tag, widened_body, widened_from, widened}
 use Rattle.file_encoding.specs.Theorem.{RewrittenFiles}
-use Rattle.file_encoding.proofs.ReadLaws.{Fine, Gives, gives-field}
+use Rattle.file_encoding.proofs.ReadLaws.{Gives, gives-field}
 
 -- ---- one field
 

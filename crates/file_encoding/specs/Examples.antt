@@ -1,5 +1,5 @@
 -- A small file with names of one byte, of two, and of both.
-use Rattle.std.specs.Prelude.{◌≡◌, true, List, [], ◌∷◌, ◌++◌, ℕ, eqb}
+use Rattle.std.specs.Prelude.{◌≡◌, true, List, [], ◌∷◌, ℕ, eqb}
 use Rattle.model.specs.Answer.{answer, refused}
 use Rattle.model.specs.Test.{File, file, test}
 use Rattle.file_format.specs.File.{read_of}

@@ -1,1 +1,3 @@
+#![tactic(auto)]
+
 // Theorems only: reading accepts exactly the bytes of files.

@@ -1,4 +1,6 @@
 // Finding the smallest sufficient rule set. What is right is in specs/.
+#![tactic(auto)]
+
 ghost use Rattle.std.specs.Prelude.{◌≡◌, false, ◌&&◌, ◌+◌, ◌<◌, ◌≤◌, ltb, length};
 ghost use Rattle.model.specs.Limits.{narrow_names, most_tests, most_candidates};
 ghost use Rattle.model.specs.Find.{chosen};

@@ -1,4 +1,6 @@
 // The candidates of a file, sorted.
+#![tactic(auto)]
+
 ghost use Rattle.std.specs.Prelude.{◌≡◌, ◌+◌, ◌<◌, ◌≤◌};
 ghost use Rattle.model.specs.Limits.{most_initial, most_candidates};
 ghost use Rattle.model.specs.Rules.{label};

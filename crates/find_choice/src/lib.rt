@@ -1,4 +1,6 @@
 // The choice of the smallest sufficient set from the table.
+#![tactic(auto)]
+
 ghost use Rattle.std.specs.Prelude.{◌≡◌, cond, ◌^◌, ◌<◌, ◌≤◌, ltb};
 ghost use Rattle.relation.specs.Lists.{any_below};
 ghost use Rattle.model.specs.Limits.{most_candidates, candidate_sets};

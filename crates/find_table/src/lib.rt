@@ -1,5 +1,7 @@
 // The table of the finder: for each set of candidates, whether some inconsistent schedule stays valid.
 // Set x is bit x % 64 of word x / 64.
+#![tactic(auto)]
+
 ghost use Rattle.std.specs.Prelude.{◌≡◌, false, cond, ◌+◌, ◌/◌, ◌%◌, ◌^◌, ◌<◌, ◌≤◌, length, take, set, get_or};
 ghost use Rattle.relation.specs.Bits.{with_bit};
 ghost use Rattle.relation.specs.Tables.{Blank};

@@ -1,29 +1,30 @@
 // The judging program: a file on standard input, a line for each of its tests on standard output.
 // 22,528 bytes are enough: a longer file is refused as its first 22,462 bytes are (`enough`).
+#![tactic(auto)]
+
 ghost use Rattle.std.specs.Prelude.{List, ℕ, ◌+◌, ◌≤◌, length};
 ghost use Rattle.judge_text.specs.Lines.{program_text, text_length};
 ghost use Rattle.judge_text.specs.Theorem.{enough, Read};
 ghost use Rattle.file_writing.specs.Writing.{Wrote};
+
+use std::io;
+use std::io::{Read, Write};
 
 // The buffer's bytes: `enough`, and some more.
 const BUFFER_LENGTH: usize = 22528;
 
 // Reads until the buffer is full or the input ends, and answers how many bytes it read; one more
 // than the buffer's length if a read fails.
-fn read_input(buffer: &mut [u8]) -> usize
+fn read_input(input: &mut impl Read, buffer: &mut [u8]) -> usize
     ensures { result ≤ length buffer.new + 1 }
 {
     let mut done: usize = 0;
     while done < buffer.len() {
-        let got = libc::read(0, &mut buffer[done..]);
-        if got < 0 {
-            return buffer.len() + 1;
+        match input.read(&mut buffer[done..]) {
+            Ok(0) => return done,
+            Ok(more) => done += more,
+            Err(_) => return buffer.len() + 1,
         }
-        let more = io::count(got, &buffer[done..]);
-        if more == 0 {
-            return done;
-        }
-        done += more;
     }
     done
 }
@@ -38,20 +39,21 @@ fn render(buffer: &[u8], n: usize, out: &mut [u8]) -> usize
 }
 
 // Judges what was read into `buffer`, n bytes, by way of `out`.
-fn judge_input(buffer: &[u8], n: usize, out: &mut [u8])
+fn judge_input(rt: &HostRuntime, buffer: &[u8], n: usize, out: &mut [u8]) -> io::Result<()>
     requires { (enough ≤ length buffer.now) × (text_length ≤ length out.old) }
 {
     if buffer.len() < n {
-        io::write_all(2, b"judge: standard input could not be read\n");
-        return;
+        return rt
+            .stderr()
+            .write_all(b"judge: standard input could not be read\n");
     }
     let m = render(buffer, n, out);
-    io::write_all(1, &out[..m]);
+    rt.stdout().write_all(&out[..m])
 }
 
-fn main() {
+fn main(rt: HostRuntime) -> io::Result<()> {
     let mut buffer = [0u8; BUFFER_LENGTH];
     let mut out = [0u8; judge_text::TEXT_LENGTH];
-    let n = read_input(&mut buffer);
-    judge_input(&buffer, n, &mut out);
+    let n = read_input(&mut rt.stdin(), &mut buffer);
+    judge_input(&rt, &buffer, n, &mut out)
 }

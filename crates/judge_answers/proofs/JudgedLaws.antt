@@ -11,10 +11,8 @@ use Rattle.judge_search.specs.declared.Verdict.{Verdict}
 use Rattle.judge_search.specs.declared.Verdict.TheVariants.{Holds, Fails}
 use Rattle.judge_cases.specs.declared.Judged.{Judged}
 use Rattle.judge_cases.specs.declared.Judged.TheVariants.{Counts}
-use Rattle.judge_cases.specs.declared.Judged.TheVariants as Judged
 use Rattle.judge_cases.specs.declared.Decided.{Decided}
 use Rattle.judge_cases.specs.declared.Decided.TheVariants.{As}
-use Rattle.judge_cases.specs.declared.Decided.TheVariants as Decided
 use Rattle.judge_cases.specs.Judge.{Case, judgement_of, verdict_of, judged_of, decided_of, SmallRefusal, FewNumbers, Few, FewDecided}
 use Rattle.judge_answers.specs.Judged.{judgement_code, verdict_code, judge_answer, verdict_answer}
 

@@ -1,4 +1,6 @@
 // The answers of judge and verdict in one number each.
+#![tactic(auto)]
+
 ghost use Rattle.std.specs.Prelude.{◌≡◌};
 ghost use Rattle.judge_cases.specs.Judge.{FewNumbers, FewDecided};
 ghost use Rattle.judge_answers.specs.Judged.{judgement_code, verdict_code};

@@ -50,9 +50,7 @@ use Rattle.judge_search.specs.Verdict.{verdict_by}
 use Rattle.judge_search.specs.Search.{verdict_below}
 use Rattle.judge_cases.specs.declared.Cases.{Cases}
 use Rattle.judge_cases.specs.declared.Cases.TheVariants.{Tests}
-use Rattle.judge_cases.specs.declared.Cases.TheVariants as Cases
 use Rattle.judge_cases.specs.declared.Choice.{Choice}
-use Rattle.judge_cases.specs.declared.Choice.TheVariants as Choice
 use Rattle.judge_cases.specs.declared.Judged.TheVariants.{Counts}
 use Rattle.judge_cases.specs.declared.Judged.TheVariants as Judged
 use Rattle.judge_cases.specs.declared.Decided.TheVariants.{As}

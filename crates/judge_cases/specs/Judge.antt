@@ -20,17 +20,13 @@ use Rattle.judge_search.specs.declared.Verdict.TheVariants.{Holds, Fails}
 use Rattle.judge_search.specs.Verdict.{verdict_by}
 use Rattle.judge_cases.specs.declared.Cases.{Cases}
 use Rattle.judge_cases.specs.declared.Cases.TheVariants.{Tests}
-use Rattle.judge_cases.specs.declared.Cases.TheVariants as Cases
 use Rattle.judge_cases.specs.declared.Opened.{Opened}
 use Rattle.judge_cases.specs.declared.Choice.{Choice}
-use Rattle.judge_cases.specs.declared.Choice.TheVariants as Choice
 use Rattle.judge_cases.specs.declared.Selected.{Selected}
 use Rattle.judge_cases.specs.declared.Judged.{Judged}
 use Rattle.judge_cases.specs.declared.Judged.TheVariants.{Counts}
-use Rattle.judge_cases.specs.declared.Judged.TheVariants as Judged
 use Rattle.judge_cases.specs.declared.Decided.{Decided}
 use Rattle.judge_cases.specs.declared.Decided.TheVariants.{As}
-use Rattle.judge_cases.specs.declared.Decided.TheVariants as Decided
 
 -- a test and the rules it is judged under
 pub record Case : Type 0 where

@@ -1,5 +1,7 @@
 // Judging a test under a file's rules, over all its crash schedules. A file is read, its rules are loaded
 // and asked for rings once, whatever is judged then.
+#![tactic(auto)]
+
 ghost use Rattle.std.specs.Prelude.{◌≡◌, ◌≤◌};
 ghost use Rattle.model.specs.Limits.{most_rules};
 ghost use Rattle.rule_match.specs.Held.{rules_of};

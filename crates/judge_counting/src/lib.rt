@@ -1,5 +1,7 @@
 // All schedules of a test counted. Not one by one: where what is chosen settles all checks, the valid
 // schedules between what is chosen and what may be are counted at once.
+#![tactic(auto)]
+
 ghost use Rattle.std.specs.Prelude.{◌≡◌, ◌+◌, ◌^◌, ◌<◌, ◌≤◌, length, take};
 ghost use Rattle.relation.specs.Rank.{small_sets};
 ghost use Rattle.model.specs.Limits.{most_main, most_checks, most_schedules};

@@ -1,5 +1,7 @@
 // A test of a file, loaded: its initial disk, its main writes as columns, its checks. What stands above
 // hands on a file and an extent, and knows no offset and no stride.
+#![tactic(auto)]
+
 ghost use Rattle.std.specs.Prelude.{◌≡◌, ◌≤◌, length, take};
 ghost use Rattle.model.specs.Limits.{most_initial, most_checks};
 ghost use Rattle.file_format.specs.File.{is_write, is_check};

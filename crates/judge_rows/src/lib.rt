@@ -1,4 +1,6 @@
 // The dependencies of a test's main writes as masks, a row for each write.
+#![tactic(auto)]
+
 ghost use Rattle.std.specs.Prelude.{◌≡◌, cond, ◌<◌, ◌≤◌, length, take};
 ghost use Rattle.relation.specs.Bits.{with_bit};
 ghost use Rattle.model.specs.Limits.{most_rules};

@@ -1,5 +1,7 @@
 // The search for the smallest bad schedule: through those among which it is, in order of their flags and
 // then of their numbers, so that the first bad one is it.
+#![tactic(auto)]
+
 ghost use Rattle.std.specs.Prelude.{◌≡◌, ◌^◌, ◌<◌, ◌≤◌, length, take};
 ghost use Rattle.model.specs.Limits.{disk_blocks, most_main, most_checks};
 ghost use Rattle.judge_disks.specs.Packed.{held_from};

@@ -1,5 +1,5 @@
 -- Answers by their cases, and the table of the writes to each address.
-use mathlib.Core.Path.{◌≡◌, refl, sym, ap, ◌∙◌}
+use mathlib.Core.Path.{subst, ◌≡◌, refl, sym, ap, ◌∙◌}
 use mathlib.Core.Bool.{Bool, true, false}
 use mathlib.Core.List.{List}
 use Prim.Native.Nat.{ℕ, suc, ◌+◌, ◌≤◌, ◌<◌}
@@ -118,7 +118,10 @@ module _ (column : List ℕ) where
           → get_or (set writers a v) b 0 ≡ mask_of (λ i. eqb (unpacked (get_or column i 0)).address b) (suc i)
       go b l true z =
           let w : a ≡ b = eqb-true a b z in
-          rw (← w, get_or-set_same writers a v 0 (omega (arith, size, inside)), ← e, eq-eqb a a refl) (q ∙ ap (λ (m : ℕ). with_bit m i) (g.at a inside))
+          subst
+          (λ (b : ℕ). get_or (set writers a v) b 0 ≡ mask_of (λ i. eqb (unpacked (get_or column i 0)).address b) (suc i))
+          w
+          (rw (get_or-set_same writers a v 0 (omega (arith, size, inside)), ← e, eq-eqb a a refl) (q ∙ ap (λ (m : ℕ). with_bit m i) (g.at a inside)))
       go b l false z =
           let d : a ≡ b → ⊥ = eqb-false a b z in
           get_or-set_other writers a b v 0 (λ (w : b ≡ a). d (sym w)) ∙ rw (← e, z) (g.at b l)

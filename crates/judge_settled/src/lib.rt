@@ -2,6 +2,8 @@
 // A block is what the last flagged write to it leaves there. So a check holds of all these schedules, or of
 // none, or what it looks at hangs on a free write. Once the two tables are filled, `n` is there for the
 // contracts: the code asks `writers`.
+#![tactic(auto)]
+
 ghost use Rattle.std.specs.Prelude.{◌≡◌, ◌<◌, ◌≤◌, length, take};
 ghost use Rattle.relation.specs.Tables.{Blank};
 ghost use Rattle.model.specs.Limits.{disk_blocks, most_main, most_checks};

@@ -1,6 +1,8 @@
 // The schedules among which the smallest bad one is. A check that fails does so by two blocks at most, the one
 // that it begins with and one other: so the last flagged writes to these two, with all that they bring, make a
 // bad schedule already. Of 20 writes there are no more than 211 such schedules.
+#![tactic(auto)]
+
 ghost use Rattle.std.specs.Prelude.{◌≡◌, cond, ◌&&◌, ◌+◌, ◌<◌, ◌≤◌, eqb, length, take};
 ghost use Rattle.model.specs.Limits.{most_main, most_checks};
 ghost use Rattle.judge_disks.specs.Packed.{unpacked};

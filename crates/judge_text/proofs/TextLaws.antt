@@ -22,7 +22,6 @@ use Rattle.rule_match.specs.Held.{rules_of}
 use Rattle.judge_counting.specs.declared.Judgement.{Judgement}
 use Rattle.judge_cases.specs.declared.Cases.{Cases}
 use Rattle.judge_cases.specs.declared.Cases.TheVariants.{Tests}
-use Rattle.judge_cases.specs.declared.Cases.TheVariants as Cases
 use Rattle.judge_cases.specs.Judge.{case_at, judgement_of, SmallRefusal, judged_file, OpensTo, FewNumbers}
 use Rattle.file_writing.specs.Writing.{Wrote}
 use Rattle.judge_text.specs.Decimal.{Digits}

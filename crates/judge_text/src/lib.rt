@@ -1,4 +1,6 @@
 // The judging program's lines.
+#![tactic(auto)]
+
 ghost use Rattle.std.specs.Prelude.{◌≡◌, cond, ◌+◌, ◌≤◌, eqb, length};
 ghost use Rattle.model.specs.Limits.{most_rules, most_tests};
 ghost use Rattle.model.specs.Test.{valid_count, bad_count};

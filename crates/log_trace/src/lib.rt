@@ -1,4 +1,6 @@
 // Traces of puts: one whole test of the reading log, written into a lent buffer.
+#![tactic(auto)]
+
 ghost use Rattle.std.specs.Prelude.{◌≡◌, ◌*◌, ◌≤◌, length};
 ghost use Rattle.model.specs.Limits.{most_initial_puts, most_main_puts};
 ghost use Rattle.file_format.specs.Bytes.{block_length};

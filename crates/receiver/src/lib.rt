@@ -1,5 +1,7 @@
 // The write-back cache for the receiver's C host: a state of 1,024 lent bytes, a disk of 1,024 lent
 // bytes. Every refusal is `refusal number place` and leaves all bytes.
+#![tactic(auto)]
+
 ghost use Rattle.std.specs.Prelude.{[], ◌≡◌};
 ghost use Rattle.cache_model.specs.Calls.{open_of, hand_in_of, given, step_of, drain_of};
 ghost use Rattle.log_get.specs.Get.{get_answer};
@@ -8,8 +10,7 @@ ghost use Rattle.cache_steps.specs.Given.{call_leaves, coded_left, call_leaves_s
 use file_format::Scan;
 
 // Stores the earliest waiting write whose needs are all stored, and answers its place from 1; or 0.
-#[unsafe(no_mangle)]
-pub extern "C" fn pelzhondy_step(state: &mut [u8], disk: &mut [u8]) -> u64
+pub fn pelzhondy_step(state: &mut [u8], disk: &mut [u8]) -> u64
     ensures { call_leaves result state.new disk.new ≡ coded_left (step_of state.old disk.old) }
 {
     let mut rows = [0u64; model::MOST_HELD];
@@ -21,8 +22,7 @@ pub extern "C" fn pelzhondy_step(state: &mut [u8], disk: &mut [u8]) -> u64
 }
 
 // As many steps as there are waiting writes, and how many.
-#[unsafe(no_mangle)]
-pub extern "C" fn pelzhondy_drain(state: &mut [u8], disk: &mut [u8]) -> u64
+pub fn pelzhondy_drain(state: &mut [u8], disk: &mut [u8]) -> u64
     ensures { call_leaves result state.new disk.new ≡ coded_left (drain_of state.old disk.old) }
 {
     let mut rows = [0u64; model::MOST_HELD];
@@ -34,8 +34,7 @@ pub extern "C" fn pelzhondy_drain(state: &mut [u8], disk: &mut [u8]) -> u64
 }
 
 // Takes a write in, and answers its place from 1.
-#[unsafe(no_mangle)]
-pub extern "C" fn pelzhondy_hand_in(
+pub fn pelzhondy_hand_in(
     state: &mut [u8],
     address: u8,
     name: u16,
@@ -54,8 +53,7 @@ pub extern "C" fn pelzhondy_hand_in(
 }
 
 // Starts a state with a file's rules and no writes. Answers 0.
-#[unsafe(no_mangle)]
-pub extern "C" fn pelzhondy_open(state: &mut [u8], file: &[u8]) -> u64
+pub fn pelzhondy_open(state: &mut [u8], file: &[u8]) -> u64
     ensures { call_leaves_state result state.new ≡ coded_kept (open_of file.now state.old []) }
 {
     if state.len() != cache_model::STATE_SIZE {
@@ -76,8 +74,7 @@ pub extern "C" fn pelzhondy_open(state: &mut [u8], file: &[u8]) -> u64
 
 // The value at the highest address from head to tail - 1 of a disk of 1,024 bytes whose block is
 // non-empty with that key, or 65,536 for none. 14, 21.
-#[unsafe(no_mangle)]
-pub extern "C" fn pelzhondy_get(disk: &[u8], key: u16) -> u64
+pub fn pelzhondy_get(disk: &[u8], key: u16) -> u64
     ensures { result ≡ get_answer disk.now key }
 {
     log_get::get(disk, key)

@@ -1,1 +1,3 @@
+#![tactic(auto)]
+
 // Whole runs of the cache: definitions and theorems, no functions.

@@ -42,7 +42,7 @@ fn main() {
 }
 
 fn routines() {
-    println!("Proved routines linked from libworkbench.a and libreceiver.a of 'rt staticlib';");
+    println!("Proved routines linked from libworkbench.a and libreceiver.a of 'make libraries';");
     println!("Rust from tests/fast. Release builds, same process, called in turn; time of a call,");
     println!(
         "median of {ROUNDS} rounds. The judge in Rust takes one schedule at a time or, in rows of"

@@ -116,7 +116,7 @@ pub fn words(text: &str) -> impl Iterator<Item = &str> {
 }
 
 /// Where the names of a source come from, by its `use` lines: a name with its module. An operator
-/// such as `_≡_` is known by what stands between the gaps.
+/// such as `◌≡◌` is known by what stands between the gaps.
 pub fn imports(source: &str) -> BTreeMap<String, String> {
     let mut found = BTreeMap::new();
     let mut lines = source.lines();
@@ -133,7 +133,7 @@ pub fn imports(source: &str) -> BTreeMap<String, String> {
         let whole = whole.trim_end().trim_end_matches(';');
         if let Some((module, names)) = whole.split_once(".{") {
             for name in names.trim_end_matches('}').split(',').map(str::trim) {
-                found.insert(name.trim_matches('_').to_string(), module.to_string());
+                found.insert(name.trim_matches('◌').to_string(), module.to_string());
             }
         } else if let Some((module, name)) = whole.split_once(" as ") {
             found.insert(name.trim().to_string(), module.to_string());

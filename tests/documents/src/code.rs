@@ -3,12 +3,12 @@
 /// A function, each part with its blank space made even.
 pub struct Function {
     pub name: String,
-    /// Called from C: `pub extern "C" fn` under `#[no_mangle]`.
+    /// Called from C: `pub extern "C" fn` under `#[unsafe(no_mangle)]`.
     pub exported: bool,
     pub signature: String,
     /// Names and types.
     pub parameters: Vec<(String, String)>,
-    /// `requires` and `ensures`, each with its text.
+    /// `requires` and `ensures`, with its own name where it has one, each with its text.
     pub clauses: Vec<(String, String)>,
     pub body: String,
 }
@@ -17,7 +17,7 @@ impl Function {
     pub fn clauses_of(&self, kind: &str) -> Vec<&str> {
         self.clauses
             .iter()
-            .filter(|(k, _)| k == kind)
+            .filter(|(k, _)| k.split(' ').next() == Some(kind))
             .map(|(_, text)| text.as_str())
             .collect()
     }
@@ -49,6 +49,20 @@ pub fn without_comments(source: &str) -> String {
 
 pub fn is_part_of_name(c: char) -> bool {
     c.is_alphanumeric() || c == '_'
+}
+
+/// Where the bracket `<` at `from` is closed; the arrow of a function's type closes none.
+fn closing_angle(text: &str, from: usize) -> usize {
+    let mut depth = 0;
+    let mut before = ' ';
+    for (i, c) in text[from..].char_indices() {
+        depth += i32::from(c == '<') - i32::from(c == '>' && before != '-');
+        if depth == 0 {
+            return from + i;
+        }
+        before = c;
+    }
+    panic!("no end of the parameters of types at {from}");
 }
 
 /// Where the bracket that opens at `from` is closed.
@@ -112,14 +126,21 @@ pub fn functions(source: &str) -> Vec<Function> {
 }
 
 fn function(text: &str, at: usize) -> Option<Function> {
-    let open = at + text[at..].find('(')?;
-    let name = text[at + 2..open].trim().to_string();
+    let name_end = at + 2 + text[at + 2..].find(|c| "(<".contains(c))?;
+    let name = text[at + 2..name_end].trim().to_string();
     if name.is_empty() || !name.chars().all(is_part_of_name) {
         return None;
     }
+    let types_end = if text[name_end..].starts_with('<') {
+        closing_angle(text, name_end) + 1
+    } else {
+        name_end
+    };
+    let types = &text[name_end..types_end];
+    let open = types_end + text[types_end..].find('(')?;
     let line = text[..at].rfind('\n').map_or(0, |i| i + 1);
     let kind = evened(&text[line..at + 2]);
-    let marked = text[..line].trim_end().ends_with("#[no_mangle]");
+    let marked = text[..line].trim_end().ends_with("#[unsafe(no_mangle)]");
     let close = closing(text, open);
     let parameters = parts(&text[open + 1..close]);
     let mut result = None;
@@ -129,19 +150,20 @@ fn function(text: &str, at: usize) -> Option<Function> {
         let brace = from + text[from..].find('{')?;
         let end = closing(text, brace);
         let mut head: Vec<&str> = text[from..brace].split_whitespace().collect();
-        let clause = match head.last() {
-            Some(&word) if word == "requires" || word == "ensures" => head.pop(),
-            _ => None,
-        };
+        let begins_clause = |word: &&str| *word == "requires" || *word == "ensures";
+        // Behind the word there can be the clause's own name.
+        let start = head.len().saturating_sub(2);
+        let clause = head[start..].iter().position(begins_clause);
+        let clause = clause.map(|i| head.split_off(start + i).join(" "));
         if result.is_none() {
             result = Some(head.join(" "));
         }
         let inner = &text[brace + 1..end];
         match clause {
-            Some(word) => clauses.push((word.to_string(), evened(inner))),
+            Some(words) => clauses.push((words, evened(inner))),
             None => {
                 let exported = marked && kind == "pub extern \"C\" fn";
-                let signature = format!("{} {}({})", kind, name, parameters.join(", "));
+                let signature = format!("{} {}{}({})", kind, name, types, parameters.join(", "));
                 return Some(Function {
                     name,
                     exported,

@@ -47,7 +47,9 @@ pub fn crates() -> Vec<String> {
         .lines()
         .filter(|line| !line.starts_with('#'))
         .filter_map(|line| line.split_once(':'))
-        .map(|(name, _)| name.to_string())
+        // A static library has a second word there.
+        .filter_map(|(name, _)| name.split_whitespace().next())
+        .map(str::to_string)
         .collect()
 }
 
@@ -186,7 +188,12 @@ pub fn public_functions(name: &str) -> Vec<String> {
     if !path.exists() {
         return Vec::new();
     }
-    text(&path)
+    public_in(&text(&path))
+}
+
+/// The public functions of code.
+pub fn public_in(source: &str) -> Vec<String> {
+    source
         .lines()
         .filter(|line| line.starts_with("pub fn ") || line.starts_with("pub extern \"C\" fn "))
         .filter_map(code_name)

@@ -1,11 +1,12 @@
-// crates.txt: each crate with all crates below it, from what the texts of the crates name. So a line
-// names all that its crate needs and nothing else, and no line is kept by hand.
+// crates.txt: each crate with all crates below it, from what the texts of the crates name, and which are
+// static libraries, from what they export. So a line names all that its crate needs and nothing else, and
+// no line is kept by hand.
 
 use std::collections::{BTreeMap, BTreeSet};
 use std::path::{Path, PathBuf};
 
 use crate::antt::without_comment;
-use crate::code::{is_part_of_name, without_comments};
+use crate::code::{functions, is_part_of_name, without_comments};
 use crate::{entries, root, text};
 
 const HEAD: &str = "# NAME: the crates below it\n\
@@ -28,20 +29,25 @@ const GROUPS: [&str; 13] = [
     "exports",
 ];
 
-/// The kit's crates that code can name. They stand behind all others.
-const KIT: [&str; 2] = ["io", "libc"];
+/// The kit's crates that code can name, beside std. They stand behind all others.
+const KIT: [&str; 1] = ["io"];
 
-type Names = BTreeSet<String>;
+/// Behind the name of a crate that is a static library.
+const MARK: &str = " staticlib";
+
+pub type Names = BTreeSet<String>;
 
 /// Each crate with others.
 pub type Crates = BTreeMap<String, Names>;
 
-/// The crates that are there, each with those that it names. What holds no file is no crate: such a
-/// folder is left behind where a crate was renamed.
+/// The crates that are there, each with those that it names. What holds no file but what rt made in out/
+/// is no crate: such a folder is left behind where a crate was renamed.
 pub fn named() -> Crates {
     let mut found = Crates::new();
+    let is_file = |path: &PathBuf| path.is_file() || !files(path).is_empty();
     for folder in entries(&root().join("crates")) {
-        if !files(&folder).is_empty() {
+        let mut parts = entries(&folder).into_iter();
+        if parts.any(|part| file_name(&part) != "out" && is_file(&part)) {
             found.insert(file_name(&folder), names_of(&folder));
         }
     }
@@ -50,6 +56,21 @@ pub fn named() -> Crates {
         others.retain(|other| other != name && known.contains(other));
     }
     found
+}
+
+/// The crates that export a function to C: these are static libraries.
+pub fn exporting() -> Names {
+    let exports = |folder: &PathBuf| {
+        files(&folder.join("src"))
+            .iter()
+            .filter(|path| file_name(path).ends_with(".rt"))
+            .any(|path| functions(&text(path)).iter().any(|f| f.exported))
+    };
+    let folders = entries(&root().join("crates")).into_iter();
+    folders
+        .filter(exports)
+        .map(|folder| file_name(&folder))
+        .collect()
 }
 
 /// What can be names of crates in the sources of one.
@@ -80,13 +101,16 @@ fn files(folder: &Path) -> Vec<PathBuf> {
     entries(folder).into_iter().flat_map(inside).collect()
 }
 
-/// What can be names of crates in a file: `Rattle·NAME.` and `Rattle·NAME·` in specifications, proofs
-/// and the ghost lines of code, and in code the beginnings of paths, `NAME::`. Comments do not count.
+/// What can be names of crates in a file: `Rattle.NAME.` in specifications, proofs and the ghost lines of
+/// code, and in code the beginnings of paths, `NAME::`, but of those whose first name a `use` line brings
+/// in, as `use std::io;` brings in `io`. Comments do not count.
 pub fn named_in(file: &str, source: &str) -> Names {
     let mut found = Names::new();
     if file.ends_with(".rt") {
         let code = without_comments(source);
-        found.extend(modules(&code).chain(paths(&code)).map(String::from));
+        let brought = brought_in(&code);
+        let paths = paths(&code).filter(|name| !brought.contains(*name));
+        found.extend(modules(&code).chain(paths).map(String::from));
     } else if file.ends_with(".antt") {
         for line in source.lines() {
             found.extend(modules(without_comment(line)).map(String::from));
@@ -96,10 +120,20 @@ pub fn named_in(file: &str, source: &str) -> Names {
 }
 
 fn modules(text: &str) -> impl Iterator<Item = &str> {
-    text.split("Rattle·").skip(1).filter_map(|rest| {
+    text.split("Rattle.").skip(1).filter_map(|rest| {
         let end = rest.find(|c| !is_part_of_name(c))?;
-        rest[end..].starts_with(['.', '·']).then(|| &rest[..end])
+        rest[end..].starts_with('.').then(|| &rest[..end])
     })
+}
+
+/// The last names of the paths in the `use` lines of code.
+fn brought_in(code: &str) -> BTreeSet<&str> {
+    let lines = code.lines().filter_map(|line| line.strip_prefix("use "));
+    let paths = lines.flat_map(|line| line.split(['{', '}', ',', ';']));
+    paths
+        .filter_map(|path| path.rsplit(|c| !is_part_of_name(c)).next())
+        .filter(|name| !name.is_empty())
+        .collect()
 }
 
 fn paths(code: &str) -> impl Iterator<Item = &str> {
@@ -145,8 +179,8 @@ fn order(below: &Crates) -> Vec<&str> {
     found
 }
 
-/// What crates.txt is to be, by what each crate names.
-pub fn listing(named: &Crates) -> String {
+/// What crates.txt is to be, by what each crate names and which export to C.
+pub fn listing(named: &Crates, exporting: &Names) -> String {
     let below: Crates = named
         .keys()
         .map(|name| (name.clone(), below(named, name)))
@@ -159,13 +193,14 @@ pub fn listing(named: &Crates) -> String {
             .chain(&KIT)
             .filter(|&&other| below[name].contains(other));
         let line: Vec<&str> = others.copied().collect();
-        whole.push_str(format!("{}: {}", name, line.join(" ")).trim_end());
+        let mark = if exporting.contains(name) { MARK } else { "" };
+        whole.push_str(format!("{}{}: {}", name, mark, line.join(" ")).trim_end());
         whole.push('\n');
     }
     whole
 }
 
-/// The crates of such a text, each with those that stand behind it.
+/// The crates of such a text, each with its mark, if it has one, and with those that stand behind it.
 fn listed(whole: &str) -> Crates {
     let names = |others: &str| others.split_whitespace().map(String::from).collect();
     let lines = whole.lines().filter(|line| !line.starts_with('#'));
@@ -175,11 +210,32 @@ fn listed(whole: &str) -> Crates {
         .collect()
 }
 
-/// What is wrong with such a text, by what each crate names.
-pub fn faults_in(whole: &str, named: &Crates) -> Vec<String> {
-    let right = listing(named);
-    let (found, wanted) = (listed(whole), listed(&right));
+/// Takes the marks from the names of crates, and gives those that had one.
+fn without_marks(crates: &mut Crates) -> Names {
+    let of = |name: &String| name.strip_suffix(MARK).map(String::from);
+    let marked: Names = crates.keys().filter_map(of).collect();
+    for name in &marked {
+        let others = crates.remove(&format!("{}{}", name, MARK));
+        crates.insert(name.clone(), others.unwrap_or_default());
+    }
+    marked
+}
+
+/// What is wrong with such a text, by what each crate names and which export to C.
+pub fn faults_in(whole: &str, named: &Crates, exporting: &Names) -> Vec<String> {
+    let right = listing(named, exporting);
+    let (mut found, mut wanted) = (listed(whole), listed(&right));
     let mut faults = Vec::new();
+    let (marked, to_be) = (without_marks(&mut found), without_marks(&mut wanted));
+    let is_none = |name| {
+        format!(
+            "{} is listed as a static library, and exports nothing",
+            name
+        )
+    };
+    let is_one = |name| format!("{} exports, and is not listed as a static library", name);
+    faults.extend(marked.difference(&to_be).map(is_none));
+    faults.extend(to_be.difference(&marked).map(is_one));
     for name in found
         .keys()
         .chain(wanted.keys())

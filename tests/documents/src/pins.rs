@@ -166,6 +166,11 @@ impl Sources {
     }
 }
 
+/// The library that an exporting crate is the C side of: that of NAME_c is NAME.
+pub fn library_of(name: &str) -> &str {
+    name.strip_suffix("_c").unwrap_or(name)
+}
+
 /// The exported routines, each with the file it stands in.
 pub fn exported(sources: &Sources) -> Vec<(String, Function)> {
     let mut found = Vec::new();
@@ -189,12 +194,12 @@ pub fn promised(sources: &Sources) -> Vec<(String, Function)> {
     found
 }
 
-fn crate_of(path: &str) -> &str {
+pub fn crate_of(path: &str) -> &str {
     path.split('/').next().unwrap_or("")
 }
 
 /// The used names that a source imports, each with its module.
-fn modules(source: &str, text: &str) -> BTreeSet<String> {
+pub fn modules(source: &str, text: &str) -> BTreeSet<String> {
     let known = imports(source);
     words(text)
         .filter_map(|word| known.get(word).map(|module| format!("{}.{}", module, word)))
@@ -330,11 +335,14 @@ impl<'a> Parsed<'a> {
             let path = line
                 .strip_prefix("use ")
                 .and_then(|line| line.strip_suffix(';'));
-            if let Some((module, name)) = path.and_then(|path| path.split_once("::")) {
-                imports.insert(
-                    name.to_string(),
-                    format!("Rattle·{}.specs.declared.{}", module, name),
-                );
+            let (module, names) = match path.and_then(|path| path.split_once("::")) {
+                Some((module, names)) => (module, names),
+                None => continue,
+            };
+            let names = names.trim_start_matches('{').trim_end_matches('}');
+            for name in names.split(',').map(str::trim) {
+                let module = format!("Rattle.{}.specs.declared.{}", module, name);
+                imports.insert(name.to_string(), module);
             }
         }
         Parsed {
@@ -361,9 +369,8 @@ impl<'a> Parsed<'a> {
         let (owner, rest) = self
             .imports
             .get(name)?
-            .strip_prefix("Rattle·")?
+            .strip_prefix("Rattle.")?
             .split_once('.')?;
-        let owner = owner.split('·').next()?;
         if let Some(rest) = rest.strip_prefix("specs.declared.") {
             let declared = rest.split('.').next()?;
             return Some((format!("{}/src/lib.rt", owner), declared.to_string()));

@@ -2,9 +2,11 @@ use std::collections::BTreeMap;
 
 use super::*;
 use crate::antt::declarations as antt_declarations;
-use crate::code::{calls, functions, uses, without_comments};
-use crate::listing::{faults_in, listing, named, named_in, Crates};
-use crate::pins::{exported, promised, Sources, CONTRACTS, DEFINITIONS, THEOREMS};
+use crate::code::{calls, functions, uses, without_comments, Function};
+use crate::listing::{exporting, faults_in, listing, named, named_in, Crates, Names};
+use crate::pins::{
+    crate_of, exported, library_of, modules, promised, Sources, CONTRACTS, DEFINITIONS, THEOREMS,
+};
 
 const DOCUMENTS: [&str; 7] = [
     "README.md",
@@ -155,16 +157,16 @@ fn edits_of(row: &str) -> Vec<(String, String)> {
     found
 }
 
-/// Each exported routine has a row that names two or more edits of its own crate: what its own
-/// contract refuses, whatever the crates below promise. Each theorem file has rows with an edit.
+/// Each exported routine's library has a row of its name with two or more edits of that library: what its
+/// own contract refuses, whatever the crates below promise. Each theorem file has rows with an edit.
 #[test]
 fn exported_routines_have_two_edits() {
     let promises = text(&root().join("docs/PROMISES.md"));
     let sources = Sources::load();
     let mut faults = Vec::new();
     for (path, function) in exported(&sources) {
-        let own = path.split('/').next().unwrap_or("");
-        let start = format!("| `{}: {}` |", path, function.name);
+        let own = library_of(crate_of(&path));
+        let start = format!("| `{}: {}` |", library_path(&path), function.name);
         let named: BTreeSet<(String, String)> =
             rows(&promises, &start).flat_map(edits_of).collect();
         let count = named.iter().filter(|(name, _)| name == own).count();
@@ -179,6 +181,142 @@ fn exported_routines_have_two_edits() {
         }
     }
     none(faults);
+}
+
+/// The code of the library that an exporting crate's is the C side of.
+fn library_path(path: &str) -> String {
+    let name = crate_of(path);
+    path.replacen(name, library_of(name), 1)
+}
+
+/// What is against it that the exported routines are those of the libraries under C's calling convention: one
+/// that has another signature or contract, or does more than call that one, or is not there.
+fn exported_otherwise(sources: &Sources) -> Vec<String> {
+    let mut faults = Vec::new();
+    let mut told = BTreeSet::new();
+    for (path, function) in exported(sources) {
+        let library = library_path(&path);
+        let of = format!("{}: {}", path, function.name);
+        if library == path {
+            faults.push(format!("{} is the C side of no library", path));
+        }
+        let source = sources.get(&library);
+        let mut same = functions(source)
+            .into_iter()
+            .filter(|f| f.name == function.name);
+        let routine = match (same.next(), same.next()) {
+            (Some(routine), None) => routine,
+            _ => {
+                faults.push(format!("{} has no routine of {} to itself", of, library));
+                continue;
+            }
+        };
+        told.insert((library.clone(), function.name.clone()));
+        let signature = function
+            .signature
+            .replacen("pub extern \"C\" fn", "pub fn", 1);
+        if signature != routine.signature {
+            faults.push(format!("{} has another signature than its library's", of));
+        }
+        let names = |path: &str, f: &Function| {
+            let clauses: Vec<&str> = f.clauses.iter().map(|(_, text)| text.as_str()).collect();
+            modules(sources.get(path), &clauses.join(" "))
+        };
+        if function.clauses != routine.clauses
+            || names(&path, &function) != names(&library, &routine)
+        {
+            faults.push(format!("{} has another contract than its library's", of));
+        }
+        let given: Vec<&str> = function
+            .parameters
+            .iter()
+            .map(|(name, _)| name.as_str())
+            .collect();
+        let call = format!(
+            "{}::{}({})",
+            library_of(crate_of(&path)),
+            function.name,
+            given.join(", ")
+        );
+        if function.body != call {
+            faults.push(format!("{} does more or less than call its library's", of));
+        }
+    }
+    let libraries: BTreeSet<String> = told.iter().map(|(path, _)| path.clone()).collect();
+    for path in libraries {
+        for name in public_in(sources.get(&path)) {
+            if !told.contains(&(path.clone(), name.clone())) {
+                faults.push(format!("{}: {} is not exported", path, name));
+            }
+        }
+    }
+    faults
+}
+
+#[test]
+fn exported_routines_are_those_of_the_libraries() {
+    none(exported_otherwise(&Sources::load()));
+}
+
+/// Each of these would have C's routine say or do something else than the library's.
+#[test]
+fn another_routine_for_c_is_noticed() {
+    let sources = Sources::load();
+    for (path, old, new) in [
+        (
+            "workbench/src/lib.rt",
+            "ensures { result ≡ coded (read_answer file.now) }",
+            "ensures { result ≡ result }",
+        ),
+        (
+            "workbench_c/src/lib.rt",
+            "ensures { result ≡ coded (cyclic_answer file.now) }",
+            "ensures { result ≡ coded (read_answer file.now) }",
+        ),
+        (
+            "workbench_c/src/lib.rt",
+            "Rattle.model.specs.Answer.{coded}",
+            "Rattle.model.specs.Elsewhere.{coded}",
+        ),
+        (
+            "workbench_c/src/lib.rt",
+            "pelzhondy_verdict(file: &[u8], test: u64)",
+            "pelzhondy_verdict(file: &[u8], test: u32)",
+        ),
+        (
+            "workbench_c/src/lib.rt",
+            "workbench::pelzhondy_trace(initial, main, buffer)",
+            "workbench::pelzhondy_trace(main, initial, buffer)",
+        ),
+        (
+            "workbench_c/src/lib.rt",
+            "workbench::pelzhondy_read(file)",
+            "file_calls::read_counts(file)",
+        ),
+        (
+            "workbench_c/src/lib.rt",
+            "workbench::pelzhondy_judge(file, test)",
+            "workbench::pelzhondy_verdict(file, test)",
+        ),
+        (
+            "receiver_c/src/lib.rt",
+            "receiver::pelzhondy_step(state, disk)",
+            "receiver::pelzhondy_step(state, disk);\n    0",
+        ),
+        (
+            "receiver_c/src/lib.rt",
+            "#[unsafe(no_mangle)]\npub extern \"C\" fn pelzhondy_get",
+            "pub fn pelzhondy_get",
+        ),
+        (
+            "receiver/src/lib.rt",
+            "pub fn pelzhondy_get",
+            "pub fn pelzhondy_get_too",
+        ),
+    ] {
+        let changed = edited(&sources, path, old, new);
+        assert_ne!(exported_otherwise(&changed), [""; 0], "{} for {}", new, old);
+    }
 }
 
 #[test]
@@ -242,7 +380,7 @@ fn their_definitions_are_pinned() {
 /// A contract that says nothing, of each routine in turn.
 #[test]
 fn a_weaker_contract_is_noticed() {
-    const WEAK: &str = "λ r. ⌜ r ≡ r ⌝";
+    const WEAK: &str = "result ≡ result";
     let sources = Sources::load();
     let all = promised(&sources);
     assert_eq!(all.len(), 14);
@@ -316,7 +454,7 @@ fn another_statement_is_noticed() {
     let path = "run_laws/specs/Theorem.antt";
     let other = sources
         .get(path)
-        .replace("Schedule.{labelAt, Valid}", "Elsewhere.{labelAt, Valid}");
+        .replace("Schedule.{label_at, Valid}", "Elsewhere.{label_at, Valid}");
     let found = THEOREMS.differences(&sources.with(path, other));
     assert!(
         found
@@ -341,9 +479,7 @@ fn every_theorem_is_proved() {
                 let imports = antt::imports(&source);
                 for declaration in antt_declarations(&source) {
                     let of = declaration.declared_type();
-                    let module = imports
-                        .get(&of)
-                        .map(|module| module.replace("·specs.", "."));
+                    let module = imports.get(&of).cloned();
                     proved.insert((module.unwrap_or_default(), of));
                 }
             }
@@ -353,7 +489,7 @@ fn every_theorem_is_proved() {
     let mut faults = Vec::new();
     for path in sources.theorem_files() {
         let module = format!(
-            "Rattle·{}",
+            "Rattle.{}",
             path.trim_end_matches(".antt").replace('/', ".")
         );
         for declaration in antt_declarations(sources.get(path)) {
@@ -378,7 +514,9 @@ fn every_theorem_is_proved() {
 }
 
 /// Who is lent a disk to write to, and to whom it passes it on. Nobody else writes to it.
-const DISK_PASSED_ON: [(&str, &str, &[&str]); 6] = [
+const DISK_PASSED_ON: [(&str, &str, &[&str]); 8] = [
+    ("receiver_c", "pelzhondy_step", &["pelzhondy_step"]),
+    ("receiver_c", "pelzhondy_drain", &["pelzhondy_drain"]),
     ("receiver", "pelzhondy_step", &["look", "step_sound"]),
     ("receiver", "pelzhondy_drain", &["look", "drain_sound"]),
     ("cache_stores", "store_block", &["put_word"]),
@@ -388,7 +526,7 @@ const DISK_PASSED_ON: [(&str, &str, &[&str]); 6] = [
 ];
 
 /// Who calls what leads to a store.
-const CALLERS: [(&str, &[(&str, &str)]); 4] = [
+const CALLERS: [(&str, &[(&str, &str)]); 6] = [
     ("store_block", &[("cache_steps", "store_write")]),
     ("store_write", &[("cache_steps", "step_sound")]),
     (
@@ -399,6 +537,8 @@ const CALLERS: [(&str, &[(&str, &str)]); 4] = [
         ],
     ),
     ("drain_sound", &[("receiver", "pelzhondy_drain")]),
+    ("pelzhondy_step", &[("receiver_c", "pelzhondy_step")]),
+    ("pelzhondy_drain", &[("receiver_c", "pelzhondy_drain")]),
 ];
 
 /// What is against it that only a step stores to a disk, and a drain only by steps: a function that
@@ -610,7 +750,7 @@ fn other_turns_are_noticed() {
 
 /// What is done once for a file, or once for a test of it, or once for a state, and who does it: each of
 /// these is done once too, up to the routines that nothing of the kit calls.
-const DONE_ONCE: [(&str, &[&str]); 43] = [
+const DONE_ONCE: [(&str, &[&str]); 54] = [
     (
         "read",
         &[
@@ -713,6 +853,21 @@ const DONE_ONCE: [(&str, &[&str]); 43] = [
         "look",
         &["receiver::pelzhondy_step", "receiver::pelzhondy_drain"],
     ),
+    // The libraries' routines, each by its C side.
+    ("pelzhondy_read", &["workbench_c::pelzhondy_read"]),
+    ("pelzhondy_locate", &["workbench_c::pelzhondy_locate"]),
+    ("pelzhondy_cyclic", &["workbench_c::pelzhondy_cyclic"]),
+    ("pelzhondy_judge", &["workbench_c::pelzhondy_judge"]),
+    ("pelzhondy_verdict", &["workbench_c::pelzhondy_verdict"]),
+    (
+        "pelzhondy_judge_lines",
+        &["workbench_c::pelzhondy_judge_lines"],
+    ),
+    ("pelzhondy_find", &["workbench_c::pelzhondy_find"]),
+    ("pelzhondy_open", &["receiver_c::pelzhondy_open"]),
+    ("pelzhondy_hand_in", &["receiver_c::pelzhondy_hand_in"]),
+    ("pelzhondy_step", &["receiver_c::pelzhondy_step"]),
+    ("pelzhondy_drain", &["receiver_c::pelzhondy_drain"]),
 ];
 
 /// Those that go from test to test; the others have no loop before the call.
@@ -726,7 +881,7 @@ const FROM_TEST_TO_TEST: [&str; 3] = [
 const OF_OTHER_RULES: [&str; 1] = ["find_choice::better_of"];
 
 /// Calls of others that have the name of one of these.
-const OF_OTHERS: [&str; 3] = ["libc::read(", "cache_stores::mark(", "= suspects(rules)"];
+const OF_OTHERS: [&str; 3] = ["input.read(", "cache_stores::mark(", "= suspects(rules)"];
 
 /// What is against it that a file is scanned, its rules loaded and asked for rings, a test loaded and
 /// prepared, and a state decoded once: a caller that is not known to, one that does it twice, or in a
@@ -1033,7 +1188,8 @@ fn another_store_is_noticed() {
 /// With a crate more or less, or one that names others, crates.txt is renewed by 'make crates'.
 #[test]
 fn the_crates_listed_are_those_needed() {
-    none(faults_in(&text(&root().join("crates.txt")), &named()));
+    let whole = text(&root().join("crates.txt"));
+    none(faults_in(&whole, &named(), &exporting()));
 }
 
 /// Where each crate first stands in a drawing: its line, and its place there.
@@ -1100,6 +1256,11 @@ fn another_drawing_is_noticed() {
     }
 }
 
+/// Those of them that export to C.
+fn some_exporting() -> Names {
+    ["exports".to_string()].into()
+}
+
 /// Crates that name others, in no order.
 fn some_crates() -> Crates {
     let crates: [(&str, &[&str]); 7] = [
@@ -1127,9 +1288,9 @@ fn crates_stand_behind_those_below_them() {
         "file_calls: model rule_match",
         "judge: model io",
         "log_get: model file_text judge io",
-        "exports: model file_text judge log_get io",
+        "exports staticlib: model file_text judge log_get io",
     ];
-    let whole = listing(&some_crates());
+    let whole = listing(&some_crates(), &some_exporting());
     let lines: Vec<&str> = whole
         .lines()
         .filter(|line| !line.starts_with('#'))
@@ -1139,8 +1300,9 @@ fn crates_stand_behind_those_below_them() {
 
 #[test]
 fn another_list_of_crates_is_noticed() {
-    let right = listing(&some_crates());
-    assert_eq!(faults_in(&right, &some_crates()), [""; 0]);
+    let faults = |whole: &str| faults_in(whole, &some_crates(), &some_exporting());
+    let right = listing(&some_crates(), &some_exporting());
+    assert_eq!(faults(&right), [""; 0]);
     for (old, new, fault) in [
         ("file_text: model\n", "", "file_text is not listed"),
         (
@@ -1169,9 +1331,24 @@ fn another_list_of_crates_is_noticed() {
             "file_calls: rule_match model",
             "line 6 is not what 'make crates' writes",
         ),
+        (
+            "exports staticlib: model",
+            "exports: model",
+            "exports exports, and is not listed as a static library",
+        ),
+        (
+            "rule_match: model\n",
+            "rule_match staticlib: model\n",
+            "rule_match is listed as a static library, and exports nothing",
+        ),
+        (
+            "exports staticlib: model file_text",
+            "exports staticlib: model",
+            "exports needs file_text",
+        ),
     ] {
         assert_eq!(right.matches(old).count(), 1, "{}", old);
-        assert_eq!(faults_in(&right.replace(old, new), &some_crates()), [fault]);
+        assert_eq!(faults(&right.replace(old, new)), [fault]);
     }
 }
 
@@ -1183,18 +1360,21 @@ fn crates_that_name_each_other_are_noticed() {
         .get_mut("judge")
         .expect("a crate")
         .insert("exports".to_string());
-    listing(&crates);
+    listing(&crates, &some_exporting());
 }
 
 /// Comments name no crate, and neither does what is no path's beginning.
 #[test]
 fn crates_are_named_in_modules_and_paths() {
-    let code = "use one::Two; // three::four\nghost use Rattle·five.specs.Six.{seven};\n\
-                // Rattle·eight.specs\nlet n = nine::ten::eleven(\"//\", twelve.len::<u8>());\n";
-    let specs = "use Rattle·one.specs.Two.{three}\n-- Rattle·four.specs\n\
-                 use Rattle·five·specs.specs.Six as Six\nsix : nine::ten\n";
+    let code = "use one::Two; // three::four\nghost use Rattle.five.specs.Six.{seven};\n\
+                // Rattle.eight.specs\nlet n = nine::ten::eleven(\"//\", twelve.len::<u8>());\n";
+    let specs = "use Rattle.one.specs.Two.{three}\n-- Rattle.four.specs\n\
+                 use Rattle.five.specs.Six as Six\nsix : nine::ten\n";
+    let brought = "use std::one;\nuse two::{Three, four};\nlet n = one::five() + four::six();\n\
+                   let m = seven::one(two::eight(), Three::nine());\n";
     for (file, source, expected) in [
         ("lib.rt", code, vec!["five", "nine", "one"]),
+        ("lib.rt", brought, vec!["seven", "std", "two"]),
         ("Six.antt", specs, vec!["five", "one"]),
         ("stdin", code, vec![]),
     ] {

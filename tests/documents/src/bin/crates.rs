@@ -3,13 +3,13 @@
 use std::fs;
 use std::process::exit;
 
-use documents::listing::{listing, named};
+use documents::listing::{exporting, listing, named};
 use documents::root;
 
 fn main() {
     let named = named();
     let path = root().join("crates.txt");
-    if let Err(error) = fs::write(&path, listing(&named)) {
+    if let Err(error) = fs::write(&path, listing(&named, &exporting())) {
         eprintln!("{}: {}", path.display(), error);
         exit(1);
     }

@@ -1,0 +1,13 @@
+-- `cache_contents::fill_columns` meets its contract. The invariant: the columns have the first i writes.
+use Prim.Native.Nat.{◌-◌, ◌≤◌}
+use mathlib.Core.Path.{◌≡◌}
+use lib.ListN.{length}
+use Rattle.model.specs.Limits.{most_held}
+use Rattle.cache_contents.specs.Columns.{InColumns}
+use Rattle.cache_contents.proofs.fill_columns.Given as goal
+
+abbrev pub invariant-loop-i : goal.invariant-loop-i
+invariant-loop-i l = (l.i ≤ l.n) × (length l.addresses ≡ most_held) × (length l.names ≡ most_held) × (length l.epochs ≡ most_held) × InColumns l.state l.i l.addresses l.names l.epochs
+
+abbrev pub decreases-loop-i : goal.decreases-loop-i
+decreases-loop-i l = l.n - l.i

@@ -1,0 +1,26 @@
+-- `cache_contents::write_in` meets its contract.
+use Rattle.cache_contents.proofs.ContentSteps.{reading}
+use Rattle.cache_contents.proofs.write_in.Goals as goal
+
+-- no goal
+-- part-read-wide-write-start : tie.Need-slice-bounds-read-wide-write-start
+-- part-read-wide-write-start c = search reading
+
+-- no goal
+-- part-read-wide-write-end : tie.Need-slice-bounds-read-wide-write-end
+-- part-read-wide-write-end c = search reading
+
+pub write_place-b-requires : goal.write_place-b-requires
+write_place-b-requires c = search reading
+
+pub overflow_add-e : goal.overflow_add-e
+overflow_add-e c = search reading
+
+pub slice_bounds-read_wide_write-count : goal.slice_bounds-read_wide_write-count
+slice_bounds-read_wide_write-count c = search reading
+
+pub read_wide_write-requires : goal.read_wide_write-requires
+read_wide_write-requires c = search reading
+
+pub returns : goal.returns
+returns c = search reading

@@ -1,0 +1,14 @@
+-- `cache_masks::fill_same` meets its contract. The invariant: the first i entries are filled in.
+use mathlib.Core.Path.{◌≡◌}
+use Prim.Native.Nat.{◌≤◌, ◌-◌}
+use lib.ListN.{length}
+use Rattle.relation.specs.Tables.{Filled}
+use Rattle.model.specs.Limits.{most_held}
+use Rattle.cache_masks.specs.Masks.{same_at}
+use Rattle.cache_masks.proofs.fill_same.Given as goal
+
+abbrev pub invariant-loop-i : goal.invariant-loop-i
+invariant-loop-i l = (l.i ≤ l.n) × (length l.table ≡ most_held) × Filled (same_at l.column) l.i l.table
+
+abbrev pub decreases-loop-i : goal.decreases-loop-i
+decreases-loop-i l = l.n - l.i

@@ -1,0 +1,13 @@
+-- `cache_masks::join_up` meets its contract. The invariant: the entries below r are joined, the others as they were.
+use mathlib.Core.Path.{◌≡◌}
+use Prim.Native.Nat.{◌≤◌, ◌-◌}
+use lib.ListN.{length}
+use Rattle.cache_masks.specs.Ranks.{bounds}
+use Rattle.cache_masks.proofs.RankSteps.{Joined}
+use Rattle.cache_masks.proofs.join_up.Given as goal
+
+abbrev pub invariant-loop-r : goal.invariant-loop-r
+invariant-loop-r l = (1 ≤ l.r) × (l.r ≤ bounds) × (length l.table ≡ bounds) × Joined l.initial.table l.r l.table
+
+abbrev pub decreases-loop-r : goal.decreases-loop-r
+decreases-loop-r l = bounds - l.r

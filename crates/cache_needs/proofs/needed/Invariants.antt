@@ -1,0 +1,13 @@
+-- `cache_needs::needed` meets its contract. The invariant: the mask has what w needs by the first k rules.
+use mathlib.Core.Path.{◌≡◌}
+use Prim.Native.Nat.{◌≤◌, ◌-◌}
+use lib.ListN.{take}
+use Rattle.cache_masks.specs.Columns.{columned}
+use Rattle.cache_needs.specs.Needed.{needed_mask}
+use Rattle.cache_needs.proofs.needed.Given as goal
+
+abbrev pub invariant-loop-k : goal.invariant-loop-k
+invariant-loop-k l = (l.k ≤ l.rules.count) × (l.mask ≡ needed_mask (take l.k l.rules.items) (columned l.addresses l.names l.epochs l.n) l.w l.n)
+
+abbrev pub decreases-loop-k : goal.decreases-loop-k
+decreases-loop-k l = l.rules.count - l.k

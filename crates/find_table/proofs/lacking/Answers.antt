@@ -1,0 +1,19 @@
+-- `find_table::lacking` meets its contract. By the machine's shifts.
+use Rattle.find_table.proofs.TableSteps.{lowering}
+use Rattle.find_table.proofs.lacking.Goals as goal
+
+-- no goal
+-- div-result : tie.Need-nonzero-div-result
+-- div-result c = search lowering
+
+pub overflow_shl-result : goal.overflow_shl-result
+overflow_shl-result c = search lowering
+
+pub overflow_shl-result-2 : goal.overflow_shl-result-2
+overflow_shl-result-2 c = search lowering
+
+pub overflow_add-result : goal.overflow_add-result
+overflow_add-result c = search lowering
+
+pub returns : goal.returns
+returns c = search lowering

@@ -1,0 +1,95 @@
+-- `judge_search::search_by` meets its contract. The invariants: no schedule before place k of the list leaves an inconsistent disk, and the disk is the base again; the checks below i hold of the schedule's disk.
+use mathlib.Core.Path.{refl, ap, ◌∙◌}
+use mathlib.Core.Bool.{not}
+use native.Mathlib.Omega.{arith}
+use Rattle.model.specs.declared.Check.TheVariants.{Range}
+use Rattle.judge_checks.proofs.CheckSteps.{checks-start, checks-more, checks_stop}
+use Rattle.judge_disks.proofs.RestoreLaws.{restored-run, ran}
+use Rattle.judge_search.proofs.SearchLaws.{searching, clear_pass, stops_here}
+use Rattle.judge_search.proofs.search_by.Goals as goal
+
+pub search-init : goal.search-init
+search-init c = search searching
+
+pub is_repeated-requires : goal.is_repeated-requires
+is_repeated-requires c = search searching
+
+pub overflow_add-k : goal.overflow_add-k
+overflow_add-k c = search searching
+
+pub search-smaller-then-is_repeated : goal.search-smaller-then-is_repeated
+search-smaller-then-is_repeated c = search searching
+
+pub search-preserved-then-is_repeated : goal.search-preserved-then-is_repeated
+search-preserved-then-is_repeated c = search searching
+
+pub offset_bounds-list-k : goal.offset_bounds-list-k
+offset_bounds-list-k c = search searching
+
+pub bounds-list-k : goal.bounds-list-k
+bounds-list-k c = search searching
+
+pub apply-requires : goal.apply-requires
+apply-requires c = search searching
+
+pub checks-init : goal.checks-init
+checks-init c = search (searching, ran, checks-start)
+
+pub offset_bounds-checks-i : goal.offset_bounds-checks-i
+offset_bounds-checks-i c = search searching
+
+pub bounds-checks-i : goal.bounds-checks-i
+bounds-checks-i c = search searching
+
+pub check_holds-requires : goal.check_holds-requires
+check_holds-requires c = search searching
+
+pub overflow_add-i : goal.overflow_add-i
+overflow_add-i c = search searching
+
+pub checks-smaller : goal.checks-smaller
+checks-smaller c = search searching
+
+pub checks-preserved : goal.checks-preserved
+checks-preserved c =
+    let l = c.checks in
+    let a = c.args in (
+      omega arith,
+      l.invariant.1,
+      l.invariant.2,
+      checks-more c.apply.new.disk a.checks (Range 0) a.m l.i c.check_holds.result (omega arith) c.requires.1.0 c.search.invariant.1 l.invariant.3 c.check_holds.ensures (ap not c.if-not-check_holds.false),
+    )
+
+pub restore-requires : goal.restore-requires
+restore-requires c = search searching
+
+pub overflow_add-k-in-search : goal.overflow_add-k-in-search
+overflow_add-k-in-search c = search searching
+
+pub search-smaller : goal.search-smaller
+search-smaller c = search searching
+
+pub search-preserved : goal.search-preserved
+search-preserved c =
+    let l = c.checks in
+    let o = c.search in
+    let a = c.args in
+    let disk = c.apply.new.disk in (
+      omega arith,
+      o.invariant.1,
+      c.restore.ensures ∙ restored-run a.stores.now a.base.now 0 a.n _ disk c.requires.1.1 l.invariant.1,
+      l.invariant.2,
+      clear_pass _ _ _ _ o.k a.m l.i _ disk refl l.invariant.1 o.invariant.4 (omega arith) (omega arith) l.invariant.3,
+    )
+
+pub returns-after-search : goal.returns-after-search
+returns-after-search c = search searching
+
+pub returns-then-not-check_holds : goal.returns-then-not-check_holds
+returns-then-not-check_holds c =
+    let l = c.checks in
+    let o = c.search in
+    let a = c.args in
+    let disk = c.apply.new.disk in
+    stops_here _ _ _ _ o.k a.m l.i _ disk refl l.invariant.1 a.many o.invariant.4 (omega arith)
+    (checks_stop disk a.checks (Range 0) a.m l.i c.check_holds.result (omega arith) c.requires.1.0 o.invariant.1 c.check_holds.ensures (ap not c.if-not-check_holds.true))

@@ -1,0 +1,14 @@
+-- `judge_text::put_cases` meets its contract. The invariant: the lines of the first i tests are written, each in so many bytes at most.
+use Prim.Native.Nat.{◌*◌, ◌-◌, ◌≤◌}
+use mathlib.Core.Path.{◌≡◌}
+use lib.ListN.{length}
+use Rattle.rule_match.specs.Held.{rules_of}
+use Rattle.file_writing.specs.Writing.{Wrote}
+use Rattle.judge_text.specs.Lines.{case_lines, test_length}
+use Rattle.judge_text.proofs.put_cases.Given as goal
+
+abbrev pub invariant-loop-i : goal.invariant-loop-i
+invariant-loop-i l = (l.i ≤ l.n) × (l.at ≤ test_length * l.i) × (length l.out ≡ length l.initial.out) × Wrote l.initial.out 0 (case_lines (rules_of l.rules) l.file l.tests l.i) l.out l.at
+
+abbrev pub decreases-loop-i : goal.decreases-loop-i
+decreases-loop-i l = l.n - l.i

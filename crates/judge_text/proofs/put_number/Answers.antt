@@ -1,0 +1,12 @@
+-- `judge_text::put_number` meets its contract: a number below 10 to the power k has at most k digits.
+use Rattle.judge_text.proofs.LineLaws.{line_steps}
+use Rattle.judge_text.proofs.put_number.Goals as goal
+
+pub put_decimal-requires : goal.put_decimal-requires
+put_decimal-requires c = search line_steps
+
+pub shape_of-out : goal.shape_of-out
+shape_of-out c = search line_steps
+
+pub returns : goal.returns
+returns c = search line_steps
