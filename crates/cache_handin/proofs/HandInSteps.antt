@@ -28,7 +28,7 @@ use Rattle.model.specs.Rules.{label_of, depends_on}
 use Rattle.model.specs.Cyclic.{Cyclic, cyclic}
 use Rattle.model.specs.Schedule.{label_at}
 use Rattle.model.specs.Needs.{needs_ring, late}
-use Rattle.model.specs.Needs as goal
+use Rattle.model.specs.Needs as cache
 use Rattle.model.proofs.RuleLaws.{depends_on-true}
 use Rattle.model.proofs.NeedsLaws.{Alike, alike-rows, alike-ring, alike-late, alike-more, needs_ring-true}
 use Rattle.rule_cyclelaws.proofs.CyclicLaws.{cyclic-true, true-cyclic}
@@ -55,35 +55,35 @@ module _ (rules : List Rule) (addresses names epochs : List ℕ) (n : ℕ) (w : 
 
   -- the needs with w behind the others
   abbrev wider : ℕ → ℕ → Bool
-  wider = goal.needs rules (ws ++ (w ∷ []))
+  wider = cache.needs rules (ws ++ (w ∷ []))
 
   wider_length : length (ws ++ (w ∷ [])) ≡ n + 1
   wider_length = length-append ws (w ∷ []) ∙ ap (λ (k : ℕ). k + 1) (columned-length addresses names epochs n)
 
-  same-below : Agree n wider (goal.needs rules ws)
-  unfolding goal.needs
+  same-below : Agree n wider (cache.needs rules ws)
+  unfolding cache.needs
   same-below i j hi hj =
       rw (front_at addresses names epochs n w i hi, front_at addresses names epochs n w j hj, columned-at addresses names epochs n i hi, columned-at addresses names epochs n j hj)
 
   column : mask_of (λ i. wider i n) n ≡ dependent_mask rules ws w n
-  unfolding goal.needs dependent_mask
+  unfolding cache.needs dependent_mask
   column =
       mask_ext _ _ n (λ i h. rw (front_at addresses names epochs n w i h, last-at addresses names epochs n w, columned-at addresses names epochs n i h, le-ltb n i (omega arith)) (or-false _))
 
   -- no label depends on itself under acyclic rules
   not_itself : cyclic rules ≡ false → wider n n ≡ false
-  unfolding goal.needs
+  unfolding cache.needs
   not_itself a =
       rw (last-at addresses names epochs n w, le-ltb n n (omega arith), or-false (depends_on rules (label_of w) (label_of w)))
       (untrue (depends_on rules (label_of w) (label_of w)) (λ e. false≢true (sym a ∙ true-cyclic rules (unfold Cyclic in (label_of w, Plus.one (depends_on-true rules (label_of w) (label_of w) e))))))
 
-  module _ (rows : List ℕ) (dependents : ℕ) (few : n < most_held) (t : take n rows ≡ rows_of (goal.needs rules ws) n) (a : cyclic rules ≡ false)
+  module _ (rows : List ℕ) (dependents : ℕ) (few : n < most_held) (t : take n rows ≡ rows_of (cache.needs rules ws) n) (a : cyclic rules ≡ false)
       (ringless : needs_ring rules ws ≡ false) (d : dependents ≡ dependent_mask rules (columned [] names epochs n) w n) where
     ring-is : (needed : ℕ) → needed ≡ needed_mask rules ws w n → closes_ring rows needed dependents ≡ needs_ring rules (ws ++ (w ∷ []))
     unfolding needs_ring needed_mask
     ring-is needed e =
-        added_ring (goal.needs rules ws) wider n rows needed dependents few t same-below
-        (ap (has_ring (goal.needs rules ws)) (sym (columned-length addresses names epochs n)) ∙ ringless)
+        added_ring (cache.needs rules ws) wider n rows needed dependents few t same-below
+        (ap (has_ring (cache.needs rules ws)) (sym (columned-length addresses names epochs n)) ∙ ringless)
         (not_itself a) e (d ∙ dependents-any rules [] addresses names epochs n w ∙ sym column)
         ∙ ap (has_ring wider) (sym wider_length)
 
@@ -173,12 +173,12 @@ module _ (w : Write) (s : List ℕ) where
           pub behind-few : r.rules.count ≤ most_rules
           behind-few = seen.decoded.few
 
-          pub behind-rows : take n rows ≡ rows_of (goal.needs (rules_of r.rules) (columned addresses names epochs n)) n
+          pub behind-rows : take n rows ≡ rows_of (cache.needs (rules_of r.rules) (columned addresses names epochs n)) n
           unfolding Tabled
           behind-rows =
               ap (λ (k : ℕ). take k rows) c ∙ seen.tabled
-              ∙ sym (rw rules_are (ap (rows_of (goal.needs (rules_in s) (columned addresses names epochs n))) (sym (columned-length addresses names epochs n))
-              ∙ alike-rows (rules_in s) (columned addresses names epochs n) (writes_in s) here ∙ ap (rows_of (goal.needs (rules_in s) (writes_in s))) (writes-length s)))
+              ∙ sym (rw rules_are (ap (rows_of (cache.needs (rules_in s) (columned addresses names epochs n))) (sym (columned-length addresses names epochs n))
+              ∙ alike-rows (rules_in s) (columned addresses names epochs n) (writes_in s) here ∙ ap (rows_of (cache.needs (rules_in s) (writes_in s))) (writes-length s)))
 
           pub behind-acyclic : cyclic (rules_of r.rules) ≡ false
           behind-acyclic = rw rules_are (untrue (cyclic (rules_in s)) (λ q. good.holds.acyclic (cyclic-true (rules_in s) good.holds.known q)))

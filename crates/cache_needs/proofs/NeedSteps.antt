@@ -19,7 +19,7 @@ use Rattle.relation.proofs.TableLaws.{blank_made}
 use Rattle.model.specs.Limits.{most_rules, most_held}
 use Rattle.model.specs.declared.Rule.{Rule}
 use Rattle.model.specs.declared.Write.{Write}
-use Rattle.model.specs.Needs as goal
+use Rattle.model.specs.Needs as model
 use Rattle.rule_match.specs.declared.Rules.{Rules}
 use Rattle.rule_match.specs.Held.{item_at, rules_of}
 use Rattle.rule_match.proofs.MatchSteps.{length_mapped}
@@ -112,7 +112,7 @@ pub ruleset all-rules = (rules, length_mapped, firsts_small, adds_begun, adds_mo
 
 pub needs-filled : (addresses names epochs : List ℕ) (n : ℕ) (rules : List Rule) (ranks belows old rows : List ℕ) → n ≤ most_held → length rows ≡ most_held
     → Filled (earlier_at addresses) n old → Filled (rank_at epochs) n ranks → Filled (below_mask ranks n) bounds belows
-    → Adds rules names n ranks belows old rows → take n rows ≡ rows_of (goal.needs rules (columned addresses names epochs n)) n
+    → Adds rules names n ranks belows old rows → take n rows ≡ rows_of (model.needs rules (columned addresses names epochs n)) n
 unfolding rows_of needs_row
 needs-filled addresses names epochs n rules ranks belows old rows few all earlier ranked table adds =
     filled-take (needs_row rules (columned addresses names epochs n) n) rows n (omega arith)

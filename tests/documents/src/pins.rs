@@ -336,8 +336,9 @@ impl<'a> Parsed<'a> {
                 .strip_prefix("use ")
                 .and_then(|line| line.strip_suffix(';'));
             let (module, names) = match path.and_then(|path| path.split_once("::")) {
-                Some((module, names)) => (module, names),
-                None => continue,
+                // What std declares has no module of declarations here.
+                Some((module, names)) if module != "std" => (module, names),
+                _ => continue,
             };
             let names = names.trim_start_matches('{').trim_end_matches('}');
             for name in names.split(',').map(str::trim) {

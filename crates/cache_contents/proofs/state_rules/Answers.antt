@@ -2,14 +2,6 @@
 use Rattle.cache_contents.proofs.ContentSteps.{reading}
 use Rattle.cache_contents.proofs.state_rules.Goals as goal
 
--- no goal
--- part-read-wide-rule-start : tie.Need-slice-bounds-read-wide-rule-start invariant-loop decreases-loop
--- part-read-wide-rule-start c = search reading
-
--- no goal
--- part-read-wide-rule-end : tie.Need-slice-bounds-read-wide-rule-end invariant-loop decreases-loop
--- part-read-wide-rule-end c = search reading
-
 pub bounds-state-0 : goal.bounds-state-0
 bounds-state-0 c = search reading
 

@@ -2,14 +2,6 @@
 use Rattle.cache_contents.proofs.ContentSteps.{reading}
 use Rattle.cache_contents.proofs.write_in.Goals as goal
 
--- no goal
--- part-read-wide-write-start : tie.Need-slice-bounds-read-wide-write-start
--- part-read-wide-write-start c = search reading
-
--- no goal
--- part-read-wide-write-end : tie.Need-slice-bounds-read-wide-write-end
--- part-read-wide-write-end c = search reading
-
 pub write_place-b-requires : goal.write_place-b-requires
 write_place-b-requires c = search reading
 

@@ -3,14 +3,6 @@ use Rattle.file_faults.proofs.FaultLaws.{faults}
 use borrow.Author.Rules.{rules}
 use Rattle.file_faults.proofs.fault.Goals as goal
 
--- no goal
--- part-body-fault-start : tie.Need-slice-bounds-body-fault-start
--- part-body-fault-start c = search rules
-
--- no goal
--- part-body-fault-end : tie.Need-slice-bounds-body-fault-end
--- part-body-fault-end c = search rules
-
 pub overflow_sub-left : goal.overflow_sub-left
 overflow_sub-left c = search rules
 

@@ -3,14 +3,6 @@ use Rattle.file_fields.proofs.FieldLaws.{fields}
 use borrow.Author.Rules.{rules}
 use Rattle.file_fields.proofs.check_at.Goals as goal
 
--- no goal
--- part-read-check-start : tie.Need-slice-bounds-read-check-start
--- part-read-check-start c = search rules
-
--- no goal
--- part-read-check-end : tie.Need-slice-bounds-read-check-end
--- part-read-check-end c = search rules
-
 pub bounds-s-at : goal.bounds-s-at
 bounds-s-at c = search rules
 

@@ -2,14 +2,6 @@
 use Rattle.file_fields.proofs.FieldLaws.{fields}
 use Rattle.file_fields.proofs.rule_at.Goals as goal
 
--- no goal
--- part-read-rule-start : tie.Need-slice-bounds-read-rule-start
--- part-read-rule-start c = search fields
-
--- no goal
--- part-read-rule-end : tie.Need-slice-bounds-read-rule-end
--- part-read-rule-end c = search fields
-
 pub bounds-s-at : goal.bounds-s-at
 bounds-s-at c = search fields
 

@@ -2,14 +2,6 @@
 use Rattle.file_fields.proofs.FieldLaws.{fields}
 use Rattle.file_fields.proofs.write_at.Goals as goal
 
--- no goal
--- part-read-write-start : tie.Need-slice-bounds-read-write-start
--- part-read-write-start c = search fields
-
--- no goal
--- part-read-write-end : tie.Need-slice-bounds-read-write-end
--- part-read-write-end c = search fields
-
 pub bounds-s-at : goal.bounds-s-at
 bounds-s-at c = search fields
 

@@ -2,10 +2,6 @@
 use Rattle.find_table.proofs.TableSteps.{lowering}
 use Rattle.find_table.proofs.lacking.Goals as goal
 
--- no goal
--- div-result : tie.Need-nonzero-div-result
--- div-result c = search lowering
-
 pub overflow_shl-result : goal.overflow_shl-result
 overflow_shl-result c = search lowering
 

@@ -3,10 +3,6 @@ use Rattle.judge_disks.specs.Packed.{unpacked}
 use Rattle.judge_disks.proofs.DiskSteps.{steps}
 use Rattle.judge_disks.proofs.address_of.Goals as goal
 
--- no goal
--- rem-result : tie.Need-nonzero-rem-result
--- rem-result c = search steps
-
 pub returns : goal.returns
 unfolding unpacked
 returns c = search steps

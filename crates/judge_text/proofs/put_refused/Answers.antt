@@ -3,10 +3,6 @@ use native.Mathlib.Omega.{arith}
 use Rattle.judge_text.proofs.LineLaws.{line_steps, refused-wrote}
 use Rattle.judge_text.proofs.put_refused.Goals as goal
 
--- no goal
--- slice-aggregate-put-text : tie.Need-slice-aggregate-put-text
--- slice-aggregate-put-text c = search line_steps
-
 pub put_text-a-requires : goal.put_text-a-requires
 put_text-a-requires c = search line_steps
 

@@ -2,14 +2,6 @@
 use Rattle.judge_text.proofs.LineLaws.{line_steps}
 use Rattle.judge_text.proofs.put_verdict.Goals as goal
 
--- no goal
--- slice-aggregate-put-text : tie.Need-slice-aggregate-put-text
--- slice-aggregate-put-text c = search line_steps
-
--- no goal
--- slice-aggregate-put-text-2 : tie.Need-slice-aggregate-put-text-2
--- slice-aggregate-put-text-2 c = search line_steps
-
 pub put_text-requires : goal.put_text-requires
 put_text-requires c = search line_steps
 
