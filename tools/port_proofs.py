@@ -58,18 +58,24 @@ def add_imports(uses, text):
                 uses.append("use %s.{%s}" % (module, name))
 
 
-def turn(path, crate, function, names):
-    text = open(path, encoding="utf-8").read()
-    known = find(names, crate, function)
-    if known is None:
-        print("no names for", function)
-        return False
+def tables(known):
+    """The goals and the steps of a function, each by its old name."""
     goals = {norm(a): b for a, b in known["needs"]}
     steps = {}
     for place in known["places"]:
         old, new = place[2]
         if old:
             steps.setdefault(norm(old), new)
+    return goals, steps
+
+
+def turn(path, crate, function, names):
+    text = open(path, encoding="utf-8").read()
+    known = find(names, crate, function)
+    if known is None:
+        print("no names for", function)
+        return False
+    goals, steps = tables(known)
     loops = {}
     for (labels, variables), changed in zip(known["loops"], known["changed"]):
         loops[norm(labels[0])] = (labels[1], variables, changed)
@@ -147,12 +153,7 @@ def turn_cycle(path, crate, function, names):
     """The same of a function that calls itself: proofs/+F."""
     text = open(path, encoding="utf-8").read()
     known = names["Rattle-%s-proofs.+%s.Lts-%s" % (crate, function, function)]
-    goals = {norm(a): b for a, b in known["needs"]}
-    steps = {}
-    for place in known["places"]:
-        old, new = place[2]
-        if old:
-            steps.setdefault(norm(old), new)
+    goals, steps = tables(known)
     header, uses, answers, others, measure = [], [], [], [], None
     for block in re.split(r"\n[ \t]*\n", text.strip("\n")):
         lines = block.split("\n")
