@@ -29,17 +29,8 @@ offset_bounds-writers-a-in-loop-i c = search answering
 pub bounds-writers-a-in-loop-i : goal.bounds-writers-a-in-loop-i
 bounds-writers-a-in-loop-i c = search answering
 
-pub overflow_add-i : goal.overflow_add-i
-overflow_add-i c = search answering
-
-pub loop-i-smaller : goal.loop-i-smaller
-loop-i-smaller c = search answering
-
 pub loop-i-preserved : goal.loop-i-preserved
 loop-i-preserved c = search answering
-
-pub shape_of-writers : goal.shape_of-writers
-shape_of-writers c = search answering
 
 pub returns : goal.returns
 returns c = search answering

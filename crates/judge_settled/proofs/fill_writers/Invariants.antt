@@ -9,6 +9,3 @@ use Rattle.judge_settled.proofs.fill_writers.Given as goal
 
 abbrev pub invariant-loop-i : goal.invariant-loop-i
 invariant-loop-i l = (l.i ≤ l.n) × (length l.writers ≡ disk_blocks) × Filled (writers_of l.stores l.i) disk_blocks l.writers
-
-abbrev pub decreases-loop-i : goal.decreases-loop-i
-decreases-loop-i l = l.n - l.i
