@@ -1,6 +1,6 @@
 -- The parts of a check by what is said of the blocks they look at, and the checks one after the other.
 use mathlib.Core.Path.{◌≡◌, refl, sym, ap, ◌∙◌}
-use mathlib.Core.Bool.{Bool, true, false, cond, not, false≢true}
+use mathlib.Core.Bool.{Bool, true, false, cond, not}
 use mathlib.Core.List.{List, [], ◌∷◌}
 use Prim.Native.Nat.{ℕ, ◌+◌, ◌-◌, ◌≤◌, ◌<◌}
 use native.Mathlib.Decide.{ℕ_discrete, dec_lt}
@@ -10,12 +10,12 @@ use lib.Dec.{eqb}
 use lib.ListN.{length, get_or, take}
 use lib.Seq.{get_or-set_same, get_or-set_other, take-suc, take-length}
 use borrow.Author.Rules.{rules}
-use borrow.Author.Tests.{eq-eqb, ne_eqb, le-leb, lt-leb, not-true, not-false}
+use borrow.Author.Tests.{eq-eqb, ne_eqb, le-leb, lt-leb}
 use Rattle.relation.specs.Lists.{all_below, all}
 use Rattle.relation.proofs.ListLaws.{untrue, all_below-true, all_below_intro, clash, and_intro, all_append, all_true, index_mem}
 use Rattle.model.specs.declared.Check.{Check}
 use Rattle.model.specs.declared.Check.TheVariants.{Range, Pair, Pointer}
-use Rattle.model.specs.Limits.{disk_blocks, last_block, most_checks}
+use Rattle.model.specs.Limits.{disk_blocks, last_block}
 use Rattle.model.specs.Disk.{empty, first_of, second_of, block_at}
 use Rattle.model.specs.Check.{damaged, range_holds, holds, consistent}
 use Rattle.model.proofs.CheckLaws.{undamaged_ordered, undamaged_inside}

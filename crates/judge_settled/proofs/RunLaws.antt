@@ -10,7 +10,7 @@ use lib.Dec.{eqb, leb, ltb}
 use lib.ListN.{length, get_or, set}
 use lib.Seq.{get_or-set_same, get_or-set_other}
 use borrow.Author.Rules.{rules}
-use borrow.Author.Tests.{eq-eqb, ne_eqb, eqb-true, eqb-false, le-leb, lt-leb, leb-true, leb-false, le-ltb, lt-ltb, ltb-true, ltb-false}
+use borrow.Author.Tests.{eq-eqb, ne_eqb, eqb-true, eqb-false, le-leb, lt-leb, leb-false, le-ltb, lt-ltb, ltb-true, ltb-false}
 use Rattle.relation.specs.Tables.{Blank}
 use Rattle.model.specs.Limits.{disk_blocks}
 use Rattle.judge_settled.specs.Settled.{Fixed, Run, Runs, run_end, later_of}

@@ -2,22 +2,20 @@
 -- flagged is looked at, from the last down to one that is chosen. The same for a check, by its own block.
 use mathlib.Core.Path.{◌≡◌, refl, sym, ap, ◌∙◌}
 use mathlib.Core.Logic.{◌⊎◌, inl, inr, ⊎_elim}
-use mathlib.Core.Bool.{Bool, true, false, not, ◌&&◌, ◌||◌, false≢true}
+use mathlib.Core.Bool.{Bool, true, false, ◌&&◌, ◌||◌, false≢true}
 use mathlib.Core.List.{List}
 use Prim.Native.Nat.{ℕ, ◌*◌, ◌%◌, ◌^◌, ◌≤◌, ◌<◌}
 use native.Mathlib.Omega.{arith}
 use lib.Bits.{bit_and, bit_or}
 use lib.Dec.{eqb, ltb}
 use lib.ListN.{length, get_or}
-use lib.Seq.{set-get_or}
 use borrow.Author.Rules.{rules}
-use borrow.Author.Tests.{eqb-true, eq-eqb, ne_eqb, ltb-true, lt-ltb, not-false}
+use borrow.Author.Tests.{eqb-true, eq-eqb, ne_eqb, ltb-true, lt-ltb}
 use Rattle.relation.specs.Bits.{bit, without, Highest}
 use Rattle.relation.proofs.BitLaws.{bit-and, bit-or, bit-zero, bit_pow, bit_mask, power_is}
 use Rattle.relation.proofs.ListLaws.{untrue, or_cases, and_left, and_right, and_intro, clash}
 use Rattle.relation.proofs.MemberLaws.{left_less}
 use Rattle.relation.proofs.SetLaws.{without_member, member_without}
-use Rattle.model.specs.declared.Check.{Check}
 use Rattle.model.specs.Limits.{disk_blocks, most_main}
 use Rattle.model.specs.Disk.{empty, block_at}
 use Rattle.judge_disks.specs.Packed.{unpacked}

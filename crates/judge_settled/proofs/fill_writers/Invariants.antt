@@ -1,6 +1,6 @@
 -- `judge_settled::fill_writers` meets its contract. The invariant: the table has the first i writes.
 use mathlib.Core.Path.{◌≡◌}
-use Prim.Native.Nat.{◌-◌, ◌≤◌}
+use Prim.Native.Nat.{◌≤◌}
 use lib.ListN.{length}
 use Rattle.model.specs.Limits.{disk_blocks}
 use Rattle.relation.specs.Tables.{Filled}

@@ -1,6 +1,6 @@
 -- `judge_settled::Setting::ask` meets its contract. By the last write to the question's block that may be flagged: none, a chosen one, or a free one.
 use mathlib.Core.Path.{refl}
-use Rattle.judge_settled.proofs.SettledLaws.{ask_base, ask_last, ask_rest, ask_open, ask_alike, settling}
+use Rattle.judge_settled.proofs.SettledLaws.{ask_base, ask_last, ask_rest, ask_open, ask_alike}
 use Rattle.judge_settled.proofs.Setting.ask.Goals as goal
 
 pub returns-then-may-eq0 : goal.returns-then-may-eq0
