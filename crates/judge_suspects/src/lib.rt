@@ -64,12 +64,10 @@ fn mark_for(stores: &[u64; MOST_INITIAL], n: usize, c: Check) -> Marks
 {
     let mut own: u64 = 0;
     let mut other: u64 = 0;
-    let mut i: usize = 0;
-    while i < n {
+    for i in 0..n {
         let write = stores[i];
         own = relation::with_if(own, i, can_open(c, write));
         other = relation::with_if(other, i, can_spoil(c, write));
-        i += 1;
     }
     Marks { own, other }
 }
@@ -81,12 +79,10 @@ fn mark(stores: &[u64; MOST_INITIAL], n: usize, checks: [Check; MOST_CHECKS], m:
 {
     let mut own: u64 = 0;
     let mut other: u64 = 0;
-    let mut k: usize = 0;
-    while k < m {
+    for k in 0..m {
         let found = mark_for(stores, n, checks[k]);
         own = own | found.own;
         other = other | found.other;
-        k += 1;
     }
     Marks { own, other }
 }
@@ -143,15 +139,12 @@ fn list_ones(list: &mut [u64], brought: &[u64], n: usize, mask: u64) -> usize
 {
     list[0] = 0;
     let mut many: usize = 1;
-    let mut i: usize = 0;
-    'ones: while i < n {
+    'ones: for i in 0..n {
         if !relation::has_bit(mask, i) {
-            i += 1;
             continue 'ones;
         }
         insert(list, many, relation::rank(brought[i]));
         many += 1;
-        i += 1;
     }
     many
 }
@@ -166,15 +159,12 @@ fn list_row(list: &mut [u64], many: usize, brought: &[u64], n: usize, h: usize, 
         return many;
     }
     let mut now = many;
-    let mut l: usize = 0;
-    'row: while l < h {
+    'row: for l in 0..h {
         if !relation::has_bit(mask, l) {
-            l += 1;
             continue 'row;
         }
         insert(list, now, relation::rank(brought[h] | brought[l]));
         now += 1;
-        l += 1;
     }
     now
 }
@@ -192,10 +182,8 @@ fn list_twos(
     ensures { TwosListed brought.now n own other n many list.old result list.new }
 {
     let mut now = many;
-    let mut h: usize = 0;
-    while h < n {
+    for h in 0..n {
         now = list_row(list, now, brought, n, h, mates(own, other, h));
-        h += 1;
     }
     now
 }

@@ -7,6 +7,3 @@ use Rattle.judge_suspects.proofs.list_ones.Given as goal
 
 abbrev pub invariant-ones : goal.invariant-ones
 invariant-ones l = (l.i ≤ l.n) × (length l.list ≡ most_listed) × OnesListed l.brought l.n l.mask l.i l.many l.list
-
-abbrev pub decreases-ones : goal.decreases-ones
-decreases-ones l = l.n - l.i

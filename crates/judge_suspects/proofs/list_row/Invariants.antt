@@ -7,6 +7,3 @@ use Rattle.judge_suspects.proofs.list_row.Given as goal
 
 abbrev pub invariant-row : goal.invariant-row
 invariant-row l = (l.l ≤ l.h) × (length l.list ≡ most_listed) × RowListed l.brought l.n l.h l.mask l.l l.many l.initial.list l.now l.list
-
-abbrev pub decreases-row : goal.decreases-row
-decreases-row l = l.h - l.l

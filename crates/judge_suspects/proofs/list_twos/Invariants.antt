@@ -7,6 +7,3 @@ use Rattle.judge_suspects.proofs.list_twos.Given as goal
 
 abbrev pub invariant-loop-h : goal.invariant-loop-h
 invariant-loop-h l = (l.h ≤ l.n) × (length l.list ≡ most_listed) × TwosListed l.brought l.n l.own l.other l.h l.many l.initial.list l.now l.list
-
-abbrev pub decreases-loop-h : goal.decreases-loop-h
-decreases-loop-h l = l.n - l.h

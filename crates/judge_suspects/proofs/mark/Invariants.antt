@@ -8,6 +8,3 @@ use Rattle.judge_suspects.proofs.mark.Given as goal
 
 abbrev pub invariant-loop-k : goal.invariant-loop-k
 invariant-loop-k l = (l.k ≤ l.m) × (length l.checks ≡ most_checks) × Marked l.stores l.n (take l.k l.checks) l.own l.other
-
-abbrev pub decreases-loop-k : goal.decreases-loop-k
-decreases-loop-k l = l.m - l.k

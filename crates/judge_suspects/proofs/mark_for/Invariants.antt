@@ -5,6 +5,3 @@ use Rattle.judge_suspects.proofs.mark_for.Given as goal
 
 abbrev pub invariant-loop-i : goal.invariant-loop-i
 invariant-loop-i l = (l.i ≤ l.n) × MarkedFor l.stores l.i l.c l.own l.other
-
-abbrev pub decreases-loop-i : goal.decreases-loop-i
-decreases-loop-i l = l.n - l.i
