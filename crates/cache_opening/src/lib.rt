@@ -19,10 +19,8 @@ fn clear(state: &mut [u8])
     requires { length state.old ≡ state_size }
     ensures { state.new ≡ replicate state_size 0 }
 {
-    let mut i: usize = 0;
-    while i < cache_model::STATE_SIZE {
+    for i in 0..cache_model::STATE_SIZE {
         state[i] = 0;
-        i += 1;
     }
 }
 
@@ -42,10 +40,8 @@ fn put_rules(state: &mut [u8], rules: Rules)
     ensures { state.new ≡ opened (rules_of rules) }
 {
     state[0] = rules.count as u8;
-    let mut i: usize = 0;
-    while i < rules.count {
+    for i in 0..rules.count {
         put_rule(state, cache_contents::rule_place(i), rules.items[i]);
-        i += 1;
     }
 }
 

@@ -7,6 +7,3 @@ use Rattle.cache_opening.proofs.clear.Given as goal
 
 abbrev pub invariant-loop-i : goal.invariant-loop-i
 invariant-loop-i l = (l.i ≤ state_size) × (length l.state ≡ state_size) × (take l.i l.state ≡ replicate l.i 0)
-
-abbrev pub decreases-loop-i : goal.decreases-loop-i
-decreases-loop-i l = state_size - l.i
