@@ -27,12 +27,7 @@ fn are_zero(state: &[u8], from: usize, end: usize) -> bool
     requires { (from ≤ end) × (end ≤ length state.now) }
     ensures { result ≡ zeros state.now from (end - from) }
 {
-    for k in from..end {
-        if state[k] != 0 {
-            return false;
-        }
-    }
-    true
+    state[from..end].iter().all(|b| *b == 0)
 }
 
 // Whether the last byte of each accepted write's place is a flag.

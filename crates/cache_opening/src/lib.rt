@@ -14,16 +14,6 @@ ghost use Rattle.cache_steps.specs.Given.{call_leaves_state, opened_by};
 use model::Rule;
 use rule_match::Rules;
 
-// All bytes are zero.
-fn clear(state: &mut [u8])
-    requires { length state.old ≡ state_size }
-    ensures { state.new ≡ replicate state_size 0 }
-{
-    for i in 0..cache_model::STATE_SIZE {
-        state[i] = 0;
-    }
-}
-
 // A rule's bytes: the body of its field with names of two bytes.
 fn put_rule(state: &mut [u8], at: usize, rule: Rule)
     requires { (at + wide_rule_length ≤ length state.old) × (rule.predicate < 256) }
@@ -53,7 +43,7 @@ pub fn open_with(state: &mut [u8], rules: Rules) -> u64
     if rule_cycles::is_cyclic(rules) {
         return model::refuse(8, 0);
     }
-    clear(state);
+    state.fill(0);
     put_rules(state, rules);
     0
 }
