@@ -10,13 +10,6 @@ ghost use Rattle.cache_contents.specs.Columns.{InColumns};
 use model::Write;
 use rule_match::Rules;
 
-// A byte as an index.
-pub fn wide(x: u8) -> usize
-    ensures { (result ≡ x) × (result < 256) }
-{
-    x as usize
-}
-
 // Where rule i stands.
 pub fn rule_place(i: usize) -> usize
     requires { i ≤ most_rules }
@@ -46,15 +39,13 @@ pub fn state_rules(state: &[u8]) -> Rules
     requires { (length state.now ≡ state_size) × (rule_count state.now ≤ most_rules) }
     ensures { (rules_of result ≡ rules_in state.now) × (result.count ≡ rule_count state.now) }
 {
-    let n = wide(state[0]);
+    let n = usize::from(state[0]);
     let mut out = rule_match::none();
     out.count = n;
-    let mut i: usize = 0;
-    while i < n {
+    for i in 0..n {
         let b = rule_place(i);
         let e = b + file_format::WIDE_RULE_LENGTH;
         out.items[i] = file_fields::read_wide_rule(&state[b..e]);
-        i += 1;
     }
     out
 }
@@ -74,13 +65,11 @@ pub fn fill_columns(addresses: &mut [u8], names: &mut [u16], epochs: &mut [u32],
     requires { (length addresses.old ≡ most_held) × ((length names.old ≡ most_held) × ((length epochs.old ≡ most_held) × ((length state.now ≡ state_size) × (accepted_count state.now ≤ most_held)))) }
     ensures { InColumns state.now (accepted_count state.now) addresses.new names.new epochs.new }
 {
-    let n = wide(state[1]);
-    let mut i: usize = 0;
-    while i < n {
+    let n = usize::from(state[1]);
+    for i in 0..n {
         let at = write_place(i);
         addresses[i] = state[at];
         names[i] = file_format::half_at(state, at + 1) as u16;
         epochs[i] = file_format::word_at(state, at + 3);
-        i += 1;
     }
 }

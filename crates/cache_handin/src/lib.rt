@@ -86,7 +86,7 @@ pub fn hand_fault(state: &[u8], w: Write) -> u64
     ) {
         return 15;
     }
-    let n = cache_contents::wide(state[1]);
+    let n = usize::from(state[1]);
     if model::MOST_HELD <= n {
         return 16;
     }

@@ -13,13 +13,11 @@ pub fn stored_mask(state: &[u8]) -> u64
     requires { (length state.now ≡ state_size) × (accepted_count state.now ≤ most_held) }
     ensures { result ≡ mask_of (stored_in state.now) (accepted_count state.now) }
 {
-    let n = cache_contents::wide(state[1]);
+    let n = usize::from(state[1]);
     let mut mask: u64 = 0;
-    let mut i: usize = 0;
-    while i < n {
+    for i in 0..n {
         let at = cache_contents::flag_place(i);
         mask = relation::with_if(mask, i, state[at] == 1);
-        i += 1;
     }
     mask
 }
@@ -29,14 +27,7 @@ fn are_zero(state: &[u8], from: usize, end: usize) -> bool
     requires { (from ≤ end) × (end ≤ length state.now) }
     ensures { result ≡ zeros state.now from (end - from) }
 {
-    let mut k = from;
-    while k < end {
-        if state[k] != 0 {
-            return false;
-        }
-        k += 1;
-    }
-    true
+    state[from..end].iter().all(|b| *b == 0)
 }
 
 // Whether the last byte of each accepted write's place is a flag.
@@ -44,14 +35,12 @@ fn flags_fit(state: &[u8]) -> bool
     requires { (length state.now ≡ state_size) × (accepted_count state.now ≤ most_held) }
     ensures { result ≡ all_below (flag_fits state.now) (accepted_count state.now) }
 {
-    let n = cache_contents::wide(state[1]);
-    let mut i: usize = 0;
-    while i < n {
+    let n = usize::from(state[1]);
+    for i in 0..n {
         let at = cache_contents::flag_place(i);
         if 1 < state[at] {
             return false;
         }
-        i += 1;
     }
     true
 }
@@ -61,11 +50,11 @@ pub fn is_framed(state: &[u8]) -> bool
     requires { length state.now ≡ state_size }
     ensures { result ≡ framed state.now }
 {
-    let rules = cache_contents::wide(state[0]);
+    let rules = usize::from(state[0]);
     if model::MOST_RULES < rules {
         return false;
     }
-    let writes = cache_contents::wide(state[1]);
+    let writes = usize::from(state[1]);
     if model::MOST_HELD < writes {
         return false;
     }

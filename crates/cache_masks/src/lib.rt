@@ -13,10 +13,8 @@ pub fn same(column: &[u16], x: u16, n: usize) -> u64
     ensures { result ≡ same_mask column.now x n }
 {
     let mut mask: u64 = 0;
-    let mut j: usize = 0;
-    while j < n {
+    for j in 0..n {
         mask = relation::with_if(mask, j, column[j] == x);
-        j += 1;
     }
     mask
 }
@@ -27,10 +25,8 @@ pub fn same_bytes(column: &[u8], x: u8, n: usize) -> u64
     ensures { result ≡ same_mask column.now x n }
 {
     let mut mask: u64 = 0;
-    let mut j: usize = 0;
-    while j < n {
+    for j in 0..n {
         mask = relation::with_if(mask, j, column[j] == x);
-        j += 1;
     }
     mask
 }
@@ -40,12 +36,10 @@ pub fn last_same(table: &[u64], column: &[u16], x: u16, n: usize) -> u64
     requires { (length table.now ≡ most_held) × ((length column.now ≡ most_held) × ((n ≤ most_held) × Filled (same_at column.now) n table.now)) }
     ensures { result ≡ same_mask column.now x n }
 {
-    let mut j = n;
-    while 0 < j {
-        if column[j - 1] == x {
-            return table[j - 1];
+    for j in (0..n).rev() {
+        if column[j] == x {
+            return table[j];
         }
-        j -= 1;
     }
     0
 }
@@ -55,10 +49,8 @@ pub fn fill_same(table: &mut [u64], column: &[u16], n: usize)
     requires { (length table.old ≡ most_held) × ((length column.now ≡ most_held) × (n ≤ most_held)) }
     ensures { (length table.new ≡ most_held) × Filled (same_at column.now) n table.new }
 {
-    let mut i: usize = 0;
-    while i < n {
+    for i in 0..n {
         table[i] = relation::with_bit(last_same(table, column, column[i], i), i);
-        i += 1;
     }
 }
 
@@ -78,13 +70,11 @@ pub fn compare_epochs(epochs: &[u32], t: u32, n: usize) -> Epochs
     let mut equal: u64 = 0;
     let mut less: u64 = 0;
     let mut greater: u64 = 0;
-    let mut j: usize = 0;
-    while j < n {
+    for j in 0..n {
         let u = epochs[j];
         equal = relation::with_if(equal, j, t == u);
         less = relation::with_if(less, j, u < t);
         greater = relation::with_if(greater, j, t < u);
-        j += 1;
     }
     Epochs {
         equal,
@@ -138,10 +128,8 @@ fn rank(epochs: &[u32], t: u32) -> u32
     ensures { (result ≡ rank_of epochs.now t) × (result ≤ most_held) }
 {
     let mut count: u32 = 0;
-    let mut j: usize = 0;
-    while j < model::MOST_HELD {
+    for j in 0..model::MOST_HELD {
         count = one_more(count, epochs[j] < t);
-        j += 1;
     }
     count
 }
@@ -164,12 +152,10 @@ pub fn fill_ranks(ranks: &mut [u8], epochs: &[u32], n: usize)
 {
     let mut t: u32 = 0;
     let mut r: u32 = 0;
-    let mut i: usize = 0;
-    while i < n {
+    for i in 0..n {
         r = next_rank(epochs, t, r, epochs[i]);
         t = epochs[i];
         ranks[i] = r as u8;
-        i += 1;
     }
 }
 
@@ -181,11 +167,9 @@ fn mark_ranks(belows: &mut [u64], ranks: &[u8], n: usize)
     requires { ((length belows.old ≡ bounds) × Blank bounds belows.old) × ((length ranks.now ≡ most_held) × ((n ≤ most_held) × SmallRanks n ranks.now)) }
     ensures { (length belows.new ≡ bounds) × Filled (next_mask ranks.now n) bounds belows.new }
 {
-    let mut i: usize = 0;
-    while i < n {
+    for i in 0..n {
         let r = ranks[i] as usize + 1;
         belows[r] = relation::with_bit(belows[r], i);
-        i += 1;
     }
 }
 
@@ -194,10 +178,8 @@ fn join_up(table: &mut [u64])
     requires { length table.old ≡ bounds }
     ensures { (length table.new ≡ bounds) × Filled (union_to table.old) bounds table.new }
 {
-    let mut r: usize = 1;
-    while r < BOUNDS {
+    for r in 1..BOUNDS {
         table[r] = table[r] | table[r - 1];
-        r += 1;
     }
 }
 

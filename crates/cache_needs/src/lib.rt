@@ -18,13 +18,6 @@ ghost use Rattle.cache_needs.specs.Tables.{behind_of, earlier_at, Added, SmallOf
 use model::{Rule, Write};
 use rule_match::Rules;
 
-// A byte as an index.
-fn wide(x: u8) -> usize
-    ensures { (result ≡ x) × (result < 256) }
-{
-    x as usize
-}
-
 // What a write to an address needs of the earlier ones, by the place, from 1, of the last of them: this one and
 // what it needs itself; 0 is for none.
 fn behind(rows: &[u64], place: usize) -> u64
@@ -43,12 +36,10 @@ fn fill_earlier(rows: &mut [u64], addresses: &[u8], n: usize)
     ensures { (length rows.new ≡ most_held) × Filled (earlier_at addresses.now) n rows.new }
 {
     let mut last = [0u8; model::DISK_BLOCKS];
-    let mut i: usize = 0;
-    while i < n {
-        let a = wide(addresses[i]);
-        rows[i] = behind(rows, wide(last[a]));
+    for i in 0..n {
+        let a = usize::from(addresses[i]);
+        rows[i] = behind(rows, usize::from(last[a]));
         last[a] = (i + 1) as u8;
-        i += 1;
     }
 }
 
@@ -60,7 +51,7 @@ fn add_to(rows: &mut [u64], firsts: u64, seconds: u64, p: u16, ranks: &[u8], bel
     let mut left = firsts;
     while left != 0 {
         let i = relation::lowest(left);
-        rows[i] = rows[i] | (seconds & cache_masks::standing_in(belows, wide(ranks[i]), p));
+        rows[i] = rows[i] | (seconds & cache_masks::standing_in(belows, usize::from(ranks[i]), p));
         left = relation::without(left, 1 << i);
     }
 }
@@ -81,8 +72,7 @@ fn run_from(rules: Rules, k: usize, names: &[u16], n: usize, alike: &[u64]) -> R
 {
     let head = rules.items[k];
     let mut seconds = cache_masks::last_same(alike, names, head.second, n);
-    let mut end = k + 1;
-    while end < rules.count {
+    for end in k + 1..rules.count {
         let rule = rules.items[end];
         if rule.first != head.first {
             return Run { head, end, seconds };
@@ -91,9 +81,12 @@ fn run_from(rules: Rules, k: usize, names: &[u16], n: usize, alike: &[u64]) -> R
             return Run { head, end, seconds };
         }
         seconds = seconds | cache_masks::last_same(alike, names, rule.second, n);
-        end += 1;
     }
-    Run { head, end, seconds }
+    Run {
+        head,
+        end: rules.count,
+        seconds,
+    }
 }
 
 // The rows of the first n writes before any rule: the earlier ones to the same address. And the tables that serve
@@ -163,12 +156,10 @@ pub fn needed(
 {
     let compared = cache_masks::compare_epochs(epochs, w.epoch, n);
     let mut mask = cache_masks::same_bytes(addresses, w.address, n);
-    let mut k: usize = 0;
-    while k < rules.count {
+    for k in 0..rules.count {
         let rule = rules.items[k];
         let standing = cache_masks::standing(compared, rule.predicate);
         mask = with_named(mask, w.name == rule.first, names, rule.second, n, standing);
-        k += 1;
     }
     mask
 }
@@ -180,12 +171,10 @@ pub fn dependents(rules: Rules, names: &[u16], epochs: &[u32], n: usize, w: Writ
 {
     let compared = cache_masks::turned(cache_masks::compare_epochs(epochs, w.epoch, n));
     let mut mask: u64 = 0;
-    let mut k: usize = 0;
-    while k < rules.count {
+    for k in 0..rules.count {
         let rule = rules.items[k];
         let standing = cache_masks::standing(compared, rule.predicate);
         mask = with_named(mask, w.name == rule.second, names, rule.first, n, standing);
-        k += 1;
     }
     mask
 }

@@ -14,18 +14,6 @@ ghost use Rattle.cache_steps.specs.Given.{call_leaves_state, opened_by};
 use model::Rule;
 use rule_match::Rules;
 
-// All bytes are zero.
-fn clear(state: &mut [u8])
-    requires { length state.old ≡ state_size }
-    ensures { state.new ≡ replicate state_size 0 }
-{
-    let mut i: usize = 0;
-    while i < cache_model::STATE_SIZE {
-        state[i] = 0;
-        i += 1;
-    }
-}
-
 // A rule's bytes: the body of its field with names of two bytes.
 fn put_rule(state: &mut [u8], at: usize, rule: Rule)
     requires { (at + wide_rule_length ≤ length state.old) × (rule.predicate < 256) }
@@ -42,10 +30,8 @@ fn put_rules(state: &mut [u8], rules: Rules)
     ensures { state.new ≡ opened (rules_of rules) }
 {
     state[0] = rules.count as u8;
-    let mut i: usize = 0;
-    while i < rules.count {
+    for i in 0..rules.count {
         put_rule(state, cache_contents::rule_place(i), rules.items[i]);
-        i += 1;
     }
 }
 
@@ -57,7 +43,7 @@ pub fn open_with(state: &mut [u8], rules: Rules) -> u64
     if rule_cycles::is_cyclic(rules) {
         return model::refuse(8, 0);
     }
-    clear(state);
+    state.fill(0);
     put_rules(state, rules);
     0
 }

@@ -19,12 +19,10 @@ fn is_known(rules: Rules) -> bool
     requires { rules.count ≤ most_rules }
     ensures { result ≡ known (rules_of rules) }
 {
-    let mut k: usize = 0;
-    while k < rules.count {
+    for k in 0..rules.count {
         if 2 < rules.items[k].predicate {
             return false;
         }
-        k += 1;
     }
     true
 }
@@ -45,12 +43,10 @@ fn all_covered(rows: &[u64], mask: u64, n: usize) -> bool
     requires { (length rows.now ≡ most_held) × (n ≤ most_held) }
     ensures { result ≡ all_below (covered_at rows.now mask) n }
 {
-    let mut i: usize = 0;
-    while i < n {
+    for i in 0..n {
         if !row_covered(rows[i], mask, i) {
             return false;
         }
-        i += 1;
     }
     true
 }
@@ -60,7 +56,7 @@ fn is_counted(state: &[u8], stored: u64) -> bool
     requires { (length state.now ≡ state_size) × (stored ≡ mask_of (stored_in state.now) (accepted_count state.now)) }
     ensures { result ≡ eqb (stored_count state.now) (count_below (stored_in state.now) (accepted_count state.now)) }
 {
-    cache_contents::wide(state[2]) == u64::count_ones(stored) as usize
+    usize::from(state[2]) == u64::count_ones(stored) as usize
 }
 
 // What is decoded of a state: whether it can be; if so, its rules and its stored writes.
@@ -122,7 +118,7 @@ pub fn needs_hold(
     requires { ((length rows.old ≡ most_held) × ((length addresses.old ≡ most_held) × ((length names.old ≡ most_held) × (length epochs.old ≡ most_held)))) × ((length state.now ≡ state_size) × Decoded state.now seen) }
     ensures { (result ≡ needs_hold state.now) × Seen state.now rows.new addresses.new names.new epochs.new seen }
 {
-    let n = cache_contents::wide(state[1]);
+    let n = usize::from(state[1]);
     cache_contents::fill_columns(addresses, names, epochs, state);
     let mut alike = [0u64; model::MOST_HELD];
     let mut ranks = [0u8; model::MOST_HELD];

@@ -44,7 +44,7 @@ pub fn step_sound(state: &mut [u8], disk: &mut [u8], rows: &[u64], mask: u64) ->
     requires { (length rows.now ≡ most_held) × ((length disk.old ≡ disk_length) × ((sound state.old ≡ true) × (Tabled state.old rows.now × (mask ≡ mask_of (stored_in state.old) (accepted_count state.old))))) }
     ensures { call_leaves result state.new disk.new ≡ coded_left (stepped state.old disk.old) }
 {
-    let place = ready(rows, mask, cache_contents::wide(state[1]));
+    let place = ready(rows, mask, usize::from(state[1]));
     if place == 0 {
         return 0;
     }
@@ -114,14 +114,12 @@ pub fn drain_sound(state: &mut [u8], disk: &mut [u8], rows: &[u64], mask: u64) -
     requires { (length rows.now ≡ most_held) × ((length disk.old ≡ disk_length) × ((sound state.old ≡ true) × (Tabled state.old rows.now × (mask ≡ mask_of (stored_in state.old) (accepted_count state.old))))) }
     ensures { call_leaves result state.new disk.new ≡ coded_left (drained state.old disk.old) }
 {
-    let accepted = cache_contents::wide(state[1]);
-    let stored = cache_contents::wide(state[2]);
+    let accepted = usize::from(state[1]);
+    let stored = usize::from(state[2]);
     let mut done = mask;
-    let mut n: usize = stored;
-    while n < accepted {
+    for n in stored..accepted {
         let place = step_sound(state, disk, rows, done);
         done = with_place(done, place);
-        n += 1;
     }
     (accepted - stored) as u64
 }

@@ -29,7 +29,7 @@ pub fn store_block(disk: &mut [u8], w: Write)
     requires { length disk.old ≡ disk_length }
     ensures { disk.new ≡ stored_on disk.old w }
 {
-    let at = file_format::BLOCK_LENGTH * cache_contents::wide(w.address);
+    let at = file_format::BLOCK_LENGTH * usize::from(w.address);
     put_word(disk, at, w.block);
 }
 
@@ -98,7 +98,7 @@ pub fn append(state: &mut [u8], w: Write) -> u64
     ensures { (result ≡ accepted_count state.old + 1) × (state.new ≡ handed state.old w) }
 {
     let place = state[1] + 1;
-    let at = cache_contents::write_place(cache_contents::wide(state[1]));
+    let at = cache_contents::write_place(usize::from(state[1]));
     put_entry(state, at, w);
     state[1] = place;
     place as u64

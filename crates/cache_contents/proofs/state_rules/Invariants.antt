@@ -9,6 +9,3 @@ use Rattle.cache_contents.proofs.state_rules.Given as goal
 
 abbrev pub invariant-loop-i : goal.invariant-loop-i
 invariant-loop-i l = (l.i ≤ l.n) × (length l.out.items ≡ most_rules) × (l.out.count ≡ l.n) × (take l.i l.out.items ≡ tabulate (rule_in l.state) l.i)
-
-abbrev pub decreases-loop-i : goal.decreases-loop-i
-decreases-loop-i l = l.n - l.i

@@ -5,11 +5,5 @@ use Rattle.cache_handin.proofs.closes_ring.Goals as goal
 pub returns-then-dependents-eq0 : goal.returns-then-dependents-eq0
 returns-then-dependents-eq0 c = search behind
 
-pub needed-needed-requires : goal.needed-needed-requires
-needed-needed-requires c = search behind
-
-pub closes_ring-requires : goal.closes_ring-requires
-closes_ring-requires c = search behind
-
 pub returns : goal.returns
 returns c = search behind

@@ -8,23 +8,8 @@ use Rattle.cache_handin.proofs.hand_fault.Goals as goal
 pub returns-then-state-ne-STATE_SIZE : goal.returns-then-state-ne-STATE_SIZE
 returns-then-state-ne-STATE_SIZE c = (search faulting, search faulting)
 
-pub decode-seen-requires : goal.decode-seen-requires
-decode-seen-requires c = search faulting
-
 pub returns-then-not-seen : goal.returns-then-not-seen
 returns-then-not-seen c = (search faulting, search faulting)
-
-pub slice_bounds-needs_hold-end : goal.slice_bounds-needs_hold-end
-slice_bounds-needs_hold-end c = search faulting
-
-pub slice_bounds-needs_hold-end-2 : goal.slice_bounds-needs_hold-end-2
-slice_bounds-needs_hold-end-2 c = search faulting
-
-pub slice_bounds-needs_hold-end-3 : goal.slice_bounds-needs_hold-end-3
-slice_bounds-needs_hold-end-3 c = search faulting
-
-pub slice_bounds-needs_hold-end-4 : goal.slice_bounds-needs_hold-end-4
-slice_bounds-needs_hold-end-4 c = search faulting
 
 pub needs_hold-requires : goal.needs_hold-requires
 needs_hold-requires c = search faulting
@@ -32,44 +17,26 @@ needs_hold-requires c = search faulting
 pub returns-then-not-needs_hold : goal.returns-then-not-needs_hold
 returns-then-not-needs_hold c = (search faulting, search faulting)
 
-pub bounds-state-1 : goal.bounds-state-1
-bounds-state-1 c = search faulting
-
-pub wide-n-requires : goal.wide-n-requires
-wide-n-requires c = search faulting
-
 pub returns-then-n-ge-MOST_HELD : goal.returns-then-n-ge-MOST_HELD
 returns-then-n-ge-MOST_HELD c = (search faulting, search faulting)
-
-pub slice_bounds-fault_behind-end : goal.slice_bounds-fault_behind-end
-slice_bounds-fault_behind-end c = search faulting
-
-pub slice_bounds-fault_behind-end-2 : goal.slice_bounds-fault_behind-end-2
-slice_bounds-fault_behind-end-2 c = search faulting
-
-pub slice_bounds-fault_behind-end-3 : goal.slice_bounds-fault_behind-end-3
-slice_bounds-fault_behind-end-3 c = search faulting
-
-pub slice_bounds-fault_behind-end-4 : goal.slice_bounds-fault_behind-end-4
-slice_bounds-fault_behind-end-4 c = search faulting
 
 pub fault_behind-requires : goal.fault_behind-requires
 fault_behind-requires c = (
   (search faulting, (search faulting, (search faulting, search faulting))),
   (
     (
-      behind-few no_write _ c.if-state-ne-STATE_SIZE.false _ c.decode-seen.ensures.0 c.if-not-seen.false _ c.needs_hold.ensures.0 (ap not c.if-not-needs_hold.false) _ c.wide-n.ensures.0 c.decode-seen.result _ _ _ _ c.if-n-ge-MOST_HELD.false c.needs_hold.ensures.1,
-      (c.if-n-ge-MOST_HELD.false, behind-rows no_write _ c.if-state-ne-STATE_SIZE.false _ c.decode-seen.ensures.0 c.if-not-seen.false _ c.needs_hold.ensures.0 (ap not c.if-not-needs_hold.false) _ c.wide-n.ensures.0 c.decode-seen.result _ _ _ _ c.if-n-ge-MOST_HELD.false c.needs_hold.ensures.1),
+      behind-few no_write _ c.if-state-ne-STATE_SIZE.false _ c.decode-seen.ensures.0 c.if-not-seen.false _ c.needs_hold.ensures.0 (ap not c.if-not-needs_hold.false) _ c.from-n.ensures.0 c.decode-seen.result _ _ _ _ c.if-n-ge-MOST_HELD.false c.needs_hold.ensures.1,
+      (c.if-n-ge-MOST_HELD.false, behind-rows no_write _ c.if-state-ne-STATE_SIZE.false _ c.decode-seen.ensures.0 c.if-not-seen.false _ c.needs_hold.ensures.0 (ap not c.if-not-needs_hold.false) _ c.from-n.ensures.0 c.decode-seen.result _ _ _ _ c.if-n-ge-MOST_HELD.false c.needs_hold.ensures.1),
     ),
     (
-      behind-acyclic no_write _ c.if-state-ne-STATE_SIZE.false _ c.decode-seen.ensures.0 c.if-not-seen.false _ c.needs_hold.ensures.0 (ap not c.if-not-needs_hold.false) _ c.wide-n.ensures.0 c.decode-seen.result _ _ _ _ c.if-n-ge-MOST_HELD.false c.needs_hold.ensures.1,
-      behind-ringless no_write _ c.if-state-ne-STATE_SIZE.false _ c.decode-seen.ensures.0 c.if-not-seen.false _ c.needs_hold.ensures.0 (ap not c.if-not-needs_hold.false) _ c.wide-n.ensures.0 c.decode-seen.result _ _ _ _ c.if-n-ge-MOST_HELD.false c.needs_hold.ensures.1,
+      behind-acyclic no_write _ c.if-state-ne-STATE_SIZE.false _ c.decode-seen.ensures.0 c.if-not-seen.false _ c.needs_hold.ensures.0 (ap not c.if-not-needs_hold.false) _ c.from-n.ensures.0 c.decode-seen.result _ _ _ _ c.if-n-ge-MOST_HELD.false c.needs_hold.ensures.1,
+      behind-ringless no_write _ c.if-state-ne-STATE_SIZE.false _ c.decode-seen.ensures.0 c.if-not-seen.false _ c.needs_hold.ensures.0 (ap not c.if-not-needs_hold.false) _ c.from-n.ensures.0 c.decode-seen.result _ _ _ _ c.if-n-ge-MOST_HELD.false c.needs_hold.ensures.1,
     ),
   ),
 )
 
 pub returns : goal.returns
 returns c = (
-  hand_behind _ _ c.if-state-ne-STATE_SIZE.false _ c.decode-seen.ensures.0 c.if-not-seen.false _ c.needs_hold.ensures.0 (ap not c.if-not-needs_hold.false) _ c.wide-n.ensures.0 c.decode-seen.result _ _ _ _ c.if-n-ge-MOST_HELD.false c.needs_hold.ensures.1 _ c.fault_behind.ensures.0,
+  hand_behind _ _ c.if-state-ne-STATE_SIZE.false _ c.decode-seen.ensures.0 c.if-not-seen.false _ c.needs_hold.ensures.0 (ap not c.if-not-needs_hold.false) _ c.from-n.ensures.0 c.decode-seen.result _ _ _ _ c.if-n-ge-MOST_HELD.false c.needs_hold.ensures.1 _ c.fault_behind.ensures.0,
   c.fault_behind.ensures.1,
 )

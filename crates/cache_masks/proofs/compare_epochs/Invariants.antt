@@ -6,6 +6,3 @@ use Rattle.cache_masks.proofs.compare_epochs.Given as goal
 
 abbrev pub invariant-loop-j : goal.invariant-loop-j
 invariant-loop-j l = (l.j ≤ l.n) × (l.equal ≡ epoch_mask l.epochs 0 l.t l.j) × (l.less ≡ epoch_mask l.epochs 1 l.t l.j) × (l.greater ≡ epoch_mask l.epochs 2 l.t l.j)
-
-abbrev pub decreases-loop-j : goal.decreases-loop-j
-decreases-loop-j l = l.n - l.j

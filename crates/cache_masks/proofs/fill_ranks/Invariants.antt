@@ -9,6 +9,3 @@ use Rattle.cache_masks.proofs.fill_ranks.Given as goal
 
 abbrev pub invariant-loop-i : goal.invariant-loop-i
 invariant-loop-i l = (l.i ≤ l.n) × (length l.ranks ≡ most_held) × (l.r ≡ rank_of l.epochs l.t) × (l.r ≤ most_held) × Filled (rank_at l.epochs) l.i l.ranks
-
-abbrev pub decreases-loop-i : goal.decreases-loop-i
-decreases-loop-i l = l.n - l.i

@@ -9,6 +9,3 @@ use Rattle.cache_masks.proofs.fill_same.Given as goal
 
 abbrev pub invariant-loop-i : goal.invariant-loop-i
 invariant-loop-i l = (l.i ≤ l.n) × (length l.table ≡ most_held) × Filled (same_at l.column) l.i l.table
-
-abbrev pub decreases-loop-i : goal.decreases-loop-i
-decreases-loop-i l = l.n - l.i

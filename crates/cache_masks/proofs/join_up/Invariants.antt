@@ -8,6 +8,3 @@ use Rattle.cache_masks.proofs.join_up.Given as goal
 
 abbrev pub invariant-loop-r : goal.invariant-loop-r
 invariant-loop-r l = (1 ≤ l.r) × (l.r ≤ bounds) × (length l.table ≡ bounds) × Joined l.initial.table l.r l.table
-
-abbrev pub decreases-loop-r : goal.decreases-loop-r
-decreases-loop-r l = bounds - l.r

@@ -8,6 +8,3 @@ use Rattle.cache_masks.proofs.mark_ranks.Given as goal
 
 abbrev pub invariant-loop-i : goal.invariant-loop-i
 invariant-loop-i l = (l.i ≤ l.n) × (length l.belows ≡ bounds) × Filled (next_mask l.ranks l.i) bounds l.belows
-
-abbrev pub decreases-loop-i : goal.decreases-loop-i
-decreases-loop-i l = l.n - l.i

@@ -7,6 +7,3 @@ use Rattle.cache_masks.proofs.rank.Given as goal
 
 abbrev pub invariant-loop-j : goal.invariant-loop-j
 invariant-loop-j l = (l.j ≤ most_held) × (l.count ≤ l.j) × (l.count ≡ smaller l.epochs l.t l.j)
-
-abbrev pub decreases-loop-j : goal.decreases-loop-j
-decreases-loop-j l = most_held - l.j

@@ -9,6 +9,3 @@ use Rattle.cache_needs.proofs.dependents.Given as goal
 
 abbrev pub invariant-loop-k : goal.invariant-loop-k
 invariant-loop-k l = (l.k ≤ l.rules.count) × (l.mask ≡ dependent_mask (take l.k l.rules.items) (columned [] l.names l.epochs l.n) l.w l.n)
-
-abbrev pub decreases-loop-k : goal.decreases-loop-k
-decreases-loop-k l = l.rules.count - l.k

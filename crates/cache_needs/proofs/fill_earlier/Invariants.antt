@@ -9,6 +9,3 @@ use Rattle.cache_needs.proofs.fill_earlier.Given as goal
 
 abbrev pub invariant-loop-i : goal.invariant-loop-i
 invariant-loop-i l = (l.i ≤ l.n) × (length l.rows ≡ most_held) × (length l.last ≡ disk_blocks) × Filled (earlier_at l.addresses) l.i l.rows × Lasts l.addresses l.i l.rows l.last
-
-abbrev pub decreases-loop-i : goal.decreases-loop-i
-decreases-loop-i l = l.n - l.i

@@ -6,5 +6,3 @@ use Rattle.cache_needs.proofs.run_from.Given as goal
 abbrev pub invariant-loop-end : goal.invariant-loop-end
 invariant-loop-end l = (l.k < l.end) × (l.end ≤ l.rules.count) × Joins l.names l.n l.rules l.k l.end l.seconds
 
-abbrev pub decreases-loop-end : goal.decreases-loop-end
-decreases-loop-end l = l.rules.count - l.end

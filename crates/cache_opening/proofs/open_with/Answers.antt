@@ -2,23 +2,11 @@
 use Rattle.cache_opening.proofs.OpenSteps.{beginning}
 use Rattle.cache_opening.proofs.open_with.Goals as goal
 
-pub is_cyclic-requires : goal.is_cyclic-requires
-is_cyclic-requires c = search beginning
-
-pub refuse-requires : goal.refuse-requires
-refuse-requires c = search beginning
-
 pub returns-then-is_cyclic : goal.returns-then-is_cyclic
 returns-then-is_cyclic c = search beginning
 
-pub clear-requires : goal.clear-requires
-clear-requires c = search beginning
-
 pub put_rules-requires : goal.put_rules-requires
 put_rules-requires c = search beginning
-
-pub shape_of-state : goal.shape_of-state
-shape_of-state c = search beginning
 
 pub returns : goal.returns
 returns c = search beginning

@@ -8,6 +8,3 @@ use Rattle.cache_opening.proofs.put_rules.Given as goal
 
 abbrev pub invariant-loop-i : goal.invariant-loop-i
 invariant-loop-i l = (l.i ≤ l.rules.count) × (length l.state ≡ state_size) × (l.state ≡ written l.rules.count (take l.i l.rules.items))
-
-abbrev pub decreases-loop-i : goal.decreases-loop-i
-decreases-loop-i l = l.rules.count - l.i

@@ -5,23 +5,11 @@ use mathlib.Core.Path.{ap}
 use mathlib.Core.Bool.{not}
 use Rattle.cache_soundness.proofs.decode.Goals as goal
 
-pub is_framed-requires : goal.is_framed-requires
-is_framed-requires c = search decoding
-
-pub unsound-requires : goal.unsound-requires
-unsound-requires c = search decoding
-
 pub returns-then-not-is_framed : goal.returns-then-not-is_framed
 returns-then-not-is_framed c = (search decoding, search decoding)
 
 pub stored_mask-stored-requires : goal.stored_mask-stored-requires
 stored_mask-stored-requires c = search decoding
-
-pub is_counted-requires : goal.is_counted-requires
-is_counted-requires c = search decoding
-
-pub unsound-requires-then-not-is_counted : goal.unsound-requires-then-not-is_counted
-unsound-requires-then-not-is_counted c = search decoding
 
 pub returns-then-not-is_counted : goal.returns-then-not-is_counted
 returns-then-not-is_counted c = (search decoding, search decoding)
@@ -32,17 +20,11 @@ state_rules-rules-requires c = search decoding
 pub is_known-requires : goal.is_known-requires
 is_known-requires c = search decoding
 
-pub unsound-requires-then-not-is_known : goal.unsound-requires-then-not-is_known
-unsound-requires-then-not-is_known c = search decoding
-
 pub returns-then-not-is_known : goal.returns-then-not-is_known
 returns-then-not-is_known c = (search decoding, search decoding)
 
 pub is_cyclic-requires : goal.is_cyclic-requires
 is_cyclic-requires c = search decoding
-
-pub unsound-requires-then-is_cyclic : goal.unsound-requires-then-is_cyclic
-unsound-requires-then-is_cyclic c = search decoding
 
 pub returns-then-is_cyclic : goal.returns-then-is_cyclic
 returns-then-is_cyclic c = (search decoding, search decoding)

@@ -5,23 +5,8 @@ use Rattle.cache_soundness.proofs.is_known.Goals as goal
 pub loop-k-init : goal.loop-k-init
 loop-k-init c = search knowing
 
-pub offset_bounds-rules-k : goal.offset_bounds-rules-k
-offset_bounds-rules-k c = search knowing
-
-pub bounds-rules-k : goal.bounds-rules-k
-bounds-rules-k c = search knowing
-
 pub returns-then-rules-k-gt2 : goal.returns-then-rules-k-gt2
 returns-then-rules-k-gt2 c = search knowing
 
-pub overflow_add-k : goal.overflow_add-k
-overflow_add-k c = search knowing
-
-pub loop-k-smaller : goal.loop-k-smaller
-loop-k-smaller c = search knowing
-
 pub loop-k-preserved : goal.loop-k-preserved
 loop-k-preserved c = search knowing
-
-pub returns : goal.returns
-returns c = search knowing

@@ -8,6 +8,3 @@ use Rattle.cache_soundness.proofs.is_known.Given as goal
 
 abbrev pub invariant-loop-k : goal.invariant-loop-k
 invariant-loop-k l = (l.k ≤ l.rules.count) × (known (take l.k l.rules.items) ≡ true)
-
-abbrev pub decreases-loop-k : goal.decreases-loop-k
-decreases-loop-k l = l.rules.count - l.k

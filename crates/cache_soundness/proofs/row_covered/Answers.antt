@@ -2,9 +2,6 @@
 use Rattle.cache_soundness.proofs.PartSteps.{covering}
 use Rattle.cache_soundness.proofs.row_covered.Goals as goal
 
-pub has_bit-requires : goal.has_bit-requires
-has_bit-requires c = search covering
-
 pub returns-then-has_bit : goal.returns-then-has_bit
 returns-then-has_bit c = search covering
 

@@ -13,6 +13,3 @@ use Rattle.cache_steps.proofs.drain_sound.Given as goal
 
 abbrev pub invariant-loop-n : goal.invariant-loop-n
 invariant-loop-n l = (l.stored ≤ l.n) × (l.n ≤ l.accepted) × (length l.state ≡ state_size) × (length l.disk ≡ disk_length) × (sound l.state ≡ true) × Tabled l.state l.rows × (l.done ≡ mask_of (stored_in l.state) (accepted_count l.state)) × Drains l.initial.state l.initial.disk l.accepted l.stored l.state l.disk l.n
-
-abbrev pub decreases-loop-n : goal.decreases-loop-n
-decreases-loop-n l = l.accepted - l.n
