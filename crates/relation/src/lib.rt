@@ -88,10 +88,8 @@ fn join_all(rows: &mut [u64], k: usize, n: usize)
     ensures { take n rows.new ≡ take n (round k rows.old) }
 {
     let through = rows[k];
-    let mut i: usize = 0;
-    while i < n {
+    for i in 0..n {
         rows[i] = join(rows[i], through, k);
-        i += 1;
     }
 }
 
@@ -100,10 +98,8 @@ pub fn close(rows: &mut [u64], n: usize)
     requires { (n ≤ length rows.old) × (n ≤ 64) }
     ensures { take n rows.new ≡ take n (closed n rows.old) }
 {
-    let mut k: usize = 0;
-    while k < n {
+    for k in 0..n {
         join_all(rows, k, n);
-        k += 1;
     }
 }
 
@@ -135,10 +131,8 @@ fn peel(rows: &[u64], n: usize, left: u64) -> u64
     ensures { result ≡ peeled rows.now left n }
 {
     let mut rest = left;
-    let mut i: usize = 0;
-    while i < n {
+    for i in 0..n {
         rest = peel_one(rows[i], rest, i);
-        i += 1;
     }
     rest
 }
@@ -149,9 +143,7 @@ fn peel_back(rows: &[u64], n: usize, left: u64) -> u64
     ensures { result ≡ peeled_back rows.now left n }
 {
     let mut rest = left;
-    let mut i = n;
-    while i != 0 {
-        i -= 1;
+    for i in (0..n).rev() {
         rest = peel_one(rows[i], rest, i);
     }
     rest
@@ -214,10 +206,8 @@ fn double(table: &mut [u64], i: usize, row: u64)
     ensures { Doubled i row table.old table.new (2 ^ i) }
 {
     let size = 1usize << i;
-    let mut x: usize = 0;
-    while x < size {
+    for x in 0..size {
         table[size + x] = table[x] | row;
-        x += 1;
     }
 }
 
@@ -227,9 +217,7 @@ pub fn unite(table: &mut [u64], rows: &[u64; 64], from: usize, k: usize)
     ensures { Unites rows.now from k table.new }
 {
     table[0] = 0;
-    let mut i: usize = 0;
-    while i < k {
+    for i in 0..k {
         double(table, i, rows[from + i]);
-        i += 1;
     }
 }

@@ -7,6 +7,3 @@ use Rattle.relation.proofs.close.Given as goal
 
 abbrev pub invariant-loop-k : goal.invariant-loop-k
 invariant-loop-k l = (l.k ≤ l.n) × (length l.rows ≡ length l.initial.rows) × (take l.n l.rows ≡ take l.n (closed l.k l.initial.rows))
-
-abbrev pub decreases-loop-k : goal.decreases-loop-k
-decreases-loop-k l = l.n - l.k

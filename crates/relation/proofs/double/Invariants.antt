@@ -7,6 +7,3 @@ use Rattle.relation.proofs.double.Given as goal
 
 abbrev pub invariant-loop-x : goal.invariant-loop-x
 invariant-loop-x l = (l.x ≤ l.size) × (l.size ≡ 2 ^ l.i) × (l.size ≤ 2147483648) × (l.size + l.size ≤ length l.table) × (length l.table ≡ length l.initial.table) × Doubled l.i l.row l.initial.table l.table l.x
-
-abbrev pub decreases-loop-x : goal.decreases-loop-x
-decreases-loop-x l = l.size - l.x

@@ -8,6 +8,3 @@ use Rattle.relation.proofs.join_all.Given as goal
 
 abbrev pub invariant-loop-i : goal.invariant-loop-i
 invariant-loop-i l = (l.i ≤ l.n) × (length l.rows ≡ length l.initial.rows) × (l.rows ≡ mapped (joined l.k l.through) l.initial.rows l.i)
-
-abbrev pub decreases-loop-i : goal.decreases-loop-i
-decreases-loop-i l = l.n - l.i
