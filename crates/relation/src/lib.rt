@@ -88,8 +88,8 @@ fn join_all(rows: &mut [u64], k: usize, n: usize)
     ensures { take n rows.new ≡ take n (round k rows.old) }
 {
     let through = rows[k];
-    for i in 0..n {
-        rows[i] = join(rows[i], through, k);
+    for row in &mut rows[..n] {
+        *row = join(*row, through, k);
     }
 }
 
@@ -131,13 +131,13 @@ fn peel(rows: &[u64], n: usize, left: u64) -> u64
     ensures { result ≡ peeled rows.now left n }
 {
     let mut rest = left;
-    for i in 0..n {
-        rest = peel_one(rows[i], rest, i);
+    for (i, row) in rows[..n].iter().enumerate() {
+        rest = peel_one(*row, rest, i);
     }
     rest
 }
 
-// And from the highest down.
+// And from the highest down. (By numbers: `.iter().enumerate().rev()` goes by what it yielded, and is no plainer to prove.)
 fn peel_back(rows: &[u64], n: usize, left: u64) -> u64
     requires { (n ≤ length rows.now) × (n ≤ 64) }
     ensures { result ≡ peeled_back rows.now left n }

@@ -1,6 +1,6 @@
 -- `relation::close` meets its contract. The invariant: the first n rows are closed by way of the numbers below k.
 use mathlib.Core.Path.{◌≡◌}
-use Prim.Native.Nat.{◌≤◌, ◌-◌}
+use Prim.Native.Nat.{◌≤◌}
 use lib.ListN.{length, take}
 use Rattle.relation.specs.Finite.{closed}
 use Rattle.relation.proofs.close.Given as goal

@@ -1,5 +1,4 @@
 -- `relation::double` meets its contract. The invariant: the first x of the new entries are written, and those below are as they were.
-use borrow.Author.Rules.{rules}
 use Rattle.relation.proofs.UnionLaws.{uniting}
 use Rattle.relation.proofs.double.Goals as goal
 

@@ -1,6 +1,6 @@
 -- `relation::double` meets its contract. The invariant: the first x of the new entries are written, and those below are as they were.
 use mathlib.Core.Path.{◌≡◌}
-use Prim.Native.Nat.{◌+◌, ◌-◌, ◌^◌, ◌≤◌}
+use Prim.Native.Nat.{◌+◌, ◌^◌, ◌≤◌}
 use lib.ListN.{length}
 use Rattle.relation.specs.Union.{Doubled}
 use Rattle.relation.proofs.double.Given as goal

@@ -7,3 +7,6 @@ loop-i-init c = search peeling
 
 pub loop-i-preserved : goal.loop-i-preserved
 loop-i-preserved c = search peeling
+
+pub returns : goal.returns
+returns c = search peeling

@@ -1,6 +1,6 @@
 -- `relation::unite` meets its contract. The invariant: the sets of numbers below i have their unions.
 use mathlib.Core.Path.{◌≡◌}
-use Prim.Native.Nat.{◌-◌, ◌≤◌}
+use Prim.Native.Nat.{◌≤◌}
 use lib.ListN.{length}
 use Rattle.relation.specs.Union.{Unites}
 use Rattle.relation.proofs.unite.Given as goal
