@@ -98,13 +98,11 @@ pub fn pick(c: Rules, m: u64) -> Rules
 {
     let mut items = c.items;
     let mut n: usize = 0;
-    let mut i: usize = 0;
-    while i < c.count {
+    for i in 0..c.count {
         // a rule that is not in the set is written over
         let rule = c.items[i];
         items[n] = rule;
         n += digit(m, i);
-        i += 1;
     }
     Rules { items, count: n }
 }

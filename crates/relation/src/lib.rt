@@ -48,7 +48,7 @@ pub fn highest(mask: u64) -> usize
     requires { 0 < mask }
     ensures { Highest mask result × (result < 64) }
 {
-    63 - u64::leading_zeros(mask) as usize
+    63 - mask.leading_zeros() as usize
 }
 
 // The lowest member of mask.
@@ -56,11 +56,11 @@ pub fn lowest(mask: u64) -> usize
     requires { 0 < mask }
     ensures { Lowest mask result × (result < 64) }
 {
-    u64::trailing_zeros(mask) as usize
+    mask.trailing_zeros() as usize
 }
 
 // How many sets of numbers below 32 there are.
-pub const SMALL_SETS: u64 = 4294967296;
+pub const SMALL_SETS: u64 = 1 << 32;
 
 // A set's rank among these: those with fewer members come before those with more, and of as many the smaller
 // number first.
@@ -68,7 +68,7 @@ pub fn rank(set: u64) -> u64
     requires { set < small_sets }
     ensures { result ≡ rank set }
 {
-    u64::count_ones(set) as u64 * SMALL_SETS + set
+    u64::from(set.count_ones()) * SMALL_SETS + set
 }
 
 // row, with what k reaches where row reaches k.
@@ -109,7 +109,7 @@ pub fn all_below(n: usize) -> u64
     ensures { result ≡ 2 ^ n - 1 }
 {
     if n == 64 {
-        return 18446744073709551615;
+        return u64::MAX;
     }
     (1 << n) - 1
 }

@@ -8,6 +8,3 @@ use Rattle.find_sets.proofs.pick.Given as goal
 
 abbrev pub invariant-loop-i : goal.invariant-loop-i
 invariant-loop-i l = (l.i ≤ l.c.count) × (l.n ≤ l.i) × (length l.items ≡ most_rules) × (take l.n l.items ≡ picked (take l.i l.c.items) l.m)
-
-abbrev pub decreases-loop-i : goal.decreases-loop-i
-decreases-loop-i l = l.c.count - l.i
