@@ -29,13 +29,11 @@ fn too_long(tests: [Extent; model::MOST_TESTS], n: usize) -> bool
     requires { n ≤ most_tests }
     ensures { result ≡ long_below tests n }
 {
-    let mut i: usize = 0;
-    while i < n {
+    for i in 0..n {
         let e = tests[i];
         if model::MOST_FOUND < e.main {
             return true;
         }
-        i += 1;
     }
     false
 }
@@ -104,10 +102,8 @@ fn put_rules(buffer: &mut [u8], set: Rules)
     ensures { buffer.new ≡ over (rule_fields (rules_of set)) buffer.old }
 {
     let mut at: usize = 0;
-    let mut i: usize = 0;
-    while i < set.count {
+    for i in 0..set.count {
         at = put_rule(buffer, at, set.items[i]);
-        i += 1;
     }
 }
 

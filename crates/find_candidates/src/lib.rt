@@ -58,10 +58,8 @@ fn from_write(c: Rules, labels: &[u64; model::MOST_INITIAL], n: usize, i: usize)
 {
     let one = labels[i];
     let mut out = c;
-    let mut j: usize = 0;
-    'writes: while j < n {
+    'writes: for j in 0..n {
         if i == j {
-            j += 1;
             continue 'writes;
         }
         let rule = rule_of(one, labels[j]);
@@ -74,11 +72,9 @@ fn from_write(c: Rules, labels: &[u64; model::MOST_INITIAL], n: usize, i: usize)
             if find_sets::comes_before(rule, out.items[k]) {
                 break 'held;
             }
-            j += 1;
             continue 'writes;
         }
         out = find_sets::insert(out, rule);
-        j += 1;
     }
     out
 }
@@ -89,10 +85,8 @@ fn from_trace(c: Rules, labels: &[u64; model::MOST_INITIAL], n: usize) -> Rules
     ensures { (result.count ≤ most_candidates + 1) × Traces labels.now n n c result }
 {
     let mut out = c;
-    let mut i: usize = 0;
-    while i < n {
+    for i in 0..n {
         out = from_write(out, labels, n, i);
-        i += 1;
     }
     out
 }
@@ -103,9 +97,7 @@ pub fn collect(file: &[u8], tests: [Extent; model::MOST_TESTS], n: usize) -> Rul
     ensures { Keeps (candidates_of (tests_in file.now)) result }
 {
     let mut out = rule_match::none();
-    let mut t: usize = n;
-    while 0 < t {
-        t -= 1;
+    for t in (0..n).rev() {
         let test = judge_loading::load_test(file, tests[t]);
         let labels = test.labels;
         out = from_trace(out, &labels, test.main);

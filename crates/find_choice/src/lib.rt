@@ -42,12 +42,10 @@ fn has_spare(table: &[u64; SET_WORDS], m: u64, n: usize) -> bool
     requires { (m < candidate_sets) × (n ≤ most_candidates) }
     ensures { result ≡ any_below (spare table.now m) n }
 {
-    let mut i: usize = 0;
-    while i < n {
+    for i in 0..n {
         if is_spare(table, m, i) {
             return true;
         }
-        i += 1;
     }
     false
 }
@@ -79,10 +77,8 @@ fn best_below(table: &[u64; SET_WORDS], cands: Rules, from: u64, end: u64, first
     ensures { result ≡ choice_code (chosen_below (passing table.now (rules_of cands)) end) }
 {
     let mut best = first;
-    let mut m = from;
-    while m < end {
+    for m in from..end {
         best = better_of(table, cands, m, best);
-        m += 1;
     }
     best
 }

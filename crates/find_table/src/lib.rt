@@ -34,10 +34,8 @@ fn matching(cands: Rules, one: u64, other: u64) -> u64
     let m = judge_disks::name_of(other);
     let u = judge_disks::epoch_of(other);
     let mut mask: u64 = 0;
-    let mut c: usize = 0;
-    while c < cands.count {
+    for c in 0..cands.count {
         mask = relation::with_if(mask, c, rule_match::matches(cands.items[c], n, t, m, u));
-        c += 1;
     }
     mask
 }
@@ -54,12 +52,10 @@ fn face(
     ensures { Facing (pairs (rules_of cands) cands.count labels.now) k k out.new back.new }
 {
     let last = labels[k];
-    let mut j: usize = 0;
-    while j < k {
+    for j in 0..k {
         let other = labels[j];
         out[j] = matching(cands, last, other);
         back[j] = matching(cands, other, last);
-        j += 1;
     }
 }
 
@@ -70,12 +66,10 @@ fn widen(table: &mut [u64], outs: &[u64; HALF_SCHEDULES], backs: &[u64; HALF_SCH
     ensures { Widened outs.now backs.now k table.old table.new (2 ^ k) }
 {
     let size = 1usize << k;
-    let mut s: usize = 0;
-    while s != size {
+    for s in 0..size {
         let w = table[s];
         table[size + s] = w | outs[size - 1 - s];
         table[s] = w | backs[s];
-        s += 1;
     }
 }
 
@@ -89,13 +83,11 @@ fn forbid(table: &mut [u64], cands: Rules, labels: &[u64; model::MOST_INITIAL], 
     let mut outs = [0u64; HALF_SCHEDULES];
     let mut backs = [0u64; HALF_SCHEDULES];
     table[0] = 0;
-    let mut k: usize = 0;
-    while k < n {
+    for k in 0..n {
         face(&mut out, &mut back, cands, labels, k);
         relation::unite(&mut outs, &out, 0, k);
         relation::unite(&mut backs, &back, 0, k);
         widen(table, &outs, &backs, k);
-        k += 1;
     }
 }
 
@@ -132,12 +124,10 @@ fn mark_after(
     let columns = 1u64 << far;
     let mut disk = *mid;
     let mut s = x;
-    let mut y: u64 = 0;
-    'ends: while y != columns {
+    'ends: for y in 0..columns {
         let set = (all - forbidden[s]) as usize;
         if relation::has_bit(table[set / 64], set % 64) {
             s += rows;
-            y += 1;
             continue 'ends;
         }
         judge_disks::apply(&mut disk, stores, near, far, y);
@@ -153,7 +143,6 @@ fn mark_after(
         judge_disks::restore(&mut disk, mid, stores, near, far);
         mark_one(table, set, i == m);
         s += rows;
-        y += 1;
     }
 }
 
@@ -173,12 +162,10 @@ fn mark_by(
     ensures { Adds (spoils (take m checks) (held_from stores.now 0 (near + far)) base.now) (set_of forbidden.now all) (2 ^ (near + far)) table.old table.new }
 {
     let rows = 1usize << near;
-    let mut x: usize = 0;
-    while x != rows {
+    for x in 0..rows {
         let mut mid = *base;
         judge_disks::apply(&mut mid, stores, 0, near, x as u64);
         mark_after(table, forbidden, all, x, &mid, stores, near, far, checks, m);
-        x += 1;
     }
 }
 
@@ -221,9 +208,7 @@ pub fn mark_all(
     requires { (length table.old ≡ set_words) × ((cands.count ≤ most_candidates) × (Placed file.now (tests_in file.now) tests n × ((too_long (tests_in file.now) ≡ false) × Blank set_words table.old))) }
     ensures { Shows (marked (rules_of cands) (tests_in file.now)) table.new candidate_sets }
 {
-    let mut t: usize = n;
-    while 0 < t {
-        t -= 1;
+    for t in (0..n).rev() {
         mark_test(table, cands, file, tests[t]);
     }
 }
@@ -243,11 +228,9 @@ fn lower_within(table: &mut [u64], b: usize, words: usize)
 {
     let step = 1u64 << b;
     let without = lacking(b);
-    let mut i: usize = 0;
-    while i < words {
+    for i in 0..words {
         let w = table[i];
         table[i] = w | ((w >> step) & without);
-        i += 1;
     }
 }
 
@@ -256,11 +239,9 @@ fn lower_across(table: &mut [u64], b: usize, words: usize)
     requires { (length table.old ≡ set_words) × (((6 ≤ b) × (b < most_candidates)) × (words ≤ set_words)) }
     ensures { Lowered b table.old table.new words }
 {
-    let mut i: usize = 0;
-    while i < words {
+    for i in 0..words {
         let other = relation::with_bit(i as u64, b - 6) as usize;
         table[i] = table[i] | table[other];
-        i += 1;
     }
 }
 
@@ -281,9 +262,7 @@ pub fn lower_all(table: &mut [u64], n: usize)
     ensures { Spreads n n table.old table.new }
 {
     let words = ((1usize << n) + 63) / 64;
-    let mut b: usize = 0;
-    while b < n {
+    for b in 0..n {
         lower(table, b, words);
-        b += 1;
     }
 }

@@ -23,10 +23,8 @@ fn having(rules: Rules, predicate: u16) -> u64
     ensures { result ≡ mask_of (has (rules_of rules) predicate) rules.count }
 {
     let mut mask: u64 = 0;
-    let mut i: usize = 0;
-    while i < rules.count {
+    for i in 0..rules.count {
         mask = relation::with_if(mask, i, rules.items[i].predicate == predicate);
-        i += 1;
     }
     mask
 }
@@ -48,16 +46,12 @@ fn fill(rows: &mut [u64], rules: Rules, among: u64)
     requires { (rules.count ≤ most_rules) × (length rows.old ≡ most_rules) }
     ensures { take rules.count rows.new ≡ rows_of (linked among (rules_of rules)) rules.count }
 {
-    let mut i: usize = 0;
-    'rules: while i < rules.count {
+    'rules: for i in 0..rules.count {
         let mut led: u64 = 0;
-        let mut j: usize = 0;
-        'led: while j < rules.count {
+        'led: for j in 0..rules.count {
             led = relation::with_if(led, j, rules.items[i].second == rules.items[j].first);
-            j += 1;
         }
         rows[i] = row(led, i, among);
-        i += 1;
     }
 }
 
@@ -73,11 +67,9 @@ fn fill_buckets(buckets: &mut [u32], rules: Rules)
     requires { (rules.count ≤ most_rules) × ((length buckets.old ≡ 64) × Blank 64 buckets.old) }
     ensures { Buckets (rules_of rules) rules.count buckets.new }
 {
-    let mut j: usize = 0;
-    while j < rules.count {
+    for j in 0..rules.count {
         let b = bucket(rules.items[j].first);
         buckets[b] = relation::with_bit(buckets[b] as u64, j) as u32;
-        j += 1;
     }
 }
 
@@ -97,11 +89,9 @@ fn fill_near(rows: &mut [u64], buckets: &[u32], rules: Rules, among: u64)
     requires { ((rules.count ≤ most_rules) × (length rows.old ≡ most_rules)) × ((length buckets.now ≡ 64) × Buckets (rules_of rules) rules.count buckets.now) }
     ensures { take rules.count rows.new ≡ rows_of (near among (rules_of rules)) rules.count }
 {
-    let mut i: usize = 0;
-    while i < rules.count {
+    for i in 0..rules.count {
         let row = buckets[bucket(rules.items[i].second)] as u64 & among;
         rows[i] = apart(row, i, rules.items[i].predicate);
-        i += 1;
     }
 }
 
@@ -140,20 +130,15 @@ fn rules_meet(rows: &[u64], rules: Rules) -> bool
     requires { (rules.count ≤ most_rules) × (length rows.now ≡ most_rules) }
     ensures { result ≡ meets (rules_of rules) rows.now }
 {
-    let mut i: usize = 0;
-    'greater: while i < rules.count {
+    'greater: for i in 0..rules.count {
         if rules.items[i].predicate != 1 {
-            i += 1;
             continue 'greater;
         }
-        let mut j: usize = 0;
-        'less: while j < rules.count {
+        'less: for j in 0..rules.count {
             if meets_at(rows, rules.items[j], i, j) {
                 return true;
             }
-            j += 1;
         }
-        i += 1;
     }
     false
 }

@@ -9,6 +9,3 @@ use Rattle.find_call.proofs.put_rules.Given as goal
 
 abbrev pub invariant-loop-i : goal.invariant-loop-i
 invariant-loop-i l = (l.i ≤ l.set.count) × (length l.buffer ≡ length l.initial.buffer) × (l.at ≤ longest_rule * l.i) × Wrote l.initial.buffer 0 (rule_fields (take l.i l.set.items)) l.buffer l.at
-
-abbrev pub decreases-loop-i : goal.decreases-loop-i
-decreases-loop-i l = l.set.count - l.i

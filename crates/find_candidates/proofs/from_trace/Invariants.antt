@@ -6,6 +6,3 @@ use Rattle.find_candidates.proofs.from_trace.Given as goal
 
 abbrev pub invariant-loop-i : goal.invariant-loop-i
 invariant-loop-i l = (l.i ≤ l.n) × (l.out.count ≤ most_candidates + 1) × Traces l.labels l.n l.i l.initial.out l.out
-
-abbrev pub decreases-loop-i : goal.decreases-loop-i
-decreases-loop-i l = l.n - l.i

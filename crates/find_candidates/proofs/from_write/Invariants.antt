@@ -16,6 +16,3 @@ decreases-held l = l.out.count - l.k
 
 abbrev pub invariant-writes : goal.invariant-writes
 invariant-writes l = (l.j ≤ l.n) × (length l.out.items ≡ most_rules) × (l.out.count ≤ most_candidates + 1) × Pairs l.labels l.n l.i l.j l.initial.out l.out
-
-abbrev pub decreases-writes : goal.decreases-writes
-decreases-writes l = l.n - l.j

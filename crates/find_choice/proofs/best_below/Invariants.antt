@@ -9,6 +9,3 @@ use Rattle.find_choice.proofs.best_below.Given as goal
 
 abbrev pub invariant-loop-m : goal.invariant-loop-m
 invariant-loop-m l = (l.m ≤ l.end) × (l.end ≤ candidate_sets) × (l.best ≡ choice_code (chosen_below (passing l.table (rules_of l.cands)) l.m))
-
-abbrev pub decreases-loop-m : goal.decreases-loop-m
-decreases-loop-m l = l.end - l.m

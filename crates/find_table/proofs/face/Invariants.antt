@@ -8,6 +8,3 @@ use Rattle.find_table.proofs.face.Given as goal
 
 abbrev pub invariant-loop-j : goal.invariant-loop-j
 invariant-loop-j l = (l.j ≤ l.k) × (length l.out ≡ 64) × (length l.back ≡ 64) × Facing (pairs (rules_of l.cands) l.cands.count l.labels) l.k l.j l.out l.back
-
-abbrev pub decreases-loop-j : goal.decreases-loop-j
-decreases-loop-j l = l.k - l.j

@@ -9,6 +9,3 @@ use Rattle.find_table.proofs.forbid.Given as goal
 
 abbrev pub invariant-loop-k : goal.invariant-loop-k
 invariant-loop-k l = (l.k ≤ l.n) × (length l.table ≡ found_schedules) × (length l.out ≡ 64) × (length l.back ≡ 64) × (length l.outs ≡ half_schedules) × (length l.backs ≡ half_schedules) × Forbids (pairs (rules_of l.cands) l.cands.count l.labels) l.k l.table
-
-abbrev pub decreases-loop-k : goal.decreases-loop-k
-decreases-loop-k l = l.n - l.k

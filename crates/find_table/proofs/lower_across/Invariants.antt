@@ -7,6 +7,3 @@ use Rattle.find_table.proofs.lower_across.Given as goal
 
 abbrev pub invariant-loop-i : goal.invariant-loop-i
 invariant-loop-i l = (l.i ≤ l.words) × (length l.table ≡ set_words) × Lowered l.b l.initial.table l.table l.i
-
-abbrev pub decreases-loop-i : goal.decreases-loop-i
-decreases-loop-i l = l.words - l.i

@@ -7,6 +7,3 @@ use Rattle.find_table.proofs.lower_all.Given as goal
 
 abbrev pub invariant-loop-b : goal.invariant-loop-b
 invariant-loop-b l = (l.b ≤ l.n) × (l.words ≡ words_of l.n) × (l.words ≤ set_words) × (length l.table ≡ set_words) × Spreads l.n l.b l.initial.table l.table
-
-abbrev pub decreases-loop-b : goal.decreases-loop-b
-decreases-loop-b l = l.n - l.b

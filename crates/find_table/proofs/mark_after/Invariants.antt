@@ -18,6 +18,3 @@ decreases-loop-i l = l.m - l.i
 
 abbrev pub invariant-ends : goal.invariant-ends
 invariant-ends l = (l.y ≤ l.columns) × (l.columns ≡ 2 ^ l.far) × (l.columns ≤ found_schedules) × (l.rows ≡ 2 ^ l.near) × (l.rows ≤ found_schedules) × (l.s ≡ l.x + 2 ^ l.near * l.y) × (l.s ≤ 2 * found_schedules) × (length l.table ≡ set_words) × (length l.mid ≡ disk_blocks) × (length l.checks ≡ most_checks) × (l.disk ≡ l.mid) × Adds (spoils (take l.m l.checks) (held_from l.stores l.near l.far) l.mid) (set_after l.forbidden l.all l.x (2 ^ l.near)) l.y l.initial.table l.table
-
-abbrev pub decreases-ends : goal.decreases-ends
-decreases-ends l = l.columns - l.y

@@ -9,6 +9,3 @@ use Rattle.find_table.proofs.mark_all.Given as goal
 
 abbrev pub invariant-loop-t : goal.invariant-loop-t
 invariant-loop-t l = (l.t ≤ l.n) × (length l.table ≡ set_words) × Marking (rules_of l.cands) l.file l.t l.table
-
-abbrev pub decreases-loop-t : goal.decreases-loop-t
-decreases-loop-t l = l.t

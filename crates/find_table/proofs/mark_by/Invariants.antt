@@ -9,6 +9,3 @@ use Rattle.find_table.proofs.mark_by.Given as goal
 
 abbrev pub invariant-loop-x : goal.invariant-loop-x
 invariant-loop-x l = (l.x ≤ l.rows) × (l.rows ≡ 2 ^ l.near) × (l.rows ≤ found_schedules) × (length l.table ≡ set_words) × Begun (take l.m l.checks) l.stores l.base l.forbidden l.all l.near l.far l.initial.table l.x l.table
-
-abbrev pub decreases-loop-x : goal.decreases-loop-x
-decreases-loop-x l = l.rows - l.x

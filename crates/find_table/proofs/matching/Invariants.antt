@@ -8,6 +8,3 @@ use Rattle.find_table.proofs.matching.Given as goal
 
 abbrev pub invariant-loop-c : goal.invariant-loop-c
 invariant-loop-c l = (l.c ≤ l.cands.count) × (l.mask ≡ matching (rules_of l.cands) (labelled l.one) (labelled l.other) l.c)
-
-abbrev pub decreases-loop-c : goal.decreases-loop-c
-decreases-loop-c l = l.cands.count - l.c

@@ -8,6 +8,3 @@ use Rattle.find_table.proofs.widen.Given as goal
 
 abbrev pub invariant-loop-s : goal.invariant-loop-s
 invariant-loop-s l = (l.s ≤ l.size) × (l.size ≡ 2 ^ l.k) × (l.size ≤ half_schedules) × (length l.table ≡ found_schedules) × Widened l.outs l.backs l.k l.initial.table l.table l.s
-
-abbrev pub decreases-loop-s : goal.decreases-loop-s
-decreases-loop-s l = l.size - l.s

@@ -12,11 +12,5 @@ use Rattle.rule_cycles.proofs.fill.Given as goal
 abbrev pub invariant-led : goal.invariant-led
 invariant-led l = (l.j ≤ l.rules.count) × (l.led ≡ mask_of (starts (rules_of l.rules) (item_at l.rules l.i).second) l.j)
 
-abbrev pub decreases-led : goal.decreases-led
-decreases-led l = l.rules.count - l.j
-
 abbrev pub invariant-rules : goal.invariant-rules
 invariant-rules l = (l.i ≤ l.rules.count) × (length l.rows ≡ most_rules) × (take l.i l.rows ≡ filled (linked l.among (rules_of l.rules)) l.rules.count l.i)
-
-abbrev pub decreases-rules : goal.decreases-rules
-decreases-rules l = l.rules.count - l.i

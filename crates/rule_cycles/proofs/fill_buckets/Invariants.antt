@@ -8,6 +8,3 @@ use Rattle.rule_cycles.proofs.fill_buckets.Given as goal
 
 abbrev pub invariant-loop-j : goal.invariant-loop-j
 invariant-loop-j l = (l.j ≤ l.rules.count) × (length l.buckets ≡ 64) × Buckets (rules_of l.rules) l.j l.buckets
-
-abbrev pub decreases-loop-j : goal.decreases-loop-j
-decreases-loop-j l = l.rules.count - l.j

@@ -10,6 +10,3 @@ use Rattle.rule_cycles.proofs.fill_near.Given as goal
 
 abbrev pub invariant-loop-i : goal.invariant-loop-i
 invariant-loop-i l = (l.i ≤ l.rules.count) × (length l.rows ≡ most_rules) × (take l.i l.rows ≡ filled (near l.among (rules_of l.rules)) l.rules.count l.i)
-
-abbrev pub decreases-loop-i : goal.decreases-loop-i
-decreases-loop-i l = l.rules.count - l.i

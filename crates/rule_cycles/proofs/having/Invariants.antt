@@ -8,6 +8,3 @@ use Rattle.rule_cycles.proofs.having.Given as goal
 
 abbrev pub invariant-loop-i : goal.invariant-loop-i
 invariant-loop-i l = (l.i ≤ l.rules.count) × (l.mask ≡ mask_of (has (rules_of l.rules) l.predicate) l.i)
-
-abbrev pub decreases-loop-i : goal.decreases-loop-i
-decreases-loop-i l = l.rules.count - l.i

@@ -11,11 +11,5 @@ use Rattle.rule_cycles.proofs.rules_meet.Given as goal
 abbrev pub invariant-less : goal.invariant-less
 invariant-less l = (l.j ≤ l.rules.count) × (any_below (meeting l.rules l.rows l.i) l.j ≡ false)
 
-abbrev pub decreases-less : goal.decreases-less
-decreases-less l = l.rules.count - l.j
-
 abbrev pub invariant-greater : goal.invariant-greater
 invariant-greater l = (l.i ≤ l.rules.count) × (any_below (meets_from (rules_of l.rules) l.rows) l.i ≡ false)
-
-abbrev pub decreases-greater : goal.decreases-greater
-decreases-greater l = l.rules.count - l.i
