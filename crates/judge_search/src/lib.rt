@@ -46,25 +46,20 @@ fn search_by(
 {
     let mut disk = *base;
     let mut verdict = Verdict::Holds;
-    let mut k: usize = 0;
-    'search: while k < many {
+    'search: for k in 0..many {
         if is_repeated(list, k) {
-            k += 1;
             continue 'search;
         }
         let s = list[k] % relation::SMALL_SETS;
         judge_disks::apply(&mut disk, stores, 0, n, s);
-        let mut i: usize = 0;
-        'checks: while i < m {
+        'checks: for i in 0..m {
             let c = checks[i];
             if !judge_checks::check_holds(&disk, c) {
                 verdict = Verdict::Fails(s);
                 break 'search;
             }
-            i += 1;
         }
         judge_disks::restore(&mut disk, base, stores, 0, n);
-        k += 1;
     }
     verdict
 }

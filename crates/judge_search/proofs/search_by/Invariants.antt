@@ -16,12 +16,6 @@ abbrev pub invariant-checks : goal.invariant-checks
 invariant-checks l =
     (l.i ≤ l.m) × (l.disk ≡ run (held_from l.stores 0 l.n) l.s l.base) × (l.verdict ≡ Holds) × (consistent (take l.i l.checks) l.disk ≡ true)
 
-abbrev pub decreases-checks : goal.decreases-checks
-decreases-checks l = l.m - l.i
-
 abbrev pub invariant-search : goal.invariant-search
 invariant-search l =
     (l.k ≤ l.many) × (length l.checks ≡ most_checks) × (l.disk ≡ l.base) × (l.verdict ≡ Holds) × Clear (leaves_inconsistent l.base (held_from l.stores 0 l.n) (take l.m l.checks)) l.list l.k
-
-abbrev pub decreases-search : goal.decreases-search
-decreases-search l = l.many - l.k
