@@ -20,8 +20,7 @@ checks-preserved c =
     let a = c.args in (
       omega arith,
       l.invariant.1,
-      l.invariant.2,
-      checks-more c.apply.new.disk a.checks (Range 0) a.m l.i c.check_holds.result (omega arith) c.requires.1.0 c.search.invariant.1 l.invariant.3 c.check_holds.ensures (ap not c.if-not-check_holds.false),
+      checks-more c.apply.new.disk a.checks (Range 0) a.m l.i c.check_holds.result (omega arith) c.requires.1.0 c.search.invariant.1 l.invariant.2 c.check_holds.ensures (ap not c.if-not-check_holds.false),
     )
 
 pub search-preserved : goal.search-preserved
@@ -33,12 +32,11 @@ search-preserved c =
       omega arith,
       o.invariant.1,
       c.restore.ensures ∙ restored-run a.stores.now a.base.now 0 a.n _ disk c.requires.1.1 l.invariant.1,
-      l.invariant.2,
-      clear_pass _ _ _ _ o.k a.m l.i _ disk refl l.invariant.1 o.invariant.4 (omega arith) (omega arith) l.invariant.3,
+      clear_pass _ _ _ _ o.k a.m l.i _ disk refl l.invariant.1 o.invariant.3 (omega arith) (omega arith) l.invariant.2,
     )
 
-pub returns-after-search : goal.returns-after-search
-returns-after-search c = search searching
+pub returns : goal.returns
+returns c = search searching
 
 pub returns-then-not-check_holds : goal.returns-then-not-check_holds
 returns-then-not-check_holds c =
@@ -46,5 +44,5 @@ returns-then-not-check_holds c =
     let o = c.search in
     let a = c.args in
     let disk = c.apply.new.disk in
-    stops_here _ _ _ _ o.k a.m l.i _ disk refl l.invariant.1 a.many o.invariant.4 (omega arith)
+    stops_here _ _ _ _ o.k a.m l.i _ disk refl l.invariant.1 a.many o.invariant.3 (omega arith)
     (checks_stop disk a.checks (Range 0) a.m l.i c.check_holds.result (omega arith) c.requires.1.0 o.invariant.1 c.check_holds.ensures (ap not c.if-not-check_holds.true))
