@@ -1,11 +1,12 @@
-// What is wrong with a field, by its refusal's number: unknown tags, order, limits, lengths, predicates.
+// What is wrong with a field: unknown tags, order, limits, lengths, predicates.
 #![tactic(auto)]
 
 ghost use Rattle.std.specs.Prelude.{◌≡◌, ◌<◌, length};
+ghost use Rattle.model.specs.Answer.{fault_number};
 ghost use Rattle.file_format.specs.File.{is_tag, is_rule, is_check, body_length, out_of_order, over_limit, over_test, rule_fault, body_fault, fault_of};
 
 use file_format::Counts;
-use model::Rule;
+use model::{Cause, Rule};
 
 fn is_tag(tag: u8) -> bool
     ensures { result ≡ is_tag tag }
@@ -80,52 +81,52 @@ fn over_limit(kind: u8, c: Counts) -> bool
 }
 
 // The refusal of an unknown predicate.
-fn rule_fault(rule: Rule) -> u8
-    ensures { result ≡ rule_fault rule }
+fn rule_fault(rule: Rule) -> Result<(), Cause>
+    ensures { fault_number result ≡ rule_fault rule }
 {
     if 2 < rule.predicate {
-        return 5;
+        return Err(Cause::UnknownPredicate);
     }
-    0
+    Ok(())
 }
 
-fn body_fault(tag: u8, body: &[u8]) -> u8
+fn body_fault(tag: u8, body: &[u8]) -> Result<(), Cause>
     requires { length body.now ≡ body_length tag }
-    ensures { result ≡ body_fault tag body.now }
+    ensures { fault_number result ≡ body_fault tag body.now }
 {
     if is_rule(tag) {
         return rule_fault(file_fields::read_rule(tag, body));
     }
-    0
+    Ok(())
 }
 
-// The number of the refusal that the field at `at` meets, or 0.
-pub fn fault(s: &[u8], at: usize, c: Counts) -> u8
+// Whether the field at `at` can be read on, or the refusal that it meets.
+pub fn fault(s: &[u8], at: usize, c: Counts) -> Result<(), Cause>
     requires { at < length s.now }
-    ensures { result ≡ fault_of s.now at c }
+    ensures { fault_number result ≡ fault_of s.now at c }
 {
     let left = s.len() - at;
     if left < file_format::HEAD_LENGTH {
-        return 1;
+        return Err(Cause::Cut);
     }
     let tag = s[at];
     if !is_tag(tag) {
-        return 2;
+        return Err(Cause::UnknownTag);
     }
     let kind = file_format::kind_of(tag);
     if out_of_order(kind, c) {
-        return 4;
+        return Err(Cause::OutOfOrder);
     }
     if over_limit(kind, c) {
-        return 6;
+        return Err(Cause::OverLimit);
     }
     let n = file_format::body_length(tag);
     if file_format::half_at(s, at + 1) != n {
-        return 3;
+        return Err(Cause::WrongLength);
     }
     let b = at + file_format::HEAD_LENGTH;
     if s.len() - b < n {
-        return 1;
+        return Err(Cause::Cut);
     }
     let e = b + n;
     body_fault(tag, &s[b..e])

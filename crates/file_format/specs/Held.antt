@@ -1,12 +1,11 @@
 -- What a scan's answer says of what a file holds.
-use Rattle.std.specs.Prelude.{ℕ, ◌≤◌, ◌<◌, Bool, true, ◌≡◌, List, [], map, length, get_or, take}
+use Rattle.std.specs.Prelude.{ℕ, ◌≤◌, ◌<◌, Bool, true, ◌≡◌, List, [], map, length, get_or, take, Result, Ok, Err}
 use Rattle.model.specs.Limits.{most_rules, most_tests, most_initial, most_main, most_checks}
 use Rattle.model.specs.Test.{Test, test, File}
-use Rattle.model.specs.Answer.{Outcome, answer, refused}
+use Rattle.model.specs.declared.Refusal.{Refusal}
+use Rattle.model.specs.Answer.{Outcome, answer, refused, number_of}
 use Rattle.file_format.specs.declared.Extent.{Extent}
-use Rattle.file_format.specs.declared.Scan.{Scan}
-use Rattle.file_format.specs.declared.Scan.TheVariants.{Accepted, Refused}
-use Rattle.file_format.specs.declared.Scanned.{Scanned}
+use Rattle.file_format.specs.declared.Contents.{Contents}
 use Rattle.file_format.specs.Bytes.{byte}
 use Rattle.file_format.specs.File.{is_rule, is_write, is_check, field_end}
 use Rattle.file_format.specs.Scan.{rules_at, field_place, main_place, checks_place, test_at, extent, Places, places}
@@ -63,11 +62,12 @@ pub record Placed (s : List ℕ) (tests : List Test) (extents : List Extent) (n 
 
 -- ---- what the code gives
 
--- the refusal, or how many rules there are and where the tests stand, as the first ones of an array
-unfoldable pub ScansTo : Outcome Places → Scan → List Extent → Type 0
-ScansTo found (Refused why) tests = found ≡ refused why.number why.place
-ScansTo found (Accepted rules n) tests =
-    (found ≡ answer (places rules (take n tests))) × (rules ≤ most_rules) × (n ≤ most_tests) × (length tests ≡ most_tests)
+-- how many rules there are and where the tests stand, as the first ones of an array
+abbrev pub Finds : Outcome Places → Contents → Type 0
+Finds found c =
+    (found ≡ answer (places c.rules (take c.count c.tests))) × (c.rules ≤ most_rules) × (c.count ≤ most_tests) × (length c.tests ≡ most_tests)
 
-abbrev pub Scans : Outcome Places → Scanned → Type 0
-Scans found r = ScansTo found r.scan r.tests
+-- that, or the refusal
+unfoldable pub Scans : Outcome Places → Result Contents Refusal → Type 0
+Scans found (Ok contents) = Finds found contents
+Scans found (Err why) = found ≡ refused (number_of why.cause) why.place

@@ -6,8 +6,6 @@ ghost use Rattle.std.specs.Prelude.{◌≡◌, ◌+◌, ◌<◌, ◌≤◌, leng
 ghost use Rattle.file_format.specs.Bytes.{half, word};
 ghost use Rattle.file_format.specs.File.{end_tag, wide_write_length, kind_of, is_wide, body_length, field_end};
 
-use model::Refusal;
-
 // The last tag of document 01, and the last of all: 8, 9 and 10 are 1, 2 and 3 with names of two bytes.
 pub const END_TAG: u8 = 7;
 
@@ -74,17 +72,12 @@ pub struct ScanState {
     pub from: usize,
 }
 
-// What a scan finds: how many rules and tests a file holds, or a refusal.
+// What a file holds: how many rules, how many tests, and where the tests stand, the first ones of an
+// array.
 #[derive(Clone, Copy)]
-pub enum Scan {
-    Accepted { rules: usize, tests: usize },
-    Refused(Refusal),
-}
-
-// That, and where the tests stand, the first ones of an array.
-#[derive(Clone, Copy)]
-pub struct Scanned {
-    pub scan: Scan,
+pub struct Contents {
+    pub rules: usize,
+    pub count: usize,
     pub tests: [Extent; model::MOST_TESTS],
 }
 

@@ -12,13 +12,12 @@ use Rattle.relation.proofs.ListLaws.{and_left, and_right, length-tabulate, get_d
 use Rattle.model.specs.declared.Refusal.{Refusal}
 use Rattle.model.specs.Limits.{most_rules, most_tests}
 use Rattle.model.specs.Test.{Test, File}
-use Rattle.file_format.specs.declared.Extent.{Extent}
-use Rattle.file_format.specs.declared.Scan.{Scan}
-use Rattle.file_format.specs.declared.Scan.TheVariants.{Accepted, Refused}
-use Rattle.model.specs.Answer.{answer, refused}
+use Rattle.file_format.specs.declared.Contents.{Contents}
+use Rattle.std.specs.Prelude.{Result, Ok, Err}
+use Rattle.model.specs.Answer.{answer, refused, number_of}
 use Rattle.file_format.specs.File.{is_rule, read_of}
 use Rattle.file_format.specs.Scan.{rules_at, rule_field, field_place, fields_at, test_at, Places, places, scan_of}
-use Rattle.file_format.specs.Held.{Tells, Fields, Inside, extent_of, no_extent, no_test, test_of, Placed, ScansTo}
+use Rattle.file_format.specs.Held.{Tells, Fields, Inside, extent_of, no_extent, no_test, test_of, Placed, Finds, Scans}
 use Rattle.file_reader.specs.Limits.{FileLimits, Limited, longest}
 use Rattle.file_reader.proofs.PrefixLaws.{limited}
 use Rattle.file_reader.proofs.TellsLaws.{tells}
@@ -80,61 +79,62 @@ module _ (s : List ℕ) (p : Places) (e : scan_of s ≡ answer p) where
 
 -- ---- the code's answer
 
-module _ (s : List ℕ) (x : Scan) (ts : List Extent) (g : ScansTo (scan_of s) x ts) where
-  module _ (why : Refusal) (e : x ≡ Refused why) where
-    pub refused_scan : scan_of s ≡ refused why.number why.place
-    unfolding ScansTo
+module _ (s : List ℕ) (x : Result Contents Refusal) (g : Scans (scan_of s) x) where
+  module _ (why : Refusal) (e : x ≡ Err why) where
+    pub refused_scan : scan_of s ≡ refused (number_of why.cause) why.place
+    unfolding Scans
     refused_scan = rw e at g
 
-    pub refused-read : read_of s ≡ refused why.number why.place
+    pub refused-read : read_of s ≡ refused (number_of why.cause) why.place
     unfolding Tells
     refused-read = rw refused_scan at (tells s)
 
-    pub refused-most : (why.number ≤ 7) × (why.place ≤ longest)
-    refused-most = let l = refused-limits s why.number why.place refused-read in (l.1, l.2)
+    pub refused-most : (number_of why.cause ≤ 7) × (why.place ≤ longest)
+    refused-most = let l = refused-limits s (number_of why.cause) why.place refused-read in (l.1, l.2)
 
-  module _ (rules n : ℕ) (e : x ≡ Accepted rules n) where
-    accepted : (scan_of s ≡ answer (places rules (take n ts))) × (rules ≤ most_rules) × (n ≤ most_tests) × (length ts ≡ most_tests)
-    unfolding ScansTo
-    accepted = rw e at g
+  pub accepted : (c : Contents) → x ≡ Ok c → Finds (scan_of s) c
+  unfolding Scans
+  accepted c e = rw e at g
 
-    pub accepted-places : scan_of s ≡ answer (places rules (take n ts))
-    accepted-places = accepted.0
+-- what a file holds
+module _ (s : List ℕ) (c : Contents) (g : Finds (scan_of s) c) where
+  pub accepted-places : scan_of s ≡ answer (places c.rules (take c.count c.tests))
+  accepted-places = g.0
 
-    pub accepted-rules : rules ≤ most_rules
-    accepted-rules = accepted.1
+  pub accepted-rules : c.rules ≤ most_rules
+  accepted-rules = g.1
 
-    pub accepted-tests : n ≤ most_tests
-    accepted-tests = accepted.2
+  pub accepted-tests : c.count ≤ most_tests
+  accepted-tests = g.2
 
-    pub accepted-room : length ts ≡ most_tests
-    accepted-room = accepted.3
+  pub accepted-room : length c.tests ≡ most_tests
+  accepted-room = g.3
 
-    pub accepted_fields : Fields is_rule s 0 rules
-    accepted_fields = held_fields s _ accepted-places
+  pub accepted_fields : Fields is_rule s 0 c.rules
+  accepted_fields = held_fields s _ accepted-places
 
-    pub accepted-file : File
-    accepted-file = held-file s _ accepted-places
+  pub accepted-file : File
+  accepted-file = held-file s _ accepted-places
 
-    pub accepted-read : read_of s ≡ answer accepted-file
-    unfolding accepted-file
-    accepted-read = held-read s _ accepted-places
+  pub accepted-read : read_of s ≡ answer accepted-file
+  unfolding accepted-file
+  accepted-read = held-read s _ accepted-places
 
-    pub accepted-at : accepted-file.rules ≡ rules_at s rules
-    unfolding accepted-file
-    accepted-at = held-rules s _ accepted-places
+  pub accepted-at : accepted-file.rules ≡ rules_at s c.rules
+  unfolding accepted-file
+  accepted-at = held-rules s _ accepted-places
 
-    -- where the tests stand
-    pub accepted_placed : Placed s accepted-file.tests ts n
-    unfolding accepted-file
-    accepted_placed =
-        let size : length (take n ts) ≡ n = length-take-le n ts (let k = accepted-tests in let l = accepted-room in omega arith) in
-        record {
-          count = held-count s _ accepted-places ∙ size;
-          most = accepted-tests;
-          inside = λ i h. rw (← get_or-take n ts i no_extent h) (held-inside s _ accepted-places i (omega (arith, size)));
-          each = λ i h. held_test s _ accepted-places i (omega (arith, size)) ∙ ap (test_at s) (get_or-take n ts i no_extent h);
-        }
+  -- where the tests stand
+  pub accepted_placed : Placed s accepted-file.tests c.tests c.count
+  unfolding accepted-file
+  accepted_placed =
+      let size : length (take c.count c.tests) ≡ c.count = length-take-le c.count c.tests (let k = accepted-tests in let l = accepted-room in omega arith) in
+      record {
+        count = held-count s _ accepted-places ∙ size;
+        most = accepted-tests;
+        inside = λ i h. rw (← get_or-take c.count c.tests i no_extent h) (held-inside s _ accepted-places i (omega (arith, size)));
+        each = λ i h. held_test s _ accepted-places i (omega (arith, size)) ∙ ap (test_at s) (get_or-take c.count c.tests i no_extent h);
+      }
 
 -- a test that is there, counted from 1, is one of those that count from 0
 pub listed_below : (k w tests : ℕ) (b : Bool) → w ≡ k - 1 → b ≡ leb 1 k && leb k tests → not b ≡ false → w < tests

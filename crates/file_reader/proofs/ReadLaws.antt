@@ -10,15 +10,19 @@ use lib.Seq.{take-suc-set, take-set-le}
 use borrow.Author.Rules.{rules}
 use borrow.Author.Tests.{lt-ltb, le-ltb, eq-eqb, ne_eqb}
 use Rattle.model.specs.Limits.{most_tests}
-use Rattle.model.specs.Answer.{refused}
+use Rattle.std.specs.Prelude.{Result, Ok, Err}
+use Rattle.model.specs.declared.Cause.{Cause}
+use Rattle.model.specs.declared.Cause.TheVariants.{TestNotEnded}
+use Rattle.model.specs.declared.Refusal.{Refusal}
+use Rattle.model.specs.Answer.{refused, number_of, fault_number}
+use Rattle.model.proofs.CauseLaws.{number_positive}
 use Rattle.file_format.specs.declared.Extent.{Extent}
 use Rattle.file_format.specs.declared.ScanState.{ScanState}
-use Rattle.file_format.specs.declared.Scan.TheVariants.{Accepted, Refused}
-use Rattle.file_format.specs.declared.Scanned.{Scanned}
+use Rattle.file_format.specs.declared.Contents.{Contents}
 use Rattle.file_format.specs.Bytes.{byte, half}
 use Rattle.file_format.specs.File.{head_length, is_tag, kind_of, fault_of, field_end}
 use Rattle.file_format.specs.Scan.{in_hand, counted, found, advanced, ended, scan_from, started, scan_of}
-use Rattle.file_format.specs.Held.{ScansTo, Scans}
+use Rattle.file_format.specs.Held.{Scans}
 use Rattle.file_reader.specs.Limits.{Within}
 use Rattle.file_reader.proofs.LimitLaws.{clean, clean_fits, by_kind, within-counted, counted-room}
 
@@ -60,62 +64,68 @@ found-put st tests l =
     kept = take-set-le st.counts.tests tests st.counts.tests (in_hand st) (omega arith)
 
 module _ (s : List ℕ) (at : ℕ) (st : ScanState) (tests : List Extent) (going : Going s at st tests) (lt : at < length s) where
-  -- a field that is not refused ends inside the file, and its test has a place in the array
-  pub whole : (number : ℕ) → number ≡ fault_of s at st.counts → number ≡ 0 → at + 1 + 1 < length s
-  whole number e z = let h = (clean s at st.counts (sym e ∙ z)).whole in omega arith
+  module _ (x : Result (Unit {0}) Cause) (e : fault_number x ≡ fault_of s at st.counts) where
+    -- a field that is not refused ends inside the file, and its test has a place in the array
+    module _ (u : Unit {0}) (q : x ≡ Ok u) where
+      fault-free : fault_of s at st.counts ≡ 0
+      fault-free = sym e ∙ rw q
 
-  pub ahead : (number r : ℕ) → number ≡ fault_of s at st.counts → number ≡ 0 → r ≡ half s (at + 1) → at + head_length + r ≤ length s
-  ahead number r e z q =
-      let k = clean s at st.counts (sym e ∙ z) in
-      let h = clean_fits s at st.counts k in
-      let l = k.size in
-      omega arith
+      pub whole : at + 1 + 1 < length s
+      whole = let h = (clean s at st.counts fault-free).whole in omega arith
 
-  pub room : (number : ℕ) → number ≡ fault_of s at st.counts → number ≡ 0 → st.counts.tests < most_tests
-  room number e z =
-      let k = clean s at st.counts (sym e ∙ z) in
-      counted-room st.counts going.2 (byte s at) k.tag k.order k.limit
+      pub ahead : (r : ℕ) → r ≡ half s (at + 1) → at + head_length + r ≤ length s
+      ahead r z =
+          let k = clean s at st.counts fault-free in
+          let h = clean_fits s at st.counts k in
+          let l = k.size in
+          omega arith
 
-  pub next : (number r kind : ℕ) (st' : ScanState) (e : Extent) → number ≡ fault_of s at st.counts → number ≡ 0 → r ≡ half s (at + 1)
-      → e ≡ in_hand st → kind ≡ kind_of (byte s at) → st' ≡ advanced kind (at + head_length + r) st → Going s (at + head_length + r) st' (set tests st.counts.tests e)
-  unfolding scan_from advanced
-  next number r kind st' x e z q i v f =
-      rw (f, v, q ∙ (clean s at st.counts (sym e ∙ z)).size, i)
-      (let k = clean s at st.counts (sym e ∙ z) in
-      let l : st.counts.tests < length tests = let m = room number e z in let n = going.1 in omega arith in (
-        clean_fits s at st.counts k,
-        length-set tests st.counts.tests (in_hand st) ∙ going.1,
-        within-counted st.counts going.2 (byte s at) k.tag k.limit,
-        rw (found-put st tests l (byte s at) k.tag) (go going.3.0 going.3.1 going.3.2),
-      ))
-    where
-      go : (f : ℕ) → length s ≤ at + f → scan_from (suc f) s at st (take st.counts.tests tests) ≡ scan_of s
-          → Ahead s (field_end s at) (advanced (kind_of (byte s at)) (field_end s at) st) (found (kind_of (byte s at)) st (take st.counts.tests tests))
-      go zero le h = absurd (omega arith)
-      go (suc f) le h = (f, omega arith, rw (lt-ltb _ _ lt, eq-eqb _ _ (sym e ∙ z)) at h)
+      pub room : st.counts.tests < most_tests
+      room =
+          let k = clean s at st.counts fault-free in
+          counted-room st.counts going.2 (byte s at) k.tag k.order k.limit
 
-  pub stop : (number : ℕ) (t : List Extent) → number ≡ fault_of s at st.counts → (number ≡ 0 → ⊥)
-      → Scans (scan_of s) (record { scan = Refused (record { number = number; place = at }); tests = t })
-  unfolding scan_from ScansTo
-  stop number t e z =
-      let h : refused (fault_of s at st.counts) at ≡ scan_of s = rw (lt-ltb _ _ lt, ne_eqb _ _ (λ (q : fault_of s at st.counts ≡ 0). z (e ∙ q))) at going.3.2 in
-      rw e (sym h)
+      pub next : (r kind : ℕ) (st' : ScanState) (y : Extent) → r ≡ half s (at + 1) → y ≡ in_hand st → kind ≡ kind_of (byte s at)
+          → st' ≡ advanced kind (at + head_length + r) st → Going s (at + head_length + r) st' (set tests st.counts.tests y)
+      unfolding scan_from advanced
+      next r kind st' y z i v f =
+          rw (f, v, z ∙ (clean s at st.counts fault-free).size, i)
+          (let k = clean s at st.counts fault-free in
+          let l : st.counts.tests < length tests = let m = room in let n = going.1 in omega arith in (
+            clean_fits s at st.counts k,
+            length-set tests st.counts.tests (in_hand st) ∙ going.1,
+            within-counted st.counts going.2 (byte s at) k.tag k.limit,
+            rw (found-put st tests l (byte s at) k.tag) (go going.3.0 going.3.1 going.3.2),
+          ))
+        where
+          go : (f : ℕ) → length s ≤ at + f → scan_from (suc f) s at st (take st.counts.tests tests) ≡ scan_of s
+              → Ahead s (field_end s at) (advanced (kind_of (byte s at)) (field_end s at) st) (found (kind_of (byte s at)) st (take st.counts.tests tests))
+          go zero le h = absurd (omega arith)
+          go (suc f) le h = (f, omega arith, rw (lt-ltb _ _ lt, eq-eqb _ _ fault-free) at h)
+
+    pub stop : (cause : Cause) → x ≡ Err cause → Scans (scan_of s) (Err (record { cause = cause; place = at }))
+    unfolding scan_from Scans
+    stop cause q =
+        let z : number_of cause ≡ fault_of s at st.counts = rw q at e in
+        let n = number_positive cause in
+        let h : refused (fault_of s at st.counts) at ≡ scan_of s = rw (lt-ltb _ _ lt, ne_eqb (fault_of s at st.counts) 0 (λ (q : fault_of s at st.counts ≡ 0). absurd (omega arith))) at going.3.2 in
+        rw z (sym h)
 
 -- the file's end: a test that has begun is refused
 module _ (size : ℕ) (st : ScanState) (tests : List Extent) (w : Within st.counts) where
   pub end_begun : st.counts.begun ≡ true
-      → Scans (ended size st (take st.counts.tests tests)) (record { scan = Refused (record { number = 7; place = size }); tests = tests })
-  unfolding ended ScansTo
+      → Scans (ended size st (take st.counts.tests tests)) (Err (record { cause = TestNotEnded; place = size }))
+  unfolding ended Scans
   end_begun h = rw h
 
   pub end_done : st.counts.begun ≡ false → length tests ≡ most_tests
-      → Scans (ended size st (take st.counts.tests tests)) (record { scan = Accepted st.counts.rules st.counts.tests; tests = tests })
-  unfolding ended ScansTo
+      → Scans (ended size st (take st.counts.tests tests)) (Ok (record { rules = st.counts.rules; count = st.counts.tests; tests = tests }))
+  unfolding ended Scans
   end_done h l = (rw h, w.rules, w.tests, l)
 
 pub ruleset ends = (rules, end_begun, end_done)
 
-pub end : (s : List ℕ) (at : ℕ) (st : ScanState) (tests : List Extent) (r : Scanned) → Going s at st tests → length s ≤ at
+pub end : (s : List ℕ) (at : ℕ) (st : ScanState) (tests : List Extent) (r : Result Contents Refusal) → Going s at st tests → length s ≤ at
     → Scans (ended (length s) st (take st.counts.tests tests)) r → Scans (scan_of s) r
 unfolding scan_from
 end s at st tests r going le g =

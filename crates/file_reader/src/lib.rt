@@ -6,8 +6,8 @@ ghost use Rattle.file_format.specs.Scan.{counted, test_from, in_hand, advanced, 
 ghost use Rattle.file_format.specs.Held.{Scans};
 ghost use Rattle.file_reader.specs.Limits.{Within};
 
-use file_format::{Counts, Extent, Scan, ScanState, Scanned};
-use model::Refusal;
+use file_format::{Contents, Counts, Extent, ScanState};
+use model::{Cause, Refusal};
 
 // The counts after one more field of a kind.
 fn count_field(kind: u8, c: Counts) -> Counts
@@ -100,28 +100,30 @@ fn advance(kind: u8, next: usize, st: ScanState) -> ScanState
     }
 }
 
-fn end_scan(length: usize, tests: [Extent; model::MOST_TESTS], st: ScanState) -> Scanned
+fn end_scan(
+    length: usize,
+    tests: [Extent; model::MOST_TESTS],
+    st: ScanState,
+) -> Result<Contents, Refusal>
     requires { Within st.counts }
     ensures { Scans (ended length st (take st.counts.tests tests)) result }
 {
     let c = st.counts;
     if c.begun {
-        let why = Refusal {
-            number: 7,
+        return Err(Refusal {
+            cause: Cause::TestNotEnded,
             place: length,
-        };
-        let scan = Scan::Refused(why);
-        return Scanned { scan, tests };
+        });
     }
-    let scan = Scan::Accepted {
+    Ok(Contents {
         rules: c.rules,
-        tests: c.tests,
-    };
-    Scanned { scan, tests }
+        count: c.tests,
+        tests,
+    })
 }
 
 // Reads a file: how many rules it holds and where its tests stand, or the refusal.
-pub fn read(s: &[u8]) -> Scanned
+pub fn read(s: &[u8]) -> Result<Contents, Refusal>
     ensures { Scans (scan_of s.now) result }
 {
     let mut st = ScanState {
@@ -144,11 +146,8 @@ pub fn read(s: &[u8]) -> Scanned
     let mut at = 0;
     while at < s.len() {
         let c = st.counts;
-        let number = file_faults::fault(s, at, c);
-        if number != 0 {
-            let why = Refusal { number, place: at };
-            let scan = Scan::Refused(why);
-            return Scanned { scan, tests };
+        if let Err(cause) = file_faults::fault(s, at, c) {
+            return Err(Refusal { cause, place: at });
         }
         let tag = s[at];
         // The field's length is its body's: another is refused.

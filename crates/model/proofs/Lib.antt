@@ -7,3 +7,4 @@ pub mod CheckLaws
 pub mod CountLaws
 pub mod TestLaws
 pub mod Theorems
+pub mod CauseLaws

@@ -1,9 +1,9 @@
 // Writes, rules and checks, whose meaning is in specs/, and how a refusal stands in one number.
 #![tactic(auto)]
 
-ghost use Rattle.std.specs.Prelude.{◌≡◌, ◌<◌};
+ghost use Rattle.std.specs.Prelude.{◌≡◌, ◌<◌, IfErr};
 ghost use Rattle.model.specs.Limits.{words};
-ghost use Rattle.model.specs.Answer.{refusal};
+ghost use Rattle.model.specs.Answer.{number_of, refusal, coded, at_zero, outcome};
 
 // The limits of documents 01 and 02, each by its name (specs/Limits.antt says what they are of).
 pub const NAMES: u64 = 65536;
@@ -66,11 +66,58 @@ pub enum Check {
     Pointer(u8),
 }
 
-// A refusal: its number, and its place in the file.
-#[derive(Clone, Copy)]
+// Why a call is refused, by the names of include/pelzhondy_answer.h. `cause as u8` is the number that
+// documents and C callers know it by.
+#[derive(Clone, Copy, PartialEq, Eq)]
+pub enum Cause {
+    Cut = 1,
+    UnknownTag = 2,
+    WrongLength = 3,
+    OutOfOrder = 4,
+    UnknownPredicate = 5,
+    OverLimit = 6,
+    TestNotEnded = 7,
+    CyclicRules = 8,
+    NoSuchTest = 9,
+    FileHasRules = 10,
+    TooManyCandidates = 11,
+    BufferTooShort = 12,
+    NoSetDoes = 13,
+    Not1024Bytes = 14,
+    NotSound = 15,
+    StateFull = 16,
+    Late = 17,
+    RingOfNeeds = 18,
+    NotWholePuts = 19,
+    EmptyPut = 20,
+    LogDamaged = 21,
+    FileHasTests = 22,
+    TestTooLong = 24,
+}
+
+impl Cause {
+    // Its number.
+    pub fn number(self) -> u8
+        ensures { result ≡ number_of self }
+    {
+        self as u8
+    }
+}
+
+// A refusal: why, and its place in the file.
+#[derive(Clone, Copy, PartialEq, Eq)]
 pub struct Refusal {
-    pub number: u8,
+    pub cause: Cause,
     pub place: usize,
+}
+
+// A refusal that is about no place in a file has place 0.
+impl From<Cause> for Refusal {
+    ghost from_gives = { λ cause r. r ≡ at_zero cause };
+
+    fn from(cause: Cause) -> Refusal {
+        Refusal { cause, place: 0 }
+    }
 }
 
 // A refusal by its number and place: bit 63, the number from bit 32 on, the place below.
@@ -84,7 +131,18 @@ pub fn refuse(number: u64, place: u64) -> u64
 // A refusal as one number.
 pub fn code_of(r: Refusal) -> u64
     requires { r.place < words }
-    ensures { result ≡ refusal r.number r.place }
+    ensures { result ≡ refusal (number_of r.cause) r.place }
 {
-    refuse(r.number as u64, r.place as u64)
+    refuse(u64::from(r.cause.number()), r.place as u64)
+}
+
+// What a call answers, a number below bit 63 or a refusal, as one number.
+pub fn coded(answer: Result<u64, Refusal>) -> u64
+    requires { IfErr answer (λ why. why.place < words) }
+    ensures { result ≡ coded (outcome answer) }
+{
+    match answer {
+        Ok(number) => number,
+        Err(why) => code_of(why),
+    }
 }
