@@ -1,9 +1,7 @@
 -- The answers of judge and verdict in one number each.
-use Rattle.std.specs.Prelude.{ℕ, ◌+◌, ◌*◌, ◌/◌, ◌%◌, ◌^◌}
+use Rattle.std.specs.Prelude.{ℕ, ◌+◌, ◌*◌, ◌/◌, ◌%◌, ◌^◌, Option, None, Some}
 use Rattle.model.specs.Answer.{Outcome, answer, refused, refusal}
 use Rattle.judge_counting.specs.declared.Judgement.{Judgement}
-use Rattle.judge_search.specs.declared.Verdict.{Verdict}
-use Rattle.judge_search.specs.declared.Verdict.TheVariants.{Holds, Fails}
 use Rattle.judge_cases.specs.Judge.{Case, judgement_of, verdict_of}
 
 -- the bits of a count: 20 main writes have 2^20 schedules, and all of these may be counted
@@ -19,9 +17,9 @@ unfoldable pub parts_of : ℕ → Judgement
 parts_of r = record { valid = r % 2 ^ count_bits; bad = r / 2 ^ count_bits % 2 ^ count_bits; shown = r / 2 ^ (count_bits + count_bits) % 2 ^ count_bits }
 
 -- 0: holds; else one more than the schedule's number
-unfoldable pub verdict_code : Verdict → ℕ
-verdict_code Holds = 0
-verdict_code (Fails s) = s + 1
+unfoldable pub verdict_code : Option ℕ → ℕ
+verdict_code None = 0
+verdict_code (Some s) = s + 1
 
 -- the judge's answer: the refusal, or the code of the case's numbers
 unfoldable pub judge_answer : Outcome Case → ℕ

@@ -1,13 +1,11 @@
 // The answers of judge and verdict in one number each.
 #![tactic(auto)]
 
-ghost use Rattle.std.specs.Prelude.{◌≡◌};
+ghost use Rattle.std.specs.Prelude.{◌≡◌, Ok};
 ghost use Rattle.judge_cases.specs.Judge.{FewNumbers, FewDecided};
 ghost use Rattle.judge_answers.specs.Judged.{judgement_code, verdict_code};
 
-use judge_cases::Decided;
 use judge_counting::Judgement;
-use judge_search::Verdict;
 
 // The bits of a count, and where the second and the third number of a judgement begin.
 const COUNT_BITS: u32 = 21;
@@ -24,13 +22,13 @@ pub fn code_of(j: Judgement) -> u64
     j.valid + FROM_BAD * j.bad + FROM_SHOWN * j.shown
 }
 
-// 0 for holds, else one more than the schedule's number.
-pub fn code_of_verdict(v: Verdict) -> u64
-    requires { FewDecided (Decided.As v) }
+// 0 where no schedule is bad, else one more than the smallest bad one's number.
+pub fn code_of_verdict(v: Option<u64>) -> u64
+    requires { FewDecided (Ok v) }
     ensures { result ≡ verdict_code v }
 {
     match v {
-        Verdict::Holds => 0,
-        Verdict::Fails(s) => s + 1,
+        None => 0,
+        Some(s) => s + 1,
     }
 }

@@ -20,7 +20,7 @@ use Rattle.model.proofs.Theorems.{holding-test_for, smallest_schedule_for, bad-s
 use Rattle.rule_cyclelaws.proofs.CyclicLaws.{cyclic_exactly}
 use Rattle.file_format.specs.File.{read_of}
 use Rattle.file_reader.proofs.CallerLaws.{refused-limits, holding-limits}
-use Rattle.judge_search.specs.declared.Verdict.TheVariants.{Holds, Fails}
+use Rattle.std.specs.Prelude.{None, Some}
 use Rattle.judge_search.specs.Verdict.{verdict_by}
 use Rattle.judge_cases.specs.Judge.{Case, case_of, case_in, judgement_for, verdict_for, judgement_of, verdict_of}
 use Rattle.judge_cases.specs.Theorem.{NoSuchTest, case_of_test, CaseFor, NumbersSay, VerdictSays, JudgedAsMeant}
@@ -91,12 +91,12 @@ passed_on s k number place e = let l = refused-limits s number place e in (rw e,
 -- ---- what is said of it, for any meaning of which schedules count
 
 -- the verdict by the smallest bad schedule, if there is one
-holds_by : (o : Option ℕ) → verdict_by o ≡ Holds ↔ o ≡ none
+holds_by : (o : Option ℕ) → verdict_by o ≡ None ↔ o ≡ none
 unfolding verdict_by
 holds_by none = (λ e. refl, λ e. refl)
 holds_by (some s) = (λ e. let z : ◌≡◌ {A = ℕ} 0 1 = cc in absurd (omega arith), λ e. let z : ◌≡◌ {A = ℕ} 0 1 = cc in absurd (omega arith))
 
-fails_by : (o : Option ℕ) (s : ℕ) → verdict_by o ≡ Fails s ↔ o ≡ some s
+fails_by : (o : Option ℕ) (s : ℕ) → verdict_by o ≡ Some s ↔ o ≡ some s
 unfolding verdict_by
 fails_by none s = (λ e. let z : ◌≡◌ {A = ℕ} 0 1 = cc in absurd (omega arith), λ e. let z : ◌≡◌ {A = ℕ} 0 1 = cc in absurd (omega arith))
 fails_by (some k) s = (λ e. let z : k ≡ s = cc in rw z, λ e. let z : k ≡ s = cc in rw z)
@@ -121,17 +121,17 @@ module _ (Counts : ℕ → Type 0) (counts : ℕ → Bool) (t : Test) (agrees : 
   pub judgement_none : bad_count_for counts t ≡ 0 → (judgement_for counts t).shown ≡ 0
   judgement_none z = shown-none (smallest_bad_for counts t) refl ((holding-test_for Counts counts t agrees).1.1 z)
 
-  pub verdict-holds : verdict_for counts t ≡ Holds ↔ HoldsFor Counts t
+  pub verdict-holds : verdict_for counts t ≡ None ↔ HoldsFor Counts t
   verdict-holds =
       let o = smallest_bad_for counts t in
       (λ e. small.holds.1 ((holds_by o).0 e), λ h. (holds_by o).1 (small.holds.0 h))
 
-  pub verdict-fails : (s : ℕ) → verdict_for counts t ≡ Fails s ↔ SmallestBadFor Counts t s
+  pub verdict-fails : (s : ℕ) → verdict_for counts t ≡ Some s ↔ SmallestBadFor Counts t s
   verdict-fails s =
       let o = smallest_bad_for counts t in
       (λ e. (small.computed s).1 ((fails_by o s).0 e), λ b. (fails_by o s).1 ((small.computed s).0 b))
 
-pub shown-same : (counts : ℕ → Bool) (t : Test) (s : ℕ) → verdict_for counts t ≡ Fails s → (judgement_for counts t).shown ≡ s
+pub shown-same : (counts : ℕ → Bool) (t : Test) (s : ℕ) → verdict_for counts t ≡ Some s → (judgement_for counts t).shown ≡ s
 unfolding shown_of
 shown-same counts t s e = rw ((fails_by (smallest_bad_for counts t) s).0 e)
 
@@ -163,7 +163,7 @@ module _ (c : Case) where
     fails = verdict-fails (Valid rules t.main) (valid rules t.main) t (valid_agrees rules t);
   }
 
-  same-shown : (s : ℕ) → verdict_of c ≡ Fails s → (judgement_of c).shown ≡ s
+  same-shown : (s : ℕ) → verdict_of c ≡ Some s → (judgement_of c).shown ≡ s
   unfolding verdict_of judgement_of
   same-shown = shown-same (valid rules t.main) t
 

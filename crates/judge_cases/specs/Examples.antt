@@ -1,5 +1,5 @@
 -- Two files for the theorem of judging, as bytes: K3's of the bench sheet, and one whose rules are cyclic. Two tests for the smallest failing schedule.
-use Rattle.std.specs.Prelude.{ℕ, ◌<◌, ◌≡◌, List, [], ◌∷◌}
+use Rattle.std.specs.Prelude.{ℕ, ◌<◌, ◌≡◌, List, [], ◌∷◌, Some}
 use Rattle.model.specs.declared.Check.TheVariants.{Range, Pair}
 use Rattle.model.specs.Answer.{answer, refused}
 use Rattle.model.specs.Cyclic.{Cyclic}
@@ -7,7 +7,6 @@ use Rattle.model.specs.Test.{Test, test, File, file, TestHolds, Bad}
 use Rattle.rule_cyclelaws.specs.Examples.{rule}
 use Rattle.file_format.specs.File.{read_of}
 use Rattle.judge_rows.specs.Examples.{write}
-use Rattle.judge_search.specs.declared.Verdict.TheVariants.{Fails}
 use Rattle.judge_cases.specs.Judge.{Case, case_in, judgement_of, verdict_of}
 use Rattle.judge_cases.specs.Theorem.{case_of_test}
 
@@ -47,7 +46,7 @@ pub record JudgedFiles : Type 0 where
   pub K3-given : case_in K3-bytes 1 ≡ answer (case_of_test K3-file 1)
   pub K3-judged : judgement_of (case_of_test K3-file 1) ≡ record { valid = 9; bad = 1; shown = 12 }
   -- so it fails, and does not hold
-  pub K3-fails : verdict_of (case_of_test K3-file 1) ≡ Fails 12
+  pub K3-fails : verdict_of (case_of_test K3-file 1) ≡ Some 12
   pub K3-not-held : TestHolds K3-file.rules (case_of_test K3-file 1).test → ⊥
   -- there is no test 0 and none above 1
   pub K3-zero : case_in K3-bytes 0 ≡ refused 9 0
@@ -76,7 +75,7 @@ pub record SmallestShown : Type 0 where
   -- 3 is bad, and a smaller number, but 4 has fewer flags
   pub three_bad : Bad [] four_not_three.test 3
   pub four_judged : judgement_of four_not_three ≡ record { valid = 8; bad = 5; shown = 4 }
-  pub four_fails : verdict_of four_not_three ≡ Fails 4
+  pub four_fails : verdict_of four_not_three ≡ Some 4
   -- the schedule without flags is the bad one: shown is 0, with a count above 0
   pub none-judged : judgement_of nothing_stored ≡ record { valid = 2; bad = 1; shown = 0 }
-  pub none-fails : verdict_of nothing_stored ≡ Fails 0
+  pub none-fails : verdict_of nothing_stored ≡ Some 0

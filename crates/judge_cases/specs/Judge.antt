@@ -1,9 +1,9 @@
 -- Judging one test of a file.
-use Rattle.std.specs.Prelude.{ℕ, ◌-◌, ◌≤◌, ◌≡◌, Bool, cond, ◌&&◌, List, leb, length}
+use Rattle.std.specs.Prelude.{ℕ, ◌-◌, ◌≤◌, ◌≡◌, Bool, cond, ◌&&◌, List, leb, length, take, Option, None, Some, Result, Ok, Err}
 use Rattle.model.specs.declared.Rule.{Rule}
 use Rattle.model.specs.declared.Refusal.{Refusal}
 use Rattle.model.specs.Limits.{most_rules, most_schedules}
-use Rattle.model.specs.Answer.{Outcome, answer, refused}
+use Rattle.model.specs.Answer.{Outcome, answer, refused, number_of}
 use Rattle.model.specs.Cyclic.{cyclic}
 use Rattle.model.specs.Schedule.{valid}
 use Rattle.model.specs.Test.{Test, File, smallest_bad_for, shown_of, count_for, bad_count_for}
@@ -12,21 +12,14 @@ use Rattle.file_format.specs.File.{read_of}
 use Rattle.file_format.specs.Scan.{test_at}
 use Rattle.file_format.specs.Held.{test_of, Inside, Placed}
 use Rattle.file_reader.specs.Limits.{longest}
-use Rattle.rule_match.specs.declared.Rules.{Rules}
 use Rattle.rule_match.specs.Held.{rules_of}
 use Rattle.judge_counting.specs.declared.Judgement.{Judgement}
-use Rattle.judge_search.specs.declared.Verdict.{Verdict}
-use Rattle.judge_search.specs.declared.Verdict.TheVariants.{Holds, Fails}
 use Rattle.judge_search.specs.Verdict.{verdict_by}
-use Rattle.judge_cases.specs.declared.Cases.{Cases}
-use Rattle.judge_cases.specs.declared.Cases.TheVariants.{Tests}
+use Rattle.judge_loading.specs.Loaded.{LoadsTest, LoadsChecks}
+use Rattle.judge_rows.specs.Rows.{rows_from}
 use Rattle.judge_cases.specs.declared.Opened.{Opened}
-use Rattle.judge_cases.specs.declared.Choice.{Choice}
 use Rattle.judge_cases.specs.declared.Selected.{Selected}
-use Rattle.judge_cases.specs.declared.Judged.{Judged}
-use Rattle.judge_cases.specs.declared.Judged.TheVariants.{Counts}
-use Rattle.judge_cases.specs.declared.Decided.{Decided}
-use Rattle.judge_cases.specs.declared.Decided.TheVariants.{As}
+use Rattle.judge_cases.specs.declared.LoadedCase.{LoadedCase}
 
 -- a test and the rules it is judged under
 pub record Case : Type 0 where
@@ -48,15 +41,15 @@ case_in s k = case_of (read_of s) k
 abbrev pub judgement_for : (ℕ → Bool) → Test → Judgement
 judgement_for counts t = record { valid = count_for counts t; bad = bad_count_for counts t; shown = shown_of (smallest_bad_for counts t) }
 
--- the verdict alone: holds, or fails with the smallest bad schedule
-abbrev pub verdict_for : (ℕ → Bool) → Test → Verdict
+-- the verdict alone: the smallest bad schedule, if there is one; a test without one holds
+abbrev pub verdict_for : (ℕ → Bool) → Test → Option ℕ
 verdict_for counts t = verdict_by (smallest_bad_for counts t)
 
 -- of a case: the valid schedules count
 unfoldable pub judgement_of : Case → Judgement
 judgement_of c = judgement_for (valid c.rules c.test.main) c.test
 
-unfoldable pub verdict_of : Case → Verdict
+unfoldable pub verdict_of : Case → Option ℕ
 verdict_of c = verdict_for (valid c.rules c.test.main) c.test
 
 -- ---- what the routines give
@@ -65,51 +58,59 @@ verdict_of c = verdict_for (valid c.rules c.test.main) c.test
 abbrev pub case_at : List Rule → List ℕ → Extent → Case
 case_at rules s e = record { rules = rules; test = test_at s e }
 
+-- a case loaded: the test, its checks, and what each main write depends on, row by row
+pub record LoadsCase (c : Case) (r : LoadedCase) : Type 0 where
+  pub test : LoadsTest c.test r.test
+  pub checks : LoadsChecks c.test r.checks
+  pub rows : take r.test.main r.rows ≡ rows_from c.rules r.test.labels r.test.main r.test.main
+
 -- a refusal that a judge gives: its number is at most 9, its place at most the longest file's length
 abbrev pub SmallRefusal : Refusal → Type 0
-SmallRefusal why = (why.number ≤ 9) × (why.place ≤ longest)
+SmallRefusal why = (number_of why.cause ≤ 9) × (why.place ≤ longest)
 
 -- a file that is read, or 8: its rules are cyclic
 unfoldable pub judged_file : Outcome File → Outcome File
 judged_file (refused number place) = refused number place
 judged_file (answer f) = cond (cyclic f.rules) (refused 8 0) (answer f)
 
--- a file opened: the refusal, or its rules and where its tests stand
-unfoldable pub OpensTo : List ℕ → Rules → List Extent → Cases → Type 0
-OpensTo s rules tests (Cases.Refused why) = (judged_file (read_of s) ≡ refused why.number why.place) × SmallRefusal why
-OpensTo s rules tests (Tests n) =
-    (f : File) × (judged_file (read_of s) ≡ answer f) × (rules_of rules ≡ f.rules) × (rules.count ≤ most_rules) × Placed s f.tests tests n
+-- a file opened: its rules and where its tests stand
+abbrev pub OpensTo : List ℕ → Opened → Type 0
+OpensTo s x =
+    (f : File) × (judged_file (read_of s) ≡ answer f) × (rules_of x.rules ≡ f.rules) × (x.rules.count ≤ most_rules) × Placed s f.tests x.tests x.count
 
-abbrev pub OpensFile : List ℕ → Opened → Type 0
-OpensFile s r = OpensTo s r.rules r.tests r.cases
+-- that, or the refusal
+unfoldable pub OpensFile : List ℕ → Result Opened Refusal → Type 0
+OpensFile s (Ok x) = OpensTo s x
+OpensFile s (Err why) = (judged_file (read_of s) ≡ refused (number_of why.cause) why.place) × SmallRefusal why
 
--- the test that a call asks for, by its place in the file and with the file's rules, or the refusal
-unfoldable pub SelectsTo : List ℕ → ℕ → Rules → Choice → Type 0
-SelectsTo s k rules (Choice.Refused why) = (case_in s k ≡ refused why.number why.place) × SmallRefusal why
-SelectsTo s k rules (Choice.Test e) = (case_in s k ≡ answer (case_at (rules_of rules) s e)) × (rules.count ≤ most_rules) × Inside s e
+-- the test that a call asks for, by its place in the file and with the file's rules
+abbrev pub SelectsTo : List ℕ → ℕ → Selected → Type 0
+SelectsTo s k x = (case_in s k ≡ answer (case_at (rules_of x.rules) s x.test)) × (x.rules.count ≤ most_rules) × Inside s x.test
 
-abbrev pub Selects : List ℕ → ℕ → Selected → Type 0
-Selects s k r = SelectsTo s k r.rules r.choice
+-- that, or the refusal
+unfoldable pub Selects : List ℕ → ℕ → Result Selected Refusal → Type 0
+Selects s k (Ok x) = SelectsTo s k x
+Selects s k (Err why) = (case_in s k ≡ refused (number_of why.cause) why.place) × SmallRefusal why
 
 -- the judge: the refusal, or the numbers of the case
-unfoldable pub judged_of : Outcome Case → Judged
-judged_of (refused number place) = Judged.Refused (record { number = number; place = place })
-judged_of (answer c) = Counts (judgement_of c)
+unfoldable pub judged_of : Outcome Case → Outcome Judgement
+judged_of (refused number place) = refused number place
+judged_of (answer c) = answer (judgement_of c)
 
 -- the verdict alone: the refusal, or the verdict on the case
-unfoldable pub decided_of : Outcome Case → Decided
-decided_of (refused number place) = Decided.Refused (record { number = number; place = place })
-decided_of (answer c) = As (verdict_of c)
+unfoldable pub decided_of : Outcome Case → Outcome (Option ℕ)
+decided_of (refused number place) = refused number place
+decided_of (answer c) = answer (verdict_of c)
 
 -- a test has at most so many schedules, and no number of an answer is larger
 unfoldable pub FewNumbers : Judgement → Type 0
 FewNumbers j = (j.valid ≤ most_schedules) × (j.bad ≤ most_schedules) × (j.shown ≤ most_schedules)
 
-unfoldable pub Few : Judged → Type 0
-Few (Counts j) = FewNumbers j
-Few (Judged.Refused why) = SmallRefusal why
+unfoldable pub Few : Result Judgement Refusal → Type 0
+Few (Ok j) = FewNumbers j
+Few (Err why) = SmallRefusal why
 
-unfoldable pub FewDecided : Decided → Type 0
-FewDecided (As Holds) = Unit {0}
-FewDecided (As (Fails s)) = s ≤ most_schedules
-FewDecided (Decided.Refused why) = SmallRefusal why
+unfoldable pub FewDecided : Result (Option ℕ) Refusal → Type 0
+FewDecided (Ok None) = Unit {0}
+FewDecided (Ok (Some s)) = s ≤ most_schedules
+FewDecided (Err why) = SmallRefusal why

@@ -1,6 +1,6 @@
 -- The theorem of judging, for all files and test numbers: what a judge is given (`case_in`), and what `judgement_of` and `verdict_of` say of it. The exported
 -- contracts cite these three. Here they are told by meanings, `Cyclic`, `Valid`, `Bad`, `SmallestBad` and `TestHolds`, and not by what is computed.
-use Rattle.std.specs.Prelude.{ℕ, ◌-◌, ◌≤◌, ◌<◌, ◌≡◌, ◌↔◌, ◌⊎◌, Bool, true, List, length}
+use Rattle.std.specs.Prelude.{ℕ, ◌-◌, ◌≤◌, ◌<◌, ◌≡◌, ◌↔◌, ◌⊎◌, Bool, true, List, length, Option, None, Some}
 use Rattle.model.specs.Answer.{Outcome, answer, refused}
 use Rattle.model.specs.Cyclic.{Cyclic}
 use Rattle.model.specs.Schedule.{Valid}
@@ -8,8 +8,6 @@ use Rattle.model.specs.Test.{File, schedules, TestHolds, Bad, SmallestBad, count
 use Rattle.file_format.specs.File.{read_of}
 use Rattle.file_format.specs.Held.{test_of}
 use Rattle.judge_counting.specs.declared.Judgement.{Judgement}
-use Rattle.judge_search.specs.declared.Verdict.{Verdict}
-use Rattle.judge_search.specs.declared.Verdict.TheVariants.{Holds, Fails}
 use Rattle.judge_cases.specs.Judge.{Case, case_in, judgement_of, verdict_of}
 
 -- no such test: tests count from 1
@@ -49,9 +47,9 @@ pub record NumbersSay (c : Case) (j : Judgement) : Type 0 where
   pub holds : j.bad ≡ 0 ↔ TestHolds c.rules c.test
 
 -- what the verdict alone says of it: holds exactly if the test holds; fails exactly with the smallest valid and inconsistent schedule
-pub record VerdictSays (c : Case) (v : Verdict) : Type 0 where
-  pub holds : v ≡ Holds ↔ TestHolds c.rules c.test
-  pub fails : (s : ℕ) → v ≡ Fails s ↔ SmallestBad c.rules c.test s
+pub record VerdictSays (c : Case) (v : Option ℕ) : Type 0 where
+  pub holds : v ≡ None ↔ TestHolds c.rules c.test
+  pub fails : (s : ℕ) → v ≡ Some s ↔ SmallestBad c.rules c.test s
 
 -- the theorem
 pub record JudgedAsMeant : Type 0 where
@@ -64,4 +62,4 @@ pub record JudgedAsMeant : Type 0 where
   -- the verdict alone
   pub verdict : (c : Case) → VerdictSays c (verdict_of c)
   -- the two show the same schedule
-  pub same : (c : Case) (s : ℕ) → verdict_of c ≡ Fails s → (judgement_of c).shown ≡ s
+  pub same : (c : Case) (s : ℕ) → verdict_of c ≡ Some s → (judgement_of c).shown ≡ s

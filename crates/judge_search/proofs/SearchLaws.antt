@@ -10,6 +10,7 @@ use lib.Dec.{eqb, ltb}
 use lib.ListN.{length, get_or, take}
 use lib.Pow.{pow_mono}
 use borrow.Author.Rules.{rules}
+use Rattle.std.specs.Prelude.{Option, None, Some}
 use borrow.Author.Tests.{eqb-true, lt-ltb, ltb-true}
 use Rattle.relation.specs.Best.{smallest_below}
 use Rattle.relation.specs.Rank.{small_sets, rank}
@@ -23,8 +24,6 @@ use Rattle.model.specs.Check.{consistent}
 use Rattle.judge_disks.specs.Packed.{held_from}
 use Rattle.judge_schedules.specs.Valid.{valid_rows, bad_rows}
 use Rattle.judge_suspects.specs.Suspects.{most_listed, Has, Rising, Suspects}
-use Rattle.judge_search.specs.declared.Verdict.{Verdict}
-use Rattle.judge_search.specs.declared.Verdict.TheVariants.{Holds, Fails}
 use Rattle.judge_search.specs.Verdict.{verdict_by}
 use Rattle.judge_search.specs.Search.{verdict_below, repeated, leaves_inconsistent, listed, StopsAt}
 
@@ -70,13 +69,13 @@ module _ (base : List ℕ) (ws : List Write) (cs : List Check) (list : List ℕ)
   unfolding leaves_inconsistent
   clear_pass c h l t = let z : i ≡ m = omega (arith, h, l) in clear-suc _ list k c (rw (← q, ← e, rw z at t))
 
-  pub stops_here : (many : ℕ) → Clear (leaves_inconsistent base ws (take m cs)) list k → k < many → false ≡ consistent (take m cs) d → StopsAt (leaves_inconsistent base ws (take m cs)) list many (Fails s)
+  pub stops_here : (many : ℕ) → Clear (leaves_inconsistent base ws (take m cs)) list k → k < many → false ≡ consistent (take m cs) d → StopsAt (leaves_inconsistent base ws (take m cs)) list many (Some s)
   unfolding StopsAt leaves_inconsistent
   stops_here many c h f = (k, h, q, rw (← e, ← f), λ j l. c.none j l)
 
-pub stops_never : (p : ℕ → Bool) (list : List ℕ) (k many : ℕ) (v : Verdict) → Clear p list k → k ≤ many → many ≤ k → v ≡ Holds → StopsAt p list many v
+pub stops_never : (p : ℕ → Bool) (list : List ℕ) (k many : ℕ) → Clear p list k → many ≤ k → StopsAt p list many None
 unfolding StopsAt
-stops_never p list k many v c h l e = rw e (λ i b. c.none i (omega (arith, l, b)))
+stops_never p list k many c l i b = c.none i (omega (arith, l, b))
 
 pub ruleset searching = (rules, repeated-first, repeated-next, clear_none, clear_again, stops_never)
 
@@ -100,13 +99,13 @@ module _ (rows column base : List ℕ) (n : ℕ) (cs : List Check) (list : List 
   of_rank : (t i : ℕ) → t < 2 ^ n → get_or list i 0 ≡ rank t → listed list i ≡ t
   of_rank t i h e = let w = words in ap (λ (x : ℕ). x % small_sets) e ∙ rank-set t (omega (arith, h, w))
 
-  found : (v : Verdict) → StopsAt spoilt list many v → v ≡ verdict_by (smallest_below bad (2 ^ n))
+  found : (v : Option ℕ) → StopsAt spoilt list many v → v ≡ verdict_by (smallest_below bad (2 ^ n))
   unfolding StopsAt verdict_by bad_rows leaves_inconsistent Rising
-  found Holds stops =
+  found None stops =
       rw (passes_none bad (2 ^ n) (λ s h. untrue (bad s) (λ e.
       let (t, l, (i, b, q), f, r) = g.every base size s h e in
       clash (spoilt t) (bad_spoilt t f) (rw (of_rank t i l q) at (stops i b)))))
-  found (Fails s) (i, b, z, p, before) =
+  found (Some s) (i, b, z, p, before) =
       let r = g.ranks.each (get_or list i 0) (i, b, refl) in
       let same : s ≡ r.set = z ∙ of_rank r.set i r.most r.is in
       let first : get_or list i 0 ≡ rank s = r.is ∙ ap rank (sym same) in
@@ -118,7 +117,7 @@ module _ (rows column base : List ℕ) (n : ℕ) (cs : List Check) (list : List 
         | no a ↦ let o = g.ranks.rising i j (omega (arith, a)) c in omega (arith, o, first, q, w)
       ]
 
-pub verdict-is : (rows column base : List ℕ) (n : ℕ) (cs : List Check) (list : List ℕ) (many : ℕ) (v : Verdict) → n ≤ most_main → length base ≡ disk_blocks → Suspects rows column n cs list many
+pub verdict-is : (rows column base : List ℕ) (n : ℕ) (cs : List Check) (list : List ℕ) (many : ℕ) (v : Option ℕ) → n ≤ most_main → length base ≡ disk_blocks → Suspects rows column n cs list many
     → StopsAt (leaves_inconsistent base (held_from column 0 n) cs) list many v → v ≡ verdict_below (bad_rows rows n base (held_from column 0 n) cs) (2 ^ n)
 unfolding verdict_below
 verdict-is rows column base n cs list many v few size g stops = found rows column base n cs list many few size g v stops

@@ -1,17 +1,15 @@
 -- The search for the smallest bad schedule.
-use Rattle.std.specs.Prelude.{ℕ, ◌-◌, ◌%◌, ◌<◌, ◌≡◌, Bool, true, false, not, ◌&&◌, List, eqb, ltb, get_or}
+use Rattle.std.specs.Prelude.{ℕ, ◌-◌, ◌%◌, ◌<◌, ◌≡◌, Bool, true, false, not, ◌&&◌, List, eqb, ltb, get_or, Option, None, Some}
 use Rattle.relation.specs.Best.{smallest_below}
 use Rattle.relation.specs.Rank.{small_sets}
 use Rattle.model.specs.declared.Write.{Write}
 use Rattle.model.specs.declared.Check.{Check}
 use Rattle.model.specs.Schedule.{run}
 use Rattle.model.specs.Check.{consistent}
-use Rattle.judge_search.specs.declared.Verdict.{Verdict}
-use Rattle.judge_search.specs.declared.Verdict.TheVariants.{Holds, Fails}
 use Rattle.judge_search.specs.Verdict.{verdict_by}
 
 -- the verdict on the numbers below n
-unfoldable pub verdict_below : (ℕ → Bool) → ℕ → Verdict
+unfoldable pub verdict_below : (ℕ → Bool) → ℕ → Option ℕ
 verdict_below p n = verdict_by (smallest_below p n)
 
 -- ---- the code's steps
@@ -29,6 +27,6 @@ abbrev pub listed : List ℕ → ℕ → ℕ
 listed list k = get_or list k 0 % small_sets
 
 -- a search through the first `many` stops at the first schedule that passes, or does not stop
-unfoldable pub StopsAt : (ℕ → Bool) → List ℕ → ℕ → Verdict → Type 0
-StopsAt p list many Holds = (i : ℕ) → i < many → p (listed list i) ≡ false
-StopsAt p list many (Fails s) = (i : ℕ) × (i < many) × (s ≡ listed list i) × (p s ≡ true) × ((j : ℕ) → j < i → p (listed list j) ≡ false)
+unfoldable pub StopsAt : (ℕ → Bool) → List ℕ → ℕ → Option ℕ → Type 0
+StopsAt p list many None = (i : ℕ) → i < many → p (listed list i) ≡ false
+StopsAt p list many (Some s) = (i : ℕ) × (i < many) × (s ≡ listed list i) × (p s ≡ true) × ((j : ℕ) → j < i → p (listed list j) ≡ false)

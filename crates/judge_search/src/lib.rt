@@ -12,13 +12,6 @@ ghost use Rattle.judge_search.specs.Search.{repeated, leaves_inconsistent, Stops
 use judge_suspects::MOST_LISTED;
 use model::{Check, DISK_BLOCKS, MOST_CHECKS, MOST_INITIAL};
 
-// The verdict alone.
-#[derive(Clone, Copy)]
-pub enum Verdict {
-    Holds,
-    Fails(u64),
-}
-
 // Whether an entry of a list is the one before it once more.
 fn is_repeated(list: &[u64; MOST_LISTED], k: usize) -> bool
     requires { k < most_listed }
@@ -31,7 +24,7 @@ fn is_repeated(list: &[u64; MOST_LISTED], k: usize) -> bool
 }
 
 // The search through the schedules of n writes whose ranks are the first `many` of a list, and through the
-// checks: all its loops are left at the first schedule that leaves an inconsistent disk.
+// checks: the first schedule that leaves an inconsistent disk, if one does.
 fn search_by(
     list: &[u64; MOST_LISTED],
     many: usize,
@@ -40,33 +33,26 @@ fn search_by(
     n: usize,
     checks: [Check; MOST_CHECKS],
     m: usize,
-) -> Verdict
+) -> Option<u64>
     requires { ((many ≤ most_listed) × (n ≤ most_main)) × ((m ≤ most_checks) × (length base.now ≡ disk_blocks)) }
     ensures { StopsAt (leaves_inconsistent base.now (held_from stores.now 0 n) (take m checks)) list.now many result }
 {
     let mut disk = *base;
-    let mut verdict = Verdict::Holds;
-    let mut k: usize = 0;
-    'search: while k < many {
+    'search: for k in 0..many {
         if is_repeated(list, k) {
-            k += 1;
             continue 'search;
         }
         let s = list[k] % relation::SMALL_SETS;
         judge_disks::apply(&mut disk, stores, 0, n, s);
-        let mut i: usize = 0;
-        'checks: while i < m {
+        'checks: for i in 0..m {
             let c = checks[i];
             if !judge_checks::check_holds(&disk, c) {
-                verdict = Verdict::Fails(s);
-                break 'search;
+                return Some(s);
             }
-            i += 1;
         }
         judge_disks::restore(&mut disk, base, stores, 0, n);
-        k += 1;
     }
-    verdict
+    None
 }
 
 // The smallest bad schedule of the first n writes of a table of stores, by a table of rows, if there is one.
@@ -78,7 +64,7 @@ pub fn smallest_bad(
     n: usize,
     checks: [Check; MOST_CHECKS],
     m: usize,
-) -> Verdict
+) -> Option<u64>
     requires { ((length rows.old ≡ 64) × (n ≤ most_main)) × ((m ≤ most_checks) × Narrow rows.old n) }
     ensures { result ≡ verdict_below (bad_rows rows.old n base (held_from stores.now 0 n) (take m checks)) (2 ^ n) }
 {

@@ -1,14 +1,15 @@
--- The digits of a number, and a text byte by byte.
-use mathlib.Core.Path.{◌≡◌, refl, ap, ◌∙◌}
+-- The digits of a number, and a text.
+use mathlib.Core.Path.{◌≡◌, refl, sym, ap, ◌∙◌}
 use mathlib.Core.Bool.{Bool, true, false, cond}
-use mathlib.Core.List.{List, [], ◌∷◌, ◌++◌}
-use Prim.Native.Nat.{ℕ, zero, suc, ◌+◌, ◌/◌, ◌%◌, ◌^◌, ◌≤◌, ◌<◌}
+use mathlib.Core.List.{List, [], ◌∷◌, ◌++◌, append_assoc}
+use Prim.Native.Nat.{ℕ, zero, suc, ◌+◌, ◌-◌, ◌/◌, ◌%◌, ◌^◌, ◌≤◌, ◌<◌}
 use native.Mathlib.Nat.{pow-suc}
 use native.Mathlib.Numerals.{add-one}
 use native.Mathlib.Omega.{arith}
 use lib.Dec.{ltb}
-use lib.ListN.{length, take, set, get_or, length-append, length-set}
-use lib.Seq.{take-suc, take_all}
+use lib.ListN.{length, take, drop, length-append}
+use lib.Seq.{sets, sets-eq, length-sets}
+use borrow.Rule.Slice.PartMut.{put_mid, Post-is}
 use borrow.Author.Rules.{rules}
 use borrow.Author.Tests.{lt-ltb, le-ltb, ltb-false, ltb-true}
 use Rattle.judge_text.specs.Decimal.{decimal_with, decimal}
@@ -75,19 +76,12 @@ module _ (n at : ℕ) (l l₁ : List ℕ) (r : ℕ) where
   pub wrote-more : (l₂ : List ℕ) (r₂ : ℕ) → 10 ≤ n → Wrote l at (decimal (n / 10)) l₁ r → Wrote l₁ r ((48 + n % 10) ∷ []) l₂ r₂ → Wrote l at (decimal n) l₂ r₂
   wrote-more l₂ r₂ h w v = rw (decimal-more n h) (wrote_then l at (decimal (n / 10)) l₁ r ((48 + n % 10) ∷ []) l₂ r₂ w v)
 
--- ---- a text byte by byte
+-- ---- a text, in place of as many bytes
 
-pub text_none : (l : List ℕ) (at : ℕ) (text : List ℕ) → Wrote l at (take 0 text) l (at + 0)
-text_none l at text = record { buffer = refl; place = refl; size = refl }
+pub text-wrote : (l text new : List ℕ) (at : ℕ) → at + length text ≤ length l → new ≡ text → Wrote l at text (put_mid at (at + length text - at) l new) (at + length text)
+text-wrote l text new at h e =
+    let same : put_mid at (at + length text - at) l new ≡ sets l at text
+    = rw (e, Post-is at (at + length text) l (omega arith)) (sym (append_assoc (take at l) text (drop (at + length text) l)) ∙ sym (sets-eq text l at h)) in
+    record { buffer = same; place = refl; size = ap length same ∙ length-sets l at text }
 
-pub text_more : (l : List ℕ) (at : ℕ) (text l₁ : List ℕ) (i : ℕ) → i < length text → Wrote l at (take i text) l₁ (at + i)
-    → Wrote l at (take (i + 1) text) (set l₁ (at + i) (get_or text i 0)) (at + (i + 1))
-text_more l at text l₁ i h w =
-    let e : at + (i + 1) ≡ at + i + 1 = omega arith in
-    rw (add-one i, take-suc text i 0 h, ← add-one i, e)
-    (wrote_then l at (take i text) l₁ (at + i) (get_or text i 0 ∷ []) (set l₁ (at + i) (get_or text i 0)) (at + i + 1) w (record { buffer = refl; place = refl; size = length-set l₁ (at + i) (get_or text i 0) }))
-
-pub text_all : (l : List ℕ) (at : ℕ) (text l₁ : List ℕ) (i : ℕ) → length text ≤ i → i ≤ length text → Wrote l at (take i text) l₁ (at + i) → Wrote l at text l₁ (at + i)
-text_all l at text l₁ i h k w = rw (take_all i text h) at w
-
-pub ruleset writes = (rules, room-digit, room-front, room-last, wrote-digit, wrote-more, text_none, text_more, text_all)
+pub ruleset writes = (rules, room-digit, room-front, room-last, wrote-digit, wrote-more, text-wrote)

@@ -15,11 +15,6 @@ use file_format::Extent;
 use judge_cases::Cases;
 use rule_match::Rules;
 
-// A blank, and a line feed.
-const BLANK: u8 = 32;
-
-const LINE_FEED: u8 = 10;
-
 // The most digits of a test's number, of a count of schedules, of a refusal's number and of its place.
 const TEST_DIGITS: usize = 2;
 
@@ -38,22 +33,19 @@ fn put_decimal(out: &mut [u8], at: usize, n: u64) -> usize
     ensures { Wrote out.old at (decimal n) out.new result }
 {
     if n < 10 {
-        return file_writing::put(out, at, (48 + n) as u8);
+        return file_writing::put(out, at, b'0' + n as u8);
     }
     let next = put_decimal(out, at, n / 10);
-    file_writing::put(out, next, (48 + n % 10) as u8)
+    file_writing::put(out, next, b'0' + (n % 10) as u8)
 }
 
 fn put_text(out: &mut [u8], at: usize, text: &[u8]) -> usize
     requires { at + length text.now ≤ length out.old }
     ensures { Wrote out.old at text.now out.new result }
 {
-    let mut i: usize = 0;
-    while i < text.len() {
-        out[at + i] = text[i];
-        i += 1;
-    }
-    at + i
+    let end = at + text.len();
+    out[at..end].copy_from_slice(text);
+    end
 }
 
 // A number of a line, which has so many digits at most: that is for the contract, nothing is padded.
@@ -69,12 +61,12 @@ fn put_refused(out: &mut [u8], at: usize, number: u64, place: u64) -> usize
     requires { (at + refused_length ≤ length out.old) × (Digits refusal_digits number × Digits place_digits place) }
     ensures { Wrote out.old at (refused_line number place) out.new result × (result ≤ at + refused_length) }
 {
-    let a = put_text(out, at, b"refused");
-    let b = file_writing::put(out, a, BLANK);
-    let c = put_number(out, b, number, REFUSAL_DIGITS);
-    let d = file_writing::put(out, c, BLANK);
-    let e = put_number(out, d, place, PLACE_DIGITS);
-    file_writing::put(out, e, LINE_FEED)
+    let at = put_text(out, at, b"refused");
+    let at = file_writing::put(out, at, b' ');
+    let at = put_number(out, at, number, REFUSAL_DIGITS);
+    let at = file_writing::put(out, at, b' ');
+    let at = put_number(out, at, place, PLACE_DIGITS);
+    file_writing::put(out, at, b'\n')
 }
 
 fn put_verdict(out: &mut [u8], at: usize, bad: u64) -> usize
@@ -92,14 +84,14 @@ fn put_line(out: &mut [u8], at: usize, k: u64, valid: u64, bad: u64) -> usize
     requires { (at + test_length ≤ length out.old) × (Digits test_digits k × (Digits count_digits valid × Digits count_digits bad)) }
     ensures { Wrote out.old at (test_line k valid bad) out.new result × (result ≤ at + test_length) }
 {
-    let a = put_number(out, at, k, TEST_DIGITS);
-    let b = file_writing::put(out, a, BLANK);
-    let c = put_number(out, b, valid, COUNT_DIGITS);
-    let d = file_writing::put(out, c, BLANK);
-    let e = put_number(out, d, bad, COUNT_DIGITS);
-    let f = file_writing::put(out, e, BLANK);
-    let g = put_verdict(out, f, bad);
-    file_writing::put(out, g, LINE_FEED)
+    let at = put_number(out, at, k, TEST_DIGITS);
+    let at = file_writing::put(out, at, b' ');
+    let at = put_number(out, at, valid, COUNT_DIGITS);
+    let at = file_writing::put(out, at, b' ');
+    let at = put_number(out, at, bad, COUNT_DIGITS);
+    let at = file_writing::put(out, at, b' ');
+    let at = put_verdict(out, at, bad);
+    file_writing::put(out, at, b'\n')
 }
 
 // The line of test k, which stands at an extent.
@@ -123,10 +115,8 @@ fn put_cases(
     ensures { Wrote out.old 0 (case_lines (rules_of rules) file.now tests n) out.new result × (result ≤ text_length) }
 {
     let mut at: usize = 0;
-    let mut i: usize = 0;
-    while i < n {
+    for i in 0..n {
         at = put_case(out, at, file, rules, tests[i], i as u64 + 1);
-        i += 1;
     }
     at
 }

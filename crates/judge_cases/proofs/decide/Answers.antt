@@ -2,20 +2,11 @@
 use Rattle.judge_cases.proofs.JudgeLaws.{judges}
 use Rattle.judge_cases.proofs.decide.Goals as goal
 
-pub select-selected-requires : goal.select-selected-requires
-select-selected-requires c = search judges
-
-pub enum_known-choice : goal.enum_known-choice
-enum_known-choice c = search judges
+pub returns-in_err-selected : goal.returns-in_err-selected
+returns-in_err-selected c = search judges
 
 pub decide_test-requires : goal.decide_test-requires
 decide_test-requires c = search judges
 
-pub enum_known-choice-in-Refused-1 : goal.enum_known-choice-in-Refused-1
-enum_known-choice-in-Refused-1 c = search judges
-
-pub returns-in-Test : goal.returns-in-Test
-returns-in-Test c = search judges
-
-pub returns-in-Refused : goal.returns-in-Refused
-returns-in-Refused c = search judges
+pub returns : goal.returns
+returns c = search judges

@@ -1,24 +1,18 @@
 -- `judge_cases::open_file` meets its contract: reading's refusal, or what the rules say.
-use Rattle.judge_cases.proofs.JudgeLaws.{opens}
+use Rattle.judge_cases.proofs.JudgeLaws.{opens, rules-few, rules_fields}
 use Rattle.judge_cases.proofs.open_file.Goals as goal
 
-pub read-read-requires : goal.read-read-requires
-read-read-requires c = search opens
+pub returns-in_err-rules : goal.returns-in_err-rules
+returns-in_err-rules c = search opens
 
-pub enum_known-scan : goal.enum_known-scan
-enum_known-scan c = search opens
+pub file_rules-rules-requires : goal.file_rules-rules-requires
+file_rules-rules-requires c = (rules-few _ _ c.read.ensures _ c.in_ok-rules.was, rules_fields _ _ c.read.ensures _ c.in_ok-rules.was)
 
-pub with_rules-requires : goal.with_rules-requires
-with_rules-requires c = search opens
+pub is_cyclic-requires : goal.is_cyclic-requires
+is_cyclic-requires c = search opens
 
-pub enum_known-scan-in-Refused-1 : goal.enum_known-scan-in-Refused-1
-enum_known-scan-in-Refused-1 c = search opens
+pub returns-then-is_cyclic : goal.returns-then-is_cyclic
+returns-then-is_cyclic c = search opens
 
-pub none-rules-requires : goal.none-rules-requires
-none-rules-requires c = search opens
-
-pub returns-in-Accepted : goal.returns-in-Accepted
-returns-in-Accepted c = search opens
-
-pub returns-in-Refused : goal.returns-in-Refused
-returns-in-Refused c = search opens
+pub returns : goal.returns
+returns c = search opens

@@ -8,47 +8,11 @@ use Rattle.judge_disks.proofs.RestoreLaws.{restored-run, ran}
 use Rattle.judge_search.proofs.SearchLaws.{searching, clear_pass, stops_here}
 use Rattle.judge_search.proofs.search_by.Goals as goal
 
-pub search-init : goal.search-init
-search-init c = search searching
-
-pub is_repeated-requires : goal.is_repeated-requires
-is_repeated-requires c = search searching
-
-pub overflow_add-k : goal.overflow_add-k
-overflow_add-k c = search searching
-
-pub search-smaller-then-is_repeated : goal.search-smaller-then-is_repeated
-search-smaller-then-is_repeated c = search searching
-
 pub search-preserved-then-is_repeated : goal.search-preserved-then-is_repeated
 search-preserved-then-is_repeated c = search searching
 
-pub offset_bounds-list-k : goal.offset_bounds-list-k
-offset_bounds-list-k c = search searching
-
-pub bounds-list-k : goal.bounds-list-k
-bounds-list-k c = search searching
-
-pub apply-requires : goal.apply-requires
-apply-requires c = search searching
-
 pub checks-init : goal.checks-init
 checks-init c = search (searching, ran, checks-start)
-
-pub offset_bounds-checks-i : goal.offset_bounds-checks-i
-offset_bounds-checks-i c = search searching
-
-pub bounds-checks-i : goal.bounds-checks-i
-bounds-checks-i c = search searching
-
-pub check_holds-requires : goal.check_holds-requires
-check_holds-requires c = search searching
-
-pub overflow_add-i : goal.overflow_add-i
-overflow_add-i c = search searching
-
-pub checks-smaller : goal.checks-smaller
-checks-smaller c = search searching
 
 pub checks-preserved : goal.checks-preserved
 checks-preserved c =
@@ -56,18 +20,8 @@ checks-preserved c =
     let a = c.args in (
       omega arith,
       l.invariant.1,
-      l.invariant.2,
-      checks-more c.apply.new.disk a.checks (Range 0) a.m l.i c.check_holds.result (omega arith) c.requires.1.0 c.search.invariant.1 l.invariant.3 c.check_holds.ensures (ap not c.if-not-check_holds.false),
+      checks-more c.apply.new.disk a.checks (Range 0) a.m l.i c.check_holds.result (omega arith) c.requires.1.0 c.search.invariant.1 l.invariant.2 c.check_holds.ensures (ap not c.if-not-check_holds.false),
     )
-
-pub restore-requires : goal.restore-requires
-restore-requires c = search searching
-
-pub overflow_add-k-in-search : goal.overflow_add-k-in-search
-overflow_add-k-in-search c = search searching
-
-pub search-smaller : goal.search-smaller
-search-smaller c = search searching
 
 pub search-preserved : goal.search-preserved
 search-preserved c =
@@ -78,12 +32,11 @@ search-preserved c =
       omega arith,
       o.invariant.1,
       c.restore.ensures ∙ restored-run a.stores.now a.base.now 0 a.n _ disk c.requires.1.1 l.invariant.1,
-      l.invariant.2,
-      clear_pass _ _ _ _ o.k a.m l.i _ disk refl l.invariant.1 o.invariant.4 (omega arith) (omega arith) l.invariant.3,
+      clear_pass _ _ _ _ o.k a.m l.i _ disk refl l.invariant.1 o.invariant.3 (omega arith) (omega arith) l.invariant.2,
     )
 
-pub returns-after-search : goal.returns-after-search
-returns-after-search c = search searching
+pub returns : goal.returns
+returns c = search searching
 
 pub returns-then-not-check_holds : goal.returns-then-not-check_holds
 returns-then-not-check_holds c =
@@ -91,5 +44,5 @@ returns-then-not-check_holds c =
     let o = c.search in
     let a = c.args in
     let disk = c.apply.new.disk in
-    stops_here _ _ _ _ o.k a.m l.i _ disk refl l.invariant.1 a.many o.invariant.4 (omega arith)
+    stops_here _ _ _ _ o.k a.m l.i _ disk refl l.invariant.1 a.many o.invariant.3 (omega arith)
     (checks_stop disk a.checks (Range 0) a.m l.i c.check_holds.result (omega arith) c.requires.1.0 o.invariant.1 c.check_holds.ensures (ap not c.if-not-check_holds.true))

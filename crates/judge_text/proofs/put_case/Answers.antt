@@ -2,14 +2,8 @@
 use Rattle.judge_text.proofs.TextLaws.{texts}
 use Rattle.judge_text.proofs.put_case.Goals as goal
 
-pub judge_test-j-requires : goal.judge_test-j-requires
-judge_test-j-requires c = search texts
-
 pub put_line-requires : goal.put_line-requires
 put_line-requires c = search texts
-
-pub shape_of-out : goal.shape_of-out
-shape_of-out c = search texts
 
 pub returns : goal.returns
 returns c = search texts

@@ -5,29 +5,8 @@ use Rattle.judge_text.proofs.put_cases.Goals as goal
 pub loop-i-init : goal.loop-i-init
 loop-i-init c = search texts
 
-pub offset_bounds-tests-i : goal.offset_bounds-tests-i
-offset_bounds-tests-i c = search texts
-
-pub bounds-tests-i : goal.bounds-tests-i
-bounds-tests-i c = search texts
-
-pub overflow_add-i : goal.overflow_add-i
-overflow_add-i c = search texts
-
 pub put_case-at-requires : goal.put_case-at-requires
 put_case-at-requires c = ((search texts, search texts), (search texts, c.requires.1.1 _ (search texts)))
 
-pub overflow_add-i-in-loop-i : goal.overflow_add-i-in-loop-i
-overflow_add-i-in-loop-i c = search texts
-
-pub loop-i-smaller : goal.loop-i-smaller
-loop-i-smaller c = search texts
-
 pub loop-i-preserved : goal.loop-i-preserved
 loop-i-preserved c = search texts
-
-pub shape_of-out : goal.shape_of-out
-shape_of-out c = search texts
-
-pub returns : goal.returns
-returns c = search texts

@@ -9,6 +9,3 @@ use Rattle.judge_text.proofs.put_cases.Given as goal
 
 abbrev pub invariant-loop-i : goal.invariant-loop-i
 invariant-loop-i l = (l.i ≤ l.n) × (l.at ≤ test_length * l.i) × (length l.out ≡ length l.initial.out) × Wrote l.initial.out 0 (case_lines (rules_of l.rules) l.file l.tests l.i) l.out l.at
-
-abbrev pub decreases-loop-i : goal.decreases-loop-i
-decreases-loop-i l = l.n - l.i

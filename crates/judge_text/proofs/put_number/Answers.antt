@@ -5,8 +5,5 @@ use Rattle.judge_text.proofs.put_number.Goals as goal
 pub put_decimal-requires : goal.put_decimal-requires
 put_decimal-requires c = search line_steps
 
-pub shape_of-out : goal.shape_of-out
-shape_of-out c = search line_steps
-
 pub returns : goal.returns
 returns c = search line_steps
