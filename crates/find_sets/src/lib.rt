@@ -21,7 +21,6 @@ pub fn comes_before(a: Rule, b: Rule) -> bool
 
 // How many of the rules held, from the front on, come before a rule.
 fn place(c: Rules, rule: Rule) -> usize
-    requires { c.count ≤ most_rules }
     ensures place { result ≡ length (take_while (λ q. before q rule) (rules_of c)) }
     ensures most { result ≤ c.count }
 {
@@ -60,7 +59,6 @@ pub fn insert(c: Rules, rule: Rule) -> Rules
 
 // The set of a number.
 pub fn pick(c: Rules, m: u64) -> Rules
-    requires { c.count ≤ most_rules }
     ensures { (rules_of result ≡ picked (rules_of c) m) × (result.count ≤ c.count) }
 {
     let mut items = c.items;

@@ -1,10 +1,13 @@
 // Rule sets, and which labels a rule pairs.
 #![tactic(auto)]
 
-ghost use Rattle.std.specs.Prelude.{◌≡◌, [], ◌≤◌};
+ghost use Rattle.std.specs.Prelude.{◌≡◌, ◌≤◌};
 ghost use Rattle.model.specs.Limits.{most_rules};
 ghost use Rattle.model.specs.Rules.{label, stands, matches};
-ghost use Rattle.rule_match.specs.Held.{rules_of};
+
+mod held;
+
+pub use held::none;
 
 use model::Rule;
 
@@ -13,18 +16,7 @@ use model::Rule;
 pub struct Rules {
     pub items: [Rule; model::MOST_RULES],
     pub count: usize,
-}
-
-// No rules.
-pub fn none() -> Rules
-    ensures { (rules_of result ≡ []) × (result.count ≡ 0) }
-{
-    let items = [Rule {
-        first: 0,
-        predicate: 0,
-        second: 0,
-    }; model::MOST_RULES];
-    Rules { items, count: 0 }
+    pub ghost within: { count ≤ most_rules },
 }
 
 // Whether epochs t and u stand in the relation of a predicate.

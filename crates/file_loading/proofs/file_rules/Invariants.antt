@@ -7,7 +7,4 @@ use Rattle.file_format.specs.Scan.{field_place, rules_at}
 use Rattle.file_loading.proofs.file_rules.Given as goal
 
 abbrev pub invariant-loop-i : goal.invariant-loop-i
-invariant-loop-i l = (l.i ≤ l.n) × (length l.out.items ≡ most_rules) × (l.out.count ≡ l.n) × (l.at ≡ field_place l.file 0 l.i) × (take l.i l.out.items ≡ rules_at l.file l.i)
-
-abbrev pub decreases-loop-i : goal.decreases-loop-i
-decreases-loop-i l = l.n - l.i
+invariant-loop-i l = (l.i ≤ l.n) × (length l.out.0 ≡ most_rules) × (l.out.1.0 ≡ l.n) × (l.at ≡ field_place l.file 0 l.i) × (take l.i l.out.0 ≡ rules_at l.file l.i)
