@@ -41,7 +41,7 @@ struct LoadedCase {
 
 // The test that stands at an extent, loaded for judging under these rules.
 fn load_case(file: &[u8], rules: Rules, e: Extent) -> LoadedCase
-    requires { (rules.count ≤ most_rules) × Inside file.now e }
+    requires { Inside file.now e }
     ensures { LoadsCase (case_at (rules_of rules) file.now e) result }
 {
     let test = judge_loading::load_test(file, e);
@@ -53,7 +53,7 @@ fn load_case(file: &[u8], rules: Rules, e: Extent) -> LoadedCase
 
 // All of a test's schedules counted, under these rules.
 pub fn judge_test(file: &[u8], rules: Rules, e: Extent) -> Judgement
-    requires { (rules.count ≤ most_rules) × Inside file.now e }
+    requires { Inside file.now e }
     ensures { (result ≡ judgement_of (case_at (rules_of rules) file.now e)) × FewNumbers result }
 {
     let LoadedCase { test, checks, rows } = load_case(file, rules, e);
@@ -69,7 +69,7 @@ pub fn judge_test(file: &[u8], rules: Rules, e: Extent) -> Judgement
 
 // The verdict on a test, under these rules: the smallest bad schedule, if there is one.
 fn decide_test(file: &[u8], rules: Rules, e: Extent) -> Option<u64>
-    requires { (rules.count ≤ most_rules) × Inside file.now e }
+    requires { Inside file.now e }
     ensures { result ≡ verdict_of (case_at (rules_of rules) file.now e) }
 {
     let LoadedCase {

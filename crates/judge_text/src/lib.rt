@@ -96,7 +96,7 @@ fn put_line(out: &mut [u8], at: usize, k: u64, valid: u64, bad: u64) -> usize
 
 // The line of test k, which stands at an extent.
 fn put_case(out: &mut [u8], at: usize, file: &[u8], rules: Rules, e: Extent, k: u64) -> usize
-    requires { ((at + test_length ≤ length out.old) × Digits test_digits k) × ((rules.count ≤ most_rules) × Inside file.now e) }
+    requires { ((at + test_length ≤ length out.old) × Digits test_digits k) × Inside file.now e }
     ensures { Wrote out.old at (test_line k (valid_count (rules_of rules) (test_at file.now e)) (bad_count (rules_of rules) (test_at file.now e))) out.new result × (result ≤ at + test_length) }
 {
     let j = judge_cases::judge_test(file, rules, e);
@@ -111,7 +111,7 @@ fn put_cases(
     tests: [Extent; model::MOST_TESTS],
     n: usize,
 ) -> usize
-    requires { ((n ≤ most_tests) × (text_length ≤ length out.old)) × ((rules.count ≤ most_rules) × AllInside file.now tests n) }
+    requires { ((n ≤ most_tests) × (text_length ≤ length out.old)) × AllInside file.now tests n }
     ensures { Wrote out.old 0 (case_lines (rules_of rules) file.now tests n) out.new result × (result ≤ text_length) }
 {
     let mut at: usize = 0;

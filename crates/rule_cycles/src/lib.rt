@@ -11,7 +11,7 @@ ghost use Rattle.model.specs.Cyclic.{leads, has, equal_leads, meets, cyclic};
 ghost use Rattle.rule_match.specs.Held.{rules_of};
 ghost use Rattle.rule_cycles.specs.Links.{linked, Buckets, near, Suspects, meets_by};
 
-use model::Rule;
+use model::{MOST_RULES, Rule};
 use rule_match::Rules;
 
 // All numbers below 64, and so all rules.
@@ -19,7 +19,6 @@ const ALL: u64 = 18446744073709551615;
 
 // The rules with a predicate.
 fn having(rules: Rules, predicate: u16) -> u64
-    requires { rules.count ≤ most_rules }
     ensures { result ≡ mask_of (has (rules_of rules) predicate) rules.count }
 {
     let mut mask: u64 = 0;
@@ -42,8 +41,7 @@ fn row(led: u64, i: usize, among: u64) -> u64
 
 // The table of which rule of a set leads to which. (Both loops stand here, and in no function of their own, so
 // that the rules are not copied for each of them.)
-fn fill(rows: &mut [u64], rules: Rules, among: u64)
-    requires { (rules.count ≤ most_rules) × (length rows.old ≡ most_rules) }
+fn fill(rows: &mut [u64; MOST_RULES], rules: Rules, among: u64)
     ensures { take rules.count rows.new ≡ rows_of (linked among (rules_of rules)) rules.count }
 {
     'rules: for i in 0..rules.count {
@@ -63,8 +61,8 @@ fn bucket(name: u16) -> usize
 }
 
 // The rules by the lowest six bits of their first names.
-fn fill_buckets(buckets: &mut [u32], rules: Rules)
-    requires { (rules.count ≤ most_rules) × ((length buckets.old ≡ 64) × Blank 64 buckets.old) }
+fn fill_buckets(buckets: &mut [u32; 64], rules: Rules)
+    requires { Blank 64 buckets.old }
     ensures { Buckets (rules_of rules) rules.count buckets.new }
 {
     for j in 0..rules.count {
@@ -85,8 +83,8 @@ fn apart(row: u64, i: usize, predicate: u16) -> u64
 }
 
 // The table of which rule may lead to which of a set, by buckets.
-fn fill_near(rows: &mut [u64], buckets: &[u32], rules: Rules, among: u64)
-    requires { ((rules.count ≤ most_rules) × (length rows.old ≡ most_rules)) × ((length buckets.now ≡ 64) × Buckets (rules_of rules) rules.count buckets.now) }
+fn fill_near(rows: &mut [u64; MOST_RULES], buckets: &[u32; 64], rules: Rules, among: u64)
+    requires { Buckets (rules_of rules) rules.count buckets.now }
     ensures { take rules.count rows.new ≡ rows_of (near among (rules_of rules)) rules.count }
 {
     for i in 0..rules.count {
@@ -98,8 +96,7 @@ fn fill_near(rows: &mut [u64], buckets: &[u32], rules: Rules, among: u64)
 // Whether rules of a set may lead round, told by the lowest bits of their names. Where they may not, there is
 // no ring of = rules, nor one of a > and a < rule; where they may, names have to be compared, each with each.
 // (It, equal_ring and mixed_ring are lent one table to work in, whatever it holds.)
-fn may_ring(rows: &mut [u64], rules: Rules, among: u64) -> bool
-    requires { (rules.count ≤ most_rules) × (length rows.old ≡ most_rules) }
+fn may_ring(rows: &mut [u64; MOST_RULES], rules: Rules, among: u64) -> bool
     ensures { result ≡ has_ring (near among (rules_of rules)) rules.count }
 {
     if among == 0 {
@@ -112,8 +109,8 @@ fn may_ring(rows: &mut [u64], rules: Rules, among: u64) -> bool
 }
 
 // Whether rule is a < rule, and i and j reach each other.
-fn meets_at(rows: &[u64], rule: Rule, i: usize, j: usize) -> bool
-    requires { ((i < most_rules) × (j < most_rules)) × (length rows.now ≡ most_rules) }
+fn meets_at(rows: &[u64; MOST_RULES], rule: Rule, i: usize, j: usize) -> bool
+    requires { (i < most_rules) × (j < most_rules) }
     ensures { result ≡ meets_by rule rows.now i j }
 {
     if rule.predicate != 2 {
@@ -126,8 +123,7 @@ fn meets_at(rows: &[u64], rule: Rule, i: usize, j: usize) -> bool
 }
 
 // Whether some > rule and some < rule reach each other.
-fn rules_meet(rows: &[u64], rules: Rules) -> bool
-    requires { (rules.count ≤ most_rules) × (length rows.now ≡ most_rules) }
+fn rules_meet(rows: &[u64; MOST_RULES], rules: Rules) -> bool
     ensures { result ≡ meets (rules_of rules) rows.now }
 {
     'greater: for i in 0..rules.count {
@@ -145,7 +141,6 @@ fn rules_meet(rows: &[u64], rules: Rules) -> bool
 
 // The rules that a ring can be made of: the = rules, and all where there are both > and < rules.
 fn suspects(rules: Rules) -> u64
-    requires { rules.count ≤ most_rules }
     ensures { Suspects (rules_of rules) rules.count result }
 {
     let equals = having(rules, 0);
@@ -159,8 +154,7 @@ fn suspects(rules: Rules) -> u64
 }
 
 // Whether = rules lead round.
-fn equal_ring(rows: &mut [u64], rules: Rules) -> bool
-    requires { (rules.count ≤ most_rules) × (length rows.old ≡ most_rules) }
+fn equal_ring(rows: &mut [u64; MOST_RULES], rules: Rules) -> bool
     ensures { result ≡ has_ring (equal_leads (rules_of rules)) rules.count }
 {
     fill(rows, rules, having(rules, 0));
@@ -168,8 +162,7 @@ fn equal_ring(rows: &mut [u64], rules: Rules) -> bool
 }
 
 // Whether rules lead round by way of a > and a < rule. Where nothing leads round, nothing is closed.
-fn mixed_ring(rows: &mut [u64], rules: Rules) -> bool
-    requires { (rules.count ≤ most_rules) × (length rows.old ≡ most_rules) }
+fn mixed_ring(rows: &mut [u64; MOST_RULES], rules: Rules) -> bool
     ensures { result ≡ meets (rules_of rules) (closed rules.count (rows_of (leads (rules_of rules)) rules.count)) }
 {
     fill(rows, rules, ALL);
@@ -182,11 +175,10 @@ fn mixed_ring(rows: &mut [u64], rules: Rules) -> bool
 
 // Whether the rules are cyclic. Most sets are told by their names' lowest bits.
 pub fn is_cyclic(rules: Rules) -> bool
-    requires { rules.count ≤ most_rules }
     ensures { result ≡ cyclic (rules_of rules) }
 {
     let among = suspects(rules);
-    let mut rows = [0u64; model::MOST_RULES];
+    let mut rows = [0u64; MOST_RULES];
     if !may_ring(&mut rows, rules, among) {
         return false;
     }
