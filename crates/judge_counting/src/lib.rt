@@ -88,8 +88,10 @@ impl Test<'_, '_, '_> {
             Answer::Yes => t.add_good(self.ties.count_between(schedules)),
             Answer::No => t.add_bad(self.ties.count_between(schedules), schedules.chosen),
             Answer::Open(h) => {
-                let first = self.walk(t, self.ties.without(schedules, h), asked.held);
-                self.walk(first, self.ties.with(schedules, h), asked.held)
+                let left = self.ties.without(schedules, h);
+                let first = self.walk(t, left, asked.held);
+                let right = self.ties.with(schedules, h);
+                self.walk(first, right, asked.held)
             }
         }
     }

@@ -2,7 +2,7 @@
 use Rattle.std.proofs.Common.{refl, take}
 use Rattle.relation.proofs.TableLaws.{blank_made}
 use Rattle.model.specs.Limits.{disk_blocks}
-use Rattle.judge_counting.proofs.WalkLaws.{start-choice, start_says, start-room, count-done, walking}
+use Rattle.judge_counting.proofs.WalkLaws.{start-choice, start_says, start-room, count-done}
 use Rattle.judge_counting.proofs.count_all.Goals as goal
 
 pub fill_writers-requires-clause-blank : goal.fill_writers-requires-clause-blank

@@ -7,6 +7,3 @@ returns-in-Range c = search marking
 
 pub returns-in-Pair : goal.returns-in-Pair
 returns-in-Pair c = search marking
-
-pub returns-in-Pointer : goal.returns-in-Pointer
-returns-in-Pointer c = search marking

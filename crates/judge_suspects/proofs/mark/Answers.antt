@@ -1,9 +1,12 @@
--- `judge_suspects::mark` meets its contract. The invariant: the masks of the checks below k.
+-- `judge_suspects::mark` meets its contract. The invariant: the masks of the checks so far.
 use Rattle.judge_suspects.proofs.MarkLaws.{checking}
 use Rattle.judge_suspects.proofs.mark.Goals as goal
 
-pub loop-k-init : goal.loop-k-init
-loop-k-init c = search checking
+pub loop-c-init : goal.loop-c-init
+loop-c-init c = search checking
 
-pub loop-k-preserved : goal.loop-k-preserved
-loop-k-preserved c = search checking
+pub loop-c-preserved : goal.loop-c-preserved
+loop-c-preserved c = search checking
+
+pub returns : goal.returns
+returns c = search checking

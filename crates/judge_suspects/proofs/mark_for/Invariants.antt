@@ -1,5 +1,5 @@
 -- `judge_suspects::mark_for` meets its contract. The invariant: the masks of the writes below i.
-use Prim.Native.Nat.{◌-◌, ◌≤◌}
+use Prim.Native.Nat.{◌≤◌}
 use Rattle.judge_suspects.specs.Suspects.{MarkedFor}
 use Rattle.judge_suspects.proofs.mark_for.Given as goal
 

@@ -1,6 +1,6 @@
--- `judge_suspects::list_twos` meets its contract. The invariant: the writes below h are listed, with their mates.
+-- `judge_suspects::Brought::list_twos` meets its contract. The invariant: the writes below h are listed, with their mates.
 use Rattle.judge_suspects.proofs.RankLists.{pairing}
-use Rattle.judge_suspects.proofs.list_twos.Goals as goal
+use Rattle.judge_suspects.proofs.Brought.list_twos.Goals as goal
 
 pub loop-h-init : goal.loop-h-init
 loop-h-init c = search pairing

@@ -1,9 +1,9 @@
--- `judge_suspects::list_ones` meets its contract. The invariant: the writes below i are listed.
+-- `judge_suspects::Brought::list_ones` meets its contract. The invariant: the writes below i are listed.
 use mathlib.Core.Path.{ap}
 use mathlib.Core.Bool.{not}
 use native.Mathlib.Omega.{arith}
 use Rattle.judge_suspects.proofs.RankLists.{ones-more, singles}
-use Rattle.judge_suspects.proofs.list_ones.Goals as goal
+use Rattle.judge_suspects.proofs.Brought.list_ones.Goals as goal
 
 pub ones-init : goal.ones-init
 ones-init c = search singles
@@ -14,6 +14,5 @@ ones-preserved c =
     let has = c.has_bit in
     let r = c.rank in (
       search singles,
-      search singles,
-      ones-more _ _ _ l.i l.many _ has.result l.invariant.2 has.ensures r.result _ (ap not c.if-not-has_bit.false) (omega arith) c.requires.1.1 r.ensures c.insert.ensures,
+      ones-more _ _ _ l.i l.many _ has.result l.invariant.1 has.ensures r.result _ (ap not c.if-not-has_bit.false) (omega arith) c.args.self.now.complete r.ensures c.insert.ensures,
     )

@@ -1,9 +1,9 @@
--- `judge_suspects::list_row` meets its contract. The invariant: the writes below l are listed.
+-- `judge_suspects::Brought::list_row` meets its contract. The invariant: the writes below l are listed.
 use mathlib.Core.Path.{ap}
 use mathlib.Core.Bool.{not}
 use native.Mathlib.Omega.{arith}
 use Rattle.judge_suspects.proofs.RankLists.{row_more, rowing}
-use Rattle.judge_suspects.proofs.list_row.Goals as goal
+use Rattle.judge_suspects.proofs.Brought.list_row.Goals as goal
 
 pub returns-then-mask-eq0 : goal.returns-then-mask-eq0
 returns-then-mask-eq0 c = search rowing
@@ -21,6 +21,5 @@ row-preserved c =
     let r = c.rank in
     let p = c.requires in (
       search rowing,
-      search rowing,
-      row_more _ _ _ _ _ _ l.l l.now _ has.result l.invariant.2 has.ensures r.result _ (ap not c.if-not-has_bit.false) (omega arith) p.0.1.1 p.1.1.1.0 r.ensures c.insert.ensures,
+      row_more _ _ _ _ _ _ l.l l.now _ has.result l.invariant.1 has.ensures r.result _ (ap not c.if-not-has_bit.false) (omega arith) p.before c.args.self.now.complete r.ensures c.insert.ensures,
     )
