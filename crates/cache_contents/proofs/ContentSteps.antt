@@ -19,6 +19,7 @@ use Rattle.rule_match.specs.declared.Rules.{Rules}
 use Rattle.rule_match.specs.Held.{rules_of}
 use Rattle.rule_match.proofs.MatchSteps.{length_mapped}
 use Rattle.cache_model.specs.State.{rule_count, accepted_count, rule_base, write_base, rule_in, write_in, rules_in}
+use Rattle.cache_masks.specs.declared.Columns.{Columns}
 use Rattle.cache_contents.specs.Columns.{InColumns}
 
 -- ---- state_rules, write_in
@@ -78,21 +79,20 @@ module _ (s : List ℕ) (i : ℕ) where
     | no n ↦ get_or-set_other l i j x 0 n ∙ old j (let d : j ≢ i = n in omega arith)
   ]
 
-  pub columns-more : (at x z n : ℕ) (addresses names epochs : List ℕ) → at ≡ write_base i → i < n → n ≡ accepted_count s → accepted_count s ≤ most_held
-      → length addresses ≡ most_held → length names ≡ most_held → length epochs ≡ most_held → x ≡ half s (at + 1) → z ≡ word s (at + 3) → InColumns s i addresses names epochs
-      → InColumns s (i + 1) (set addresses i (byte s at)) (set names i x) (set epochs i z)
-  columns-more at x z n addresses names epochs p h m few la ln le ex ez c =
+  pub columns-more : (at x z : ℕ) (c : Columns) → at ≡ write_base i → i < length c.addresses → i < length c.names → i < length c.epochs
+      → x ≡ half s (at + 1) → z ≡ word s (at + 3) → InColumns s i c
+      → InColumns s (i + 1) (record { addresses = set c.addresses i (byte s at); names = set c.names i x; epochs = set c.epochs i z })
+  columns-more at x z c p la ln le ex ez h =
       record {
-        address = grown (λ j. (write_in s j).address) addresses (byte s at) (omega arith) c.address (ap (byte s) p ∙ address_in);
-        name = grown (λ j. (write_in s j).name) names x (omega arith) c.name (ex ∙ ap (λ (k : ℕ). half s (k + 1)) p ∙ name_in);
-        epoch = grown (λ j. (write_in s j).epoch) epochs z (omega arith) c.epoch (ez ∙ ap (λ (k : ℕ). word s (k + 3)) p ∙ epoch_in);
+        address = grown (λ j. (write_in s j).address) c.addresses (byte s at) la h.address (ap (byte s) p ∙ address_in);
+        name = grown (λ j. (write_in s j).name) c.names x ln h.name (ex ∙ ap (λ (k : ℕ). half s (k + 1)) p ∙ name_in);
+        epoch = grown (λ j. (write_in s j).epoch) c.epochs z le h.epoch (ez ∙ ap (λ (k : ℕ). word s (k + 3)) p ∙ epoch_in);
       }
 
-pub columns-begun : (s addresses names epochs : List ℕ) → InColumns s 0 addresses names epochs
-columns-begun s addresses names epochs =
-    record { address = λ i h. absurd (omega arith); name = λ i h. absurd (omega arith); epoch = λ i h. absurd (omega arith) }
+pub columns-begun : (s : List ℕ) (c : Columns) → InColumns s 0 c
+columns-begun s c = record { address = λ i h. absurd (omega arith); name = λ i h. absurd (omega arith); epoch = λ i h. absurd (omega arith) }
 
-pub columns-done : (s addresses names epochs : List ℕ) (i n : ℕ) → n ≡ accepted_count s → i ≤ n → n ≤ i → InColumns s i addresses names epochs → InColumns s (accepted_count s) addresses names epochs
-columns-done s addresses names epochs i n c a b h = let z : i ≡ accepted_count s = omega arith in subst (λ (k : ℕ). InColumns s k addresses names epochs) z h
+pub columns-done : (s : List ℕ) (c : Columns) (i n : ℕ) → n ≡ accepted_count s → i ≤ n → n ≤ i → InColumns s i c → InColumns s (accepted_count s) c
+columns-done s c i n e a b h = let z : i ≡ accepted_count s = omega arith in subst (λ (k : ℕ). InColumns s k c) z h
 
 pub ruleset reading = (rules, length_mapped, rules-begun, rules-more, rules-done, write_read, columns-begun, columns-more, columns-done)

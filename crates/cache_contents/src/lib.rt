@@ -7,6 +7,7 @@ ghost use Rattle.rule_match.specs.Held.{rules_of};
 ghost use Rattle.cache_model.specs.State.{state_size, flag_place, rule_count, accepted_count, rule_base, write_base, write_in, rules_in};
 ghost use Rattle.cache_contents.specs.Columns.{InColumns};
 
+use cache_masks::Columns;
 use model::Write;
 use rule_match::Rules;
 
@@ -60,16 +61,16 @@ pub fn write_in(state: &[u8], i: usize) -> Write
     file_fields::read_wide_write(&state[b..e])
 }
 
-// The addresses, the names and the epochs of the accepted writes, each in a column.
-pub fn fill_columns(addresses: &mut [u8], names: &mut [u16], epochs: &mut [u32], state: &[u8])
-    requires { (length addresses.old ≡ most_held) × ((length names.old ≡ most_held) × ((length epochs.old ≡ most_held) × ((length state.now ≡ state_size) × (accepted_count state.now ≤ most_held)))) }
-    ensures { InColumns state.now (accepted_count state.now) addresses.new names.new epochs.new }
+// The accepted writes in columns.
+pub fn fill_columns(columns: &mut Columns, state: &[u8])
+    requires { (length state.now ≡ state_size) × (accepted_count state.now ≤ most_held) }
+    ensures { InColumns state.now (accepted_count state.now) columns.new }
 {
     let n = usize::from(state[1]);
     for i in 0..n {
         let at = write_place(i);
-        addresses[i] = state[at];
-        names[i] = file_format::half_at(state, at + 1) as u16;
-        epochs[i] = file_format::word_at(state, at + 3);
+        columns.addresses[i] = state[at];
+        columns.names[i] = file_format::half_at(state, at + 1) as u16;
+        columns.epochs[i] = file_format::word_at(state, at + 3);
     }
 }

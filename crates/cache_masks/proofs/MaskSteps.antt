@@ -1,6 +1,6 @@
 -- Masks of a column: one law for each return and each turn of a loop.
 use mathlib.Core.Path.{◌≡◌, refl, sym, ap, ◌∙◌}
-use mathlib.Core.Bool.{cond}
+use mathlib.Core.Bool.{Bool, cond}
 use mathlib.Core.List.{List}
 use Prim.Native.Nat.{ℕ, zero, suc, ◌+◌, ◌-◌, ◌≤◌, ◌<◌}
 use native.Mathlib.Numerals.{add-one}
@@ -11,33 +11,39 @@ use borrow.Author.Rules.{rules}
 use borrow.Author.Tests.{eq-eqb, ne_eqb}
 use Rattle.relation.specs.Bits.{with_bit, mask_of}
 use Rattle.relation.specs.Tables.{Filled}
+use Rattle.relation.proofs.BitLaws.{mask_ext}
+use Rattle.relation.proofs.ListLaws.{get_d_other}
 use Rattle.relation.proofs.TableLaws.{filled_none, filled_more, filled-all}
 use Rattle.model.specs.Limits.{most_held}
 use Rattle.model.specs.Rules.{stands}
 use Rattle.cache_masks.specs.declared.Epochs.{Epochs}
-use Rattle.cache_masks.specs.Masks.{same_mask, same_at, epoch_mask, Compared, standing_by}
+use Rattle.cache_masks.specs.Masks.{equal_mask, same_mask, same_at, epoch_mask, Compared, standing_by}
 
 -- ---- same
 
-module _ (column : List ℕ) (x : ℕ) where
-  pub same-begun : 0 ≡ same_mask column x 0
-  unfolding same_mask mask_of
+module _ {A : Type 0} (eq : A → A → Bool) (column : List A) (x : A) where
+  pub same-begun : 0 ≡ equal_mask eq column x 0
+  unfolding equal_mask mask_of
   same-begun = refl
+
+  pub same_more : (j mask next : ℕ) (y : A) (b : Bool) → j < length column → y ≡ get_or column j y → b ≡ eq y x → mask ≡ equal_mask eq column x j
+      → next ≡ cond b (with_bit mask j) mask → next ≡ equal_mask eq column x (j + 1)
+  unfolding equal_mask mask_of
+  same_more j mask next y b h e q p f = f ∙ rw (add-one j, q, p, e ∙ get_d_other column j y x h)
+
+-- at numbers
+pub same_numbers : (column : List ℕ) (x n : ℕ) → n ≤ length column → equal_mask eqb column x n ≡ same_mask column x n
+unfolding equal_mask same_mask
+same_numbers column x n few = mask_ext _ _ n (λ j h. rw (get_d_other column j x 0 (omega arith)))
+
+module _ (column : List ℕ) (x : ℕ) where
+  pub mask-begun : 0 ≡ same_mask column x 0
+  unfolding same_mask mask_of
+  mask-begun = refl
 
   pub same-suc : (j : ℕ) → same_mask column x (suc j) ≡ cond (eqb (get_or column j 0) x) (with_bit (same_mask column x j) j) (same_mask column x j)
   unfolding same_mask mask_of
   same-suc j = refl
-
-  pub same_more : (j mask next : ℕ) → mask ≡ same_mask column x j → next ≡ cond (eqb (get_or column j 0) x) (with_bit mask j) mask
-      → next ≡ same_mask column x (j + 1)
-  same_more j mask next p f = f ∙ rw (add-one j, p) (sym (same-suc j))
-
-  pub same-done : (j n mask : ℕ) → j ≤ n → n ≤ j → mask ≡ same_mask column x j → mask ≡ same_mask column x n
-  same-done j n mask a b e =
-      let q : j ≡ n = omega arith in
-      rw q at e
-
-pub ruleset same_steps = (rules, same-begun, same_more, same-done)
 
 -- ---- last_same, fill_same
 
@@ -56,7 +62,7 @@ module _ (column : List ℕ) (x n j : ℕ) (some : 0 < j) (known : same_mask col
 pub last_none : (column : List ℕ) (x n j : ℕ) → j ≤ 0 → same_mask column x n ≡ same_mask column x j → 0 ≡ same_mask column x n
 last_none column x n j l e =
     let z : j ≡ 0 = omega arith in
-    rw (e, z) (same-begun column x)
+    rw (e, z) (mask-begun column x)
 
 pub same_next : (column table : List ℕ) (i n s r : ℕ) → i < n → n ≤ most_held → length table ≡ most_held → Filled (same_at column) i table
     → s ≡ same_mask column (get_or column i 0) i → r ≡ with_bit s i → Filled (same_at column) (i + 1) (set table i r)
@@ -98,27 +104,3 @@ module _ (epochs : List ℕ) (t : ℕ) where
   epochs_compared j n x y z a b p q r = (epoch-done 0 j n x a b p, epoch-done 1 j n y a b q, epoch-done 2 j n z a b r)
 
 pub ruleset comparing = (rules, epoch-begun, equal-more, less_more, greater_more, epochs_compared)
-
--- ---- standing
-
-module _ (e : Epochs) (p : ℕ) where
-  pub standing-equal : p ≡ 0 → e.equal ≡ standing_by e p
-  unfolding standing_by
-  standing-equal h = rw h
-
-  pub standing_less : p ≡ 1 → e.less ≡ standing_by e p
-  unfolding standing_by
-  standing_less h = rw h
-
-  pub standing_greater : p ≡ 2 → e.greater ≡ standing_by e p
-  unfolding standing_by
-  standing_greater h = rw h
-
-pub standing-other : (e : Epochs) (p : ℕ) → (p ≡ 0 → ⊥) → (p ≡ 1 → ⊥) → (p ≡ 2 → ⊥) → 0 ≡ standing_by e p
-unfolding standing_by
-standing-other e zero a b c = absurd (a refl)
-standing-other e (suc zero) a b c = absurd (b refl)
-standing-other e (suc (suc zero)) a b c = absurd (c refl)
-standing-other e (suc (suc (suc p))) a b c = refl
-
-pub ruleset standings = (rules, standing-equal, standing_less, standing_greater, standing-other)

@@ -8,6 +8,7 @@ use native.Mathlib.Numerals.{add-one}
 use native.Mathlib.Omega.{arith}
 use lib.Bits.{bit_or}
 use lib.Dec.{eqb, ltb}
+use mir.Val.{bool_byte}
 use lib.ListN.{length, get_or, set}
 use lib.Seq.{get_or-set_same, get_or-set_other}
 use borrow.Author.Rules.{rules}
@@ -21,15 +22,14 @@ use Rattle.relation.proofs.TableLaws.{filled_none, filled_more, filled-all}
 use Rattle.model.specs.Limits.{most_held}
 use Rattle.cache_masks.specs.Ranks.{smaller, rank_of, rank_at, bounds, SmallRanks, next_mask, below_mask, union_to, standing_in}
 
--- ---- one_more, rank, next_rank, fill_ranks
+-- ---- rank, next_rank, fill_ranks
 
-pub one_more : (more : Bool) (count : ℕ) → more ≡ true → count + 1 ≡ cond more (count + 1) count
-one_more more count e = rw e
+-- a test counts one, or nothing
+pub counted_one : (more : Bool) (count : ℕ) → count + bool_byte more ≡ cond more (count + 1) count
+counted_one true count = refl
+counted_one false count = omega arith
 
-pub no_more : (more : Bool) (count : ℕ) → more ≡ false → count ≡ cond more (count + 1) count
-no_more more count e = rw e
-
-pub count_most : (more : Bool) (count next j : ℕ) → count ≤ j → next ≡ cond more (count + 1) count → next ≤ j + 1
+count_most : (more : Bool) (count next j : ℕ) → count ≤ j → next ≡ cond more (count + 1) count → next ≤ j + 1
 count_most true count next j l e = omega arith
 count_most false count next j l e = omega arith
 
@@ -42,9 +42,11 @@ module _ (epochs : List ℕ) (t : ℕ) where
   unfolding smaller
   smaller-suc j = refl
 
-  pub smaller-more : (j count next : ℕ) → count ≡ smaller epochs t j → next ≡ cond (ltb (get_or epochs j 0) t) (count + 1) count
-      → next ≡ smaller epochs t (j + 1)
-  smaller-more j count next p f = f ∙ rw (add-one j, p) (sym (smaller-suc j))
+  pub smaller-more : (j count one : ℕ) → count ≤ j → count ≡ smaller epochs t j → one ≡ bool_byte (ltb (get_or epochs j 0) t)
+      → (count + one ≤ j + 1) × (count + one ≡ smaller epochs t (j + 1))
+  smaller-more j count one l p e =
+      let f : count + one ≡ cond (ltb (get_or epochs j 0) t) (count + 1) count = rw e (counted_one (ltb (get_or epochs j 0) t) count) in
+      (count_most (ltb (get_or epochs j 0) t) count (count + one) j l f, f ∙ rw (add-one j, p) (sym (smaller-suc j)))
 
   pub smaller-done : (j count : ℕ) → j ≤ most_held → most_held ≤ j → count ≡ smaller epochs t j → count ≡ rank_of epochs t
   unfolding rank_of
@@ -75,7 +77,7 @@ pub ranks-more : (epochs ranks : List ℕ) (i n r : ℕ) → i < n → n ≤ mos
 unfolding rank_at
 ranks-more epochs ranks i n r h few all filled e = filled_more (rank_at epochs) i ranks r filled (omega arith) e
 
-pub ruleset ranking = (rules, one_more, no_more, count_most, smaller-begun, smaller-more, smaller-done, rank-kept, rank-zero, ranks-more, filled_none, filled-all)
+pub ruleset ranking = (rules, smaller-begun, smaller-more, smaller-done, rank-kept, rank-zero, ranks-more, filled_none, filled-all)
 
 -- ---- mark_ranks
 
@@ -193,27 +195,3 @@ belows_filled ranks old table n marks joins = record { at = λ r h. joins.at r h
         (mask_or _ _ n ∙ mask_ext _ _ n (λ j l. below-suc-is (get_or ranks j 0) r))
 
 pub ruleset filling = (rules, belows_filled)
-
--- ---- standing_in
-
-module _ (belows : List ℕ) (r p m : ℕ) where
-  pub in_equal : p ≡ 0 → m ≡ without (get_or belows (r + 1) 0) (get_or belows r 0) → m ≡ standing_in belows r p
-  unfolding standing_in
-  in_equal h e = rw h e
-
-  pub in_greater : p ≡ 2 → m ≡ without (get_or belows most_held 0) (get_or belows (r + 1) 0) → m ≡ standing_in belows r p
-  unfolding standing_in
-  in_greater h e = rw h e
-
-pub in_less : (belows : List ℕ) (r p : ℕ) → p ≡ 1 → get_or belows r 0 ≡ standing_in belows r p
-unfolding standing_in
-in_less belows r p h = rw h
-
-pub in_other : (belows : List ℕ) (r p : ℕ) → (p ≡ 0 → ⊥) → (p ≡ 1 → ⊥) → (p ≡ 2 → ⊥) → 0 ≡ standing_in belows r p
-unfolding standing_in
-in_other belows r zero a b c = absurd (a refl)
-in_other belows r (suc zero) a b c = absurd (b refl)
-in_other belows r (suc (suc zero)) a b c = absurd (c refl)
-in_other belows r (suc (suc (suc p))) a b c = refl
-
-pub ruleset inside = (rules, in_equal, in_less, in_greater, in_other)

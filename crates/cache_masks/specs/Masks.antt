@@ -1,10 +1,14 @@
 -- Columns as masks: where an entry stands, and which epochs stand to one as a predicate says.
-use Rattle.std.specs.Prelude.{ℕ, zero, suc, ◌≡◌, List, eqb, get_or}
+use Rattle.std.specs.Prelude.{ℕ, zero, suc, ◌≡◌, Bool, List, eqb, get_or}
 use Rattle.relation.specs.Bits.{mask_of}
 use Rattle.model.specs.Rules.{stands}
 use Rattle.cache_masks.specs.declared.Epochs.{Epochs}
 
--- which of the first n entries of a column are x
+-- which of the first n entries of a column are x, by an equality of its entries
+unfoldable pub equal_mask : {A : Type 0} → (A → A → Bool) → List A → A → ℕ → ℕ
+equal_mask eq column x n = mask_of (λ j. eq (get_or column j x) x) n
+
+-- .., of numbers
 unfoldable pub same_mask : List ℕ → ℕ → ℕ → ℕ
 same_mask column x n = mask_of (λ j. eqb (get_or column j 0) x) n
 

@@ -25,24 +25,21 @@ use Rattle.rule_match.specs.Held.{item_at, rules_of}
 use Rattle.rule_match.proofs.MatchSteps.{length_mapped}
 use Rattle.cache_masks.specs.Columns.{columned}
 use Rattle.cache_masks.specs.declared.Epochs.{Epochs}
-use Rattle.cache_masks.specs.Masks.{same_mask, same_at, epoch_mask, Compared, standing_by, turned_round}
+use Rattle.cache_masks.specs.Masks.{equal_mask, same_mask, same_at, epoch_mask, Compared, standing_by, turned_round}
 use Rattle.cache_masks.specs.Ranks.{rank_at, bounds, SmallRanks, below_mask}
+use Rattle.cache_masks.proofs.MaskSteps.{same_numbers}
 use Rattle.cache_masks.proofs.MaskLaws.{standing_mask, back-mask}
 use Rattle.cache_masks.proofs.RankLaws.{standing-ranks}
+use Rattle.cache_needs.specs.declared.Tables.{Tables}
 use Rattle.cache_needs.specs.Needed.{needs_row, needed_mask, dependent_mask}
 use Rattle.cache_needs.specs.Tables.{earlier_at, SmallOf, added_to, Added, Prepared, Joins, Adds}
 use Rattle.cache_needs.proofs.NeedLaws.{added_both, filled-take, row-none, needed-none, dependents-none, row_next, needed-next, dependents-next}
 
 -- ---- with_named
 
-pub named_off : (on : Bool) (mask x : ℕ) → not on ≡ true → mask ≡ cond on x mask
-named_off on mask x e = rw (not-true on e)
-
-pub named_on : (on : Bool) (mask x standing named : ℕ) → not on ≡ false → x ≡ named
-    → bit_or mask (bit_and x standing) ≡ cond on (bit_or mask (bit_and named standing)) mask
-named_on on mask x standing named e q = rw (not-false on e, q)
-
-pub ruleset naming = (rules, named_off, named_on)
+pub named_on : (on : Bool) (names : List ℕ) (mask x standing name n : ℕ) → on ≡ true → n ≤ length names → x ≡ equal_mask eqb names name n
+    → bit_or mask (bit_and x standing) ≡ cond on (bit_or mask (bit_and (same_mask names name n) standing)) mask
+named_on on names mask x standing name n e few q = rw (e, q, same_numbers names name n few)
 
 -- ---- run_from
 
@@ -66,16 +63,15 @@ same_bit : (names : List ℕ) (x n i : ℕ) → bit (same_mask names x n) i ≡ 
 unfolding same_mask
 same_bit names x n i = bit_mask (λ j. eqb (get_or names j 0) x) n i
 
-module _ (names : List ℕ) (n : ℕ) (alike ranks belows : List ℕ) where
-  pub firsts_small : (x firsts : ℕ) → Prepared names n alike ranks belows → firsts ≡ same_mask names x n → SmallOf firsts ranks
+module _ (names : List ℕ) (n : ℕ) (t : Tables) where
+  pub firsts_small : (x firsts : ℕ) → Prepared names n t → firsts ≡ same_mask names x n → SmallOf firsts t.ranks
   firsts_small x firsts ready e = record {
     at = λ i b. ready.ranks-small.at i
         (ltb-true i n (and_left (ltb i n) (eqb (get_or names i 0) x) (sym (same_bit names x n i) ∙ ap (λ (m : ℕ). bit m i) (sym e) ∙ b)));
   }
 
-  pub tables_ready : length names ≡ most_held → length alike ≡ most_held → length ranks ≡ most_held → length belows ≡ bounds → Filled (same_at names) n alike → SmallRanks n ranks
-      → Prepared names n alike ranks belows
-  tables_ready z a b c d e = record { names-long = z; alike-long = a; ranks-long = b; belows_long = c; alike-filled = d; ranks-small = e }
+  pub tables_ready : Filled (same_at names) n t.alike → SmallRanks n t.ranks → Prepared names n t
+  tables_ready d e = record { alike-filled = d; ranks-small = e }
 
 module _ (names : List ℕ) (n : ℕ) (rules : Rules) (ranks belows old : List ℕ) where
   pub adds_begun : Adds (take 0 rules.items) names n ranks belows old old
@@ -123,8 +119,8 @@ pub ruleset filling = (rules, blank_made, tables_ready, needs-filled)
 -- ---- needed, dependents
 
 module _ (addresses names epochs : List ℕ) (n : ℕ) (rules : Rules) (w : Write) where
-  pub needed-begun : (m : ℕ) → m ≡ same_mask addresses w.address n → m ≡ needed_mask (take 0 rules.items) (columned addresses names epochs n) w n
-  needed-begun m e = e ∙ needed-none addresses names epochs n w
+  pub needed-begun : (m : ℕ) → n ≤ length addresses → m ≡ equal_mask eqb addresses w.address n → m ≡ needed_mask (take 0 rules.items) (columned addresses names epochs n) w n
+  needed-begun m few e = e ∙ same_numbers addresses w.address n few ∙ needed-none addresses names epochs n w
 
   pub needed-done : (k m : ℕ) → k ≤ rules.count → rules.count ≤ k → m ≡ needed_mask (take k rules.items) (columned addresses names epochs n) w n
       → m ≡ needed_mask (rules_of rules) (columned addresses names epochs n) w n

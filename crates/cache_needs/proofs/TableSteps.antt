@@ -20,7 +20,7 @@ use Rattle.relation.proofs.TableLaws.{filled_none, filled_more, filled-all}
 use Rattle.model.specs.Limits.{most_held, disk_blocks}
 use Rattle.cache_masks.specs.Masks.{same_mask}
 use Rattle.cache_masks.specs.Ranks.{standing_in}
-use Rattle.cache_masks.proofs.MaskSteps.{same-begun, same-suc}
+use Rattle.cache_masks.proofs.MaskSteps.{mask-begun, same-suc}
 use Rattle.cache_needs.specs.Tables.{behind_of, earlier_at, Lasts, SmallOf, added_to, Added}
 
 -- ---- behind
@@ -43,7 +43,7 @@ pub ruleset behinds = (rules, behind-none, behind-some)
 pub lasts_begun : (addresses rows : List ℕ) → Lasts addresses 0 rows (replicate disk_blocks 0)
 lasts_begun addresses rows = record {
   place = λ a h. let z = get_or-replicate {A = ℕ} disk_blocks a 0 0 h in omega (arith, z);
-  tells = λ a h. rw (get_or-replicate {A = ℕ} disk_blocks a 0 0 h) (sym (same-begun addresses a) ∙ unfold behind_of in refl);
+  tells = λ a h. rw (get_or-replicate {A = ℕ} disk_blocks a 0 0 h) (sym (mask-begun addresses a) ∙ unfold behind_of in refl);
 }
 
 -- a row that is filled later changes nothing

@@ -10,6 +10,7 @@ use Rattle.rule_match.specs.Held.{item_at}
 use Rattle.cache_masks.specs.Masks.{same_mask, same_at, epoch_mask}
 use Rattle.cache_masks.specs.Ranks.{rank_at, below_mask, standing_in, bounds, SmallRanks}
 use Rattle.cache_masks.specs.Columns.{columned}
+use Rattle.cache_needs.specs.declared.Tables.{Tables}
 use Rattle.cache_needs.specs.Needed.{needs_row}
 
 -- a write at a place from 1 and its row; nothing for 0
@@ -38,15 +39,11 @@ pub record Lasts (addresses : List ℕ) (i : ℕ) (rows last : List ℕ) : Type 
   pub place : (a : ℕ) → a < disk_blocks → get_or last a 0 ≤ i
   pub tells : (a : ℕ) → a < disk_blocks → same_mask addresses a i ≡ behind_of rows (get_or last a 0)
 
--- the tables that serve every rule: for each write those up to it with its name, a rank below 64, and a table by ranks. (That these two are
+-- the tables that serve every rule: for each write those up to it with its name, and a rank below 64. (That the ranks and the table by ranks are
 -- those of the epochs is asked in `Adds`)
-pub record Prepared (names : List ℕ) (n : ℕ) (alike ranks belows : List ℕ) : Type 0 where
-  pub names-long : length names ≡ most_held
-  pub alike-long : length alike ≡ most_held
-  pub ranks-long : length ranks ≡ most_held
-  pub belows_long : length belows ≡ bounds
-  pub alike-filled : Filled (same_at names) n alike
-  pub ranks-small : SmallRanks n ranks
+pub record Prepared (names : List ℕ) (n : ℕ) (t : Tables) : Type 0 where
+  pub alike-filled : Filled (same_at names) n t.alike
+  pub ranks-small : SmallRanks n t.ranks
 
 -- the rules from k up to, but not with, e add to the rows of rule k's first name those of seconds to whose epochs the row's own stands as
 -- rule k's predicate says, and nothing else

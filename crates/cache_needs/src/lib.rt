@@ -9,19 +9,20 @@ ghost use Rattle.relation.specs.Finite.{rows_of};
 ghost use Rattle.model.specs.Limits.{most_rules, most_held};
 ghost use Rattle.model.specs.Needs.{needs};
 ghost use Rattle.rule_match.specs.Held.{item_at, rules_of};
-ghost use Rattle.cache_masks.specs.Columns.{columned};
+ghost use Rattle.cache_masks.specs.Columns.{writes_of};
 ghost use Rattle.cache_masks.specs.Masks.{same_mask, same_at};
 ghost use Rattle.cache_masks.specs.Ranks.{rank_at, below_mask, bounds};
 ghost use Rattle.cache_needs.specs.Needed.{needed_mask, dependent_mask};
 ghost use Rattle.cache_needs.specs.Tables.{behind_of, earlier_at, Added, SmallOf, Prepared, Joins, Adds};
 
+use cache_masks::Columns;
 use model::{Rule, Write};
 use rule_match::Rules;
 
 // What a write to an address needs of the earlier ones, by the place, from 1, of the last of them: this one and
 // what it needs itself; 0 is for none.
-fn behind(rows: &[u64], place: usize) -> u64
-    requires { (length rows.now ≡ most_held) × (place ≤ most_held) }
+fn behind(rows: &[u64; model::MOST_HELD], place: usize) -> u64
+    requires { place ≤ most_held }
     ensures { result ≡ behind_of rows.now place }
 {
     if place == 0 {
@@ -31,9 +32,13 @@ fn behind(rows: &[u64], place: usize) -> u64
 }
 
 // For each write the earlier ones to its address.
-fn fill_earlier(rows: &mut [u64], addresses: &[u8], n: usize)
-    requires { (length rows.old ≡ most_held) × ((length addresses.now ≡ most_held) × (n ≤ most_held)) }
-    ensures { (length rows.new ≡ most_held) × Filled (earlier_at addresses.now) n rows.new }
+fn fill_earlier(
+    rows: &mut [u64; model::MOST_HELD],
+    addresses: &[u8; model::MOST_HELD],
+    n: usize,
+)
+    requires { n ≤ most_held }
+    ensures { Filled (earlier_at addresses.now) n rows.new }
 {
     let mut last = [0u8; model::DISK_BLOCKS];
     for i in 0..n {
@@ -43,15 +48,42 @@ fn fill_earlier(rows: &mut [u64], addresses: &[u8], n: usize)
     }
 }
 
+// The tables that serve every rule: for each write those up to it with its name, and its epoch's rank; and for each
+// rank the writes of lower ones.
+#[derive(Drop)]
+pub struct Tables {
+    pub alike: [u64; model::MOST_HELD],
+    pub ranks: [u8; model::MOST_HELD],
+    pub belows: [u64; cache_masks::BOUNDS],
+}
+
+// Tables to be filled.
+pub fn no_tables() -> Tables
+    ensures { Blank bounds result.belows }
+{
+    Tables {
+        alike: [0; model::MOST_HELD],
+        ranks: [0; model::MOST_HELD],
+        belows: [0; cache_masks::BOUNDS],
+    }
+}
+
 // Each row of firsts gets those of seconds to whose epochs its own, by its rank, stands as a predicate says.
-fn add_to(rows: &mut [u64], firsts: u64, seconds: u64, p: u16, ranks: &[u8], belows: &[u64])
-    requires { (length rows.old ≡ most_held) × ((length ranks.now ≡ most_held) × ((length belows.now ≡ bounds) × SmallOf firsts ranks.now)) }
-    ensures { (length rows.new ≡ most_held) × Added rows.old firsts seconds p ranks.now belows.now 0 rows.new }
+fn add_to(
+    rows: &mut [u64; model::MOST_HELD],
+    firsts: u64,
+    seconds: u64,
+    p: u16,
+    tables: &Tables,
+)
+    requires { SmallOf firsts tables.now.ranks }
+    ensures { Added rows.old firsts seconds p tables.now.ranks tables.now.belows 0 rows.new }
 {
     let mut left = firsts;
     while left != 0 {
         let i = relation::lowest(left);
-        rows[i] = rows[i] | (seconds & cache_masks::standing_in(belows, usize::from(ranks[i]), p));
+        let r = usize::from(tables.ranks[i]);
+        rows[i] |= seconds & cache_masks::standing_in(&tables.belows, r, p);
         left = relation::without(left, 1 << i);
     }
 }
@@ -66,8 +98,14 @@ struct Run {
 }
 
 // The rules from k on that go with rule k. alike has for each write those up to it with its name.
-fn run_from(rules: Rules, k: usize, names: &[u16], n: usize, alike: &[u64]) -> Run
-    requires { ((k < rules.count) × (rules.count ≤ most_rules)) × ((length alike.now ≡ most_held) × ((length names.now ≡ most_held) × ((n ≤ most_held) × Filled (same_at names.now) n alike.now))) }
+fn run_from(
+    rules: Rules,
+    k: usize,
+    names: &[u16; model::MOST_HELD],
+    n: usize,
+    alike: &[u64; model::MOST_HELD],
+) -> Run
+    requires { ((k < rules.count) × (rules.count ≤ most_rules)) × ((n ≤ most_held) × Filled (same_at names.now) n alike.now) }
     ensures { (result.head ≡ item_at rules k) × ((k < result.end) × ((result.end ≤ rules.count) × Joins names.now n rules k result.end result.seconds)) }
 {
     let head = rules.items[k];
@@ -80,7 +118,7 @@ fn run_from(rules: Rules, k: usize, names: &[u16], n: usize, alike: &[u64]) -> R
         if rule.predicate != head.predicate {
             return Run { head, end, seconds };
         }
-        seconds = seconds | cache_masks::last_same(alike, names, rule.second, n);
+        seconds |= cache_masks::last_same(alike, names, rule.second, n);
     }
     Run {
         head,
@@ -92,48 +130,49 @@ fn run_from(rules: Rules, k: usize, names: &[u16], n: usize, alike: &[u64]) -> R
 // The rows of the first n writes before any rule: the earlier ones to the same address. And the tables that serve
 // every rule. (The loop over the rules stands with the caller, which has them, so that they are not copied.)
 pub fn prepare(
-    rows: &mut [u64],
-    alike: &mut [u64],
-    ranks: &mut [u8],
-    belows: &mut [u64],
-    addresses: &[u8],
-    names: &[u16],
-    epochs: &[u32],
+    rows: &mut [u64; model::MOST_HELD],
+    tables: &mut Tables,
+    columns: &Columns,
     n: usize,
 )
-    requires { ((length rows.old ≡ most_held) × ((length alike.old ≡ most_held) × ((length ranks.old ≡ most_held) × ((length belows.old ≡ bounds) × Blank bounds belows.old)))) × ((length addresses.now ≡ most_held) × ((length names.now ≡ most_held) × ((length epochs.now ≡ most_held) × (n ≤ most_held)))) }
-    ensures { ((length rows.new ≡ most_held) × Prepared names.now n alike.new ranks.new belows.new) × (Filled (earlier_at addresses.now) n rows.new × (Filled (rank_at epochs.now) n ranks.new × Filled (below_mask ranks.new n) bounds belows.new)) }
+    requires { Blank bounds tables.old.belows × (n ≤ most_held) }
+    ensures { Prepared columns.now.names n tables.new × (Filled (earlier_at columns.now.addresses) n rows.new × (Filled (rank_at columns.now.epochs) n tables.new.ranks × Filled (below_mask tables.new.ranks n) bounds tables.new.belows)) }
 {
-    fill_earlier(rows, addresses, n);
-    cache_masks::fill_same(alike, names, n);
-    cache_masks::fill_ranks(ranks, epochs, n);
-    cache_masks::fill_belows(belows, ranks, n);
+    fill_earlier(rows, &columns.addresses, n);
+    cache_masks::fill_same(&mut tables.alike, &columns.names, n);
+    cache_masks::fill_ranks(&mut tables.ranks, &columns.epochs, n);
+    cache_masks::fill_belows(&mut tables.belows, &tables.ranks, n);
 }
 
 // The rows get what the rules of the run from rule k on make their writes depend on, added at once. Answers where
 // the run ends. (old are the rows before any rule.)
 pub fn add_run(
-    rows: &mut [u64],
+    rows: &mut [u64; model::MOST_HELD],
     rules: Rules,
     k: usize,
-    names: &[u16],
+    names: &[u16; model::MOST_HELD],
     n: usize,
-    alike: &[u64],
-    ranks: &[u8],
-    belows: &[u64],
+    tables: &Tables,
 ) -> usize
-    requires { (length rows.old ≡ most_held) × (((k < rules.count) × (rules.count ≤ most_rules)) × ((n ≤ most_held) × Prepared names.now n alike.now ranks.now belows.now)) }
-    ensures { (length rows.new ≡ most_held) × ((k < result) × ((result ≤ rules.count) × ((old : List ℕ) → Adds (take k rules.items) names.now n ranks.now belows.now old rows.old → Adds (take result rules.items) names.now n ranks.now belows.now old rows.new))) }
+    requires { ((k < rules.count) × (rules.count ≤ most_rules)) × ((n ≤ most_held) × Prepared names.now n tables.now) }
+    ensures { (k < result) × ((result ≤ rules.count) × ((old : List ℕ) → Adds (take k rules.items) names.now n tables.now.ranks tables.now.belows old rows.old → Adds (take result rules.items) names.now n tables.now.ranks tables.now.belows old rows.new)) }
 {
-    let run = run_from(rules, k, names, n, alike);
-    let firsts = cache_masks::last_same(alike, names, run.head.first, n);
-    add_to(rows, firsts, run.seconds, run.head.predicate, ranks, belows);
+    let run = run_from(rules, k, names, n, &tables.alike);
+    let firsts = cache_masks::last_same(&tables.alike, names, run.head.first, n);
+    add_to(rows, firsts, run.seconds, run.head.predicate, tables);
     run.end
 }
 
 // mask, and, if asked for, those of standing that have a name.
-fn with_named(mask: u64, on: bool, names: &[u16], name: u16, n: usize, standing: u64) -> u64
-    requires { (length names.now ≡ most_held) × (n ≤ most_held) }
+fn with_named(
+    mask: u64,
+    on: bool,
+    names: &[u16; model::MOST_HELD],
+    name: u16,
+    n: usize,
+    standing: u64,
+) -> u64
+    requires { n ≤ most_held }
     ensures { result ≡ cond on (bit_or mask (bit_and (same_mask names.now name n) standing)) mask }
 {
     if !on {
@@ -143,38 +182,33 @@ fn with_named(mask: u64, on: bool, names: &[u16], name: u16, n: usize, standing:
 }
 
 // Which of the first n writes w, behind them, needs.
-pub fn needed(
-    rules: Rules,
-    addresses: &[u8],
-    names: &[u16],
-    epochs: &[u32],
-    n: usize,
-    w: Write,
-) -> u64
-    requires { ((length addresses.now ≡ most_held) × ((length names.now ≡ most_held) × (length epochs.now ≡ most_held))) × ((rules.count ≤ most_rules) × (n < most_held)) }
-    ensures { result ≡ needed_mask (rules_of rules) (columned addresses.now names.now epochs.now n) w n }
+pub fn needed(rules: Rules, columns: &Columns, n: usize, w: Write) -> u64
+    requires { (rules.count ≤ most_rules) × (n < most_held) }
+    ensures { result ≡ needed_mask (rules_of rules) (writes_of columns.now n) w n }
 {
-    let compared = cache_masks::compare_epochs(epochs, w.epoch, n);
-    let mut mask = cache_masks::same_bytes(addresses, w.address, n);
+    let compared = cache_masks::compare_epochs(&columns.epochs, w.epoch, n);
+    let mut mask = cache_masks::same(&columns.addresses, w.address, n);
     for k in 0..rules.count {
         let rule = rules.items[k];
         let standing = cache_masks::standing(compared, rule.predicate);
-        mask = with_named(mask, w.name == rule.first, names, rule.second, n, standing);
+        let on = w.name == rule.first;
+        mask = with_named(mask, on, &columns.names, rule.second, n, standing);
     }
     mask
 }
 
 // Which of the first n writes depend on w.
-pub fn dependents(rules: Rules, names: &[u16], epochs: &[u32], n: usize, w: Write) -> u64
-    requires { ((length names.now ≡ most_held) × (length epochs.now ≡ most_held)) × ((rules.count ≤ most_rules) × (n ≤ most_held)) }
-    ensures { result ≡ dependent_mask (rules_of rules) (columned [] names.now epochs.now n) w n }
+pub fn dependents(rules: Rules, columns: &Columns, n: usize, w: Write) -> u64
+    requires { (rules.count ≤ most_rules) × (n ≤ most_held) }
+    ensures { result ≡ dependent_mask (rules_of rules) (writes_of columns.now n) w n }
 {
-    let compared = cache_masks::turned(cache_masks::compare_epochs(epochs, w.epoch, n));
+    let compared = cache_masks::turned(cache_masks::compare_epochs(&columns.epochs, w.epoch, n));
     let mut mask: u64 = 0;
     for k in 0..rules.count {
         let rule = rules.items[k];
         let standing = cache_masks::standing(compared, rule.predicate);
-        mask = with_named(mask, w.name == rule.second, names, rule.first, n, standing);
+        let on = w.name == rule.second;
+        mask = with_named(mask, on, &columns.names, rule.first, n, standing);
     }
     mask
 }

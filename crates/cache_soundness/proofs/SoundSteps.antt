@@ -31,9 +31,11 @@ use Rattle.rule_match.specs.declared.Rules.{Rules}
 use Rattle.rule_match.specs.Held.{rules_of}
 use Rattle.cache_model.specs.State.{state_size, rule_count, accepted_count, stored_count, rules_in, writes_in, stored_in}
 use Rattle.cache_model.specs.Sound.{layout, ruled, needs_hold, sound}
+use Rattle.cache_masks.specs.declared.Columns.{Columns}
+use Rattle.cache_needs.specs.declared.Tables.{Tables}
 use Rattle.cache_contents.specs.Columns.{InColumns}
 use Rattle.cache_statelaws.proofs.LayoutLaws.{writes-length, write-at}
-use Rattle.cache_masks.specs.Columns.{columned}
+use Rattle.cache_masks.specs.Columns.{writes_of}
 use Rattle.cache_masks.proofs.ColumnLaws.{columned-length, columned-alike}
 use Rattle.cache_layout.specs.Flags.{framed}
 use Rattle.relation.specs.Tables.{Filled}
@@ -42,25 +44,25 @@ use Rattle.cache_masks.specs.Ranks.{rank_at, below_mask, bounds}
 use Rattle.cache_needs.specs.Tables.{earlier_at, Adds}
 use Rattle.cache_needs.proofs.NeedSteps.{needs-filled, adds_begun, adds_done}
 use Rattle.cache_soundness.specs.declared.Examined.{Examined}
-use Rattle.cache_soundness.specs.Parts.{covered, covered_at, Tabled, Decoded, DecodedIf, Seen}
+use Rattle.cache_soundness.specs.Parts.{covered, covered_at, Tabled, Decoded, Seen}
 use Rattle.cache_soundness.proofs.FramedLaws.{counted, layout-tests, to_tests}
 
 -- ---- the writes of the columns are the state's, but for their blocks
 
-module _ (s addresses names epochs : List ℕ) (h : InColumns s (accepted_count s) addresses names epochs) where
-  pub columns-alike : Alike (columned addresses names epochs (accepted_count s)) (writes_in s)
+module _ (s : List ℕ) (c : Columns) (h : InColumns s (accepted_count s) c) where
+  pub columns-alike : Alike (writes_of c (accepted_count s)) (writes_in s)
   columns-alike =
-      columned-alike addresses names epochs (accepted_count s) (writes_in s) (sym (writes-length s))
+      columned-alike c.addresses c.names c.epochs (accepted_count s) (writes_in s) (sym (writes-length s))
       (λ i l. h.address i l ∙ sym (ap (λ (w : Write). w.address) (write-at s i l)))
       (λ i l. h.name i l ∙ sym (ap (λ (w : Write). w.name) (write-at s i l)))
       (λ i l. h.epoch i l ∙ sym (ap (λ (w : Write). w.epoch) (write-at s i l)))
 
   tabled-columns : (rows : List ℕ) (r : Rules) → rules_of r ≡ rules_in s
-      → take (accepted_count s) rows ≡ rows_of (cache.needs (rules_of r) (columned addresses names epochs (accepted_count s))) (accepted_count s) → Tabled s rows
+      → take (accepted_count s) rows ≡ rows_of (cache.needs (rules_of r) (writes_of c (accepted_count s))) (accepted_count s) → Tabled s rows
   unfolding Tabled
   tabled-columns rows r i e =
-      e ∙ rw i (ap (rows_of (cache.needs (rules_in s) (columned addresses names epochs (accepted_count s)))) (sym (columned-length addresses names epochs (accepted_count s)))
-      ∙ alike-rows (rules_in s) (columned addresses names epochs (accepted_count s)) (writes_in s) columns-alike
+      e ∙ rw i (ap (rows_of (cache.needs (rules_in s) (writes_of c (accepted_count s)))) (sym (columned-length c.addresses c.names c.epochs (accepted_count s)))
+      ∙ alike-rows (rules_in s) (writes_of c (accepted_count s)) (writes_in s) columns-alike
       ∙ ap (rows_of (cache.needs (rules_in s) (writes_in s))) (writes-length s))
 
 -- ---- a table of needs
@@ -111,32 +113,27 @@ and-false : (b : Bool) → b && false ≡ false
 and-false true = refl
 and-false false = refl
 
--- nothing is decoded of a state that is refused
-pub undecoded : (x : Bool) (s : List ℕ) (r : Examined) → x ≡ false → DecodedIf x s r
-unfolding DecodedIf
-undecoded x s r e = λ t. absurd (false≢true (sym e ∙ t))
-
 -- each part of the test that fails
-module _ (s : List ℕ) (x : Bool) (refused : x ≡ false) where
-  no_layout : framed s && counted s ≡ false → x ≡ ruled s
+module _ (s : List ℕ) where
+  no_layout : framed s && counted s ≡ false → ruled s ≡ false
   unfolding ruled
-  no_layout f = refused ∙ sym (rw (untrue (layout s) (λ t. false≢true (sym f ∙ to_tests s t))))
+  no_layout f = rw (untrue (layout s) (λ t. false≢true (sym f ∙ to_tests s t)))
 
   module _ (a : Bool) (e : a ≡ framed s) where
-    pub not-framed : not a ≡ true → x ≡ ruled s
+    pub not-framed : not a ≡ true → ruled s ≡ false
     not-framed h = no_layout (rw (← e, not-true a h))
 
-    pub not-counted : (b : Bool) → not a ≡ false → b ≡ eqb (stored_count s) (count_below (stored_in s) (accepted_count s)) → not b ≡ true → x ≡ ruled s
+    pub not-counted : (b : Bool) → not a ≡ false → b ≡ eqb (stored_count s) (count_below (stored_in s) (accepted_count s)) → not b ≡ true → ruled s ≡ false
     not-counted b g f h = no_layout (rw (← e, not-false a g, ← f, not-true b h))
 
   module _ (r : Rules) (i : rules_of r ≡ rules_in s) where
-    pub not_known : (b : Bool) → b ≡ known (rules_of r) → not b ≡ true → x ≡ ruled s
+    pub not_known : (b : Bool) → b ≡ known (rules_of r) → not b ≡ true → ruled s ≡ false
     unfolding ruled
-    not_known b f h = refused ∙ sym (rw (← i, ← f, not-true b h, and-false (layout s)))
+    not_known b f h = rw (← i, ← f, not-true b h, and-false (layout s))
 
-    pub not-acyclic : (d : Bool) → d ≡ cyclic (rules_of r) → d ≡ true → x ≡ ruled s
+    pub not-acyclic : (d : Bool) → d ≡ cyclic (rules_of r) → d ≡ true → ruled s ≡ false
     unfolding ruled
-    not-acyclic d f h = refused ∙ sym (rw (← i, ← f, h, and-false (layout s && known (rules_of r))))
+    not-acyclic d f h = rw (← i, ← f, h, and-false (layout s && known (rules_of r)))
 
 -- what a framed state has room for
 module _ (s : List ℕ) (a : Bool) (e : a ≡ framed s) (g : not a ≡ false) where
@@ -157,17 +154,16 @@ module _ (s : List ℕ) (a : Bool) (e : a ≡ framed s) (g : not a ≡ false) wh
   -- all of the test holds
   module _ (b k d : Bool) (r : Rules)
       (fb : b ≡ eqb (stored_count s) (count_below (stored_in s) (accepted_count s))) (gb : not b ≡ false) (i : rules_of r ≡ rules_in s) where
-    pub all-ruled : length s ≡ state_size → ((i : ℕ) → byte s i < 256) → k ≡ known (rules_of r) → not k ≡ false → d ≡ cyclic (rules_of r) → d ≡ false → true ≡ ruled s
+    pub all-ruled : length s ≡ state_size → ((i : ℕ) → byte s i < 256) → k ≡ known (rules_of r) → not k ≡ false → d ≡ cyclic (rules_of r) → d ≡ false → ruled s ≡ true
     unfolding ruled
     all-ruled size small fk gk fd gd =
-        sym (rw (layout-tests s size small, is_framed, ← fb, not-false b gb, ← i, ← fk, not-false k gk, ← fd, gd))
+        rw (layout-tests s size small, is_framed, ← fb, not-false b gb, ← i, ← fk, not-false k gk, ← fd, gd)
 
   pub all-decoded : (r : Rules) (mask : ℕ) → rules_of r ≡ rules_in s → r.count ≡ rule_count s → mask ≡ mask_of (stored_in s) (accepted_count s)
-      → DecodedIf true s (record { ruled = true; rules = r; stored = mask })
-  unfolding DecodedIf
-  all-decoded r mask i c m = λ _. record { most = framed-most; rules = i; few = framed-count r c; stored = m }
+      → Decoded s (record { rules = r; stored = mask })
+  all-decoded r mask i c m = record { most = framed-most; rules = i; few = framed-count r c; stored = m }
 
-pub ruleset decoding = (rules, undecoded, not-framed, not-counted, not_known, not-acyclic, framed-few, framed-most, framed-count, all-decoded)
+pub ruleset decoding = (rules, not-framed, not-counted, not_known, not-acyclic, framed-few, framed-most, framed-count, all-decoded)
 
 -- ---- needs_hold
 
@@ -181,20 +177,20 @@ module _ (s : List ℕ) (r : Examined) (h : Decoded s r) where
   pub decoded-few : r.rules.count ≤ most_rules
   decoded-few = h.few
 
-  pub rules_added : (addresses names epochs : List ℕ) (n : ℕ) (ranks belows old rows : List ℕ) (k : ℕ) → n ≡ accepted_count s → length rows ≡ most_held
-      → Filled (earlier_at addresses) n old → Filled (rank_at epochs) n ranks → Filled (below_mask ranks n) bounds belows → k ≤ r.rules.count → r.rules.count ≤ k
-      → Adds (take k r.rules.items) names n ranks belows old rows → take n rows ≡ rows_of (cache.needs (rules_of r.rules) (columned addresses names epochs n)) n
-  rules_added addresses names epochs n ranks belows old rows k c long earlier ranked table a b adds =
-      needs-filled addresses names epochs n (rules_of r.rules) ranks belows old rows (decoded-held n c) long earlier ranked table
-      (adds_done names n r.rules ranks belows old k rows a b adds)
+  pub rules_added : (d : Columns) (n : ℕ) (t : Tables) (old rows : List ℕ) (k : ℕ) → n ≡ accepted_count s → length rows ≡ most_held
+      → Filled (earlier_at d.addresses) n old → Filled (rank_at d.epochs) n t.ranks → Filled (below_mask t.ranks n) bounds t.belows → k ≤ r.rules.count → r.rules.count ≤ k
+      → Adds (take k r.rules.items) d.names n t.ranks t.belows old rows → take n rows ≡ rows_of (cache.needs (rules_of r.rules) (writes_of d n)) n
+  rules_added d n t old rows k c long earlier ranked table a b adds =
+      needs-filled d.addresses d.names d.epochs n (rules_of r.rules) t.ranks t.belows old rows (decoded-held n c) long earlier ranked table
+      (adds_done d.names n r.rules t.ranks t.belows old k rows a b adds)
 
-  module _ (rows addresses names epochs : List ℕ) (n : ℕ) (c : n ≡ accepted_count s) (l : InColumns s (accepted_count s) addresses names epochs)
-      (t : take n rows ≡ rows_of (cache.needs (rules_of r.rules) (columned addresses names epochs n)) n) where
+  module _ (rows : List ℕ) (d : Columns) (n : ℕ) (c : n ≡ accepted_count s) (l : InColumns s (accepted_count s) d)
+      (t : take n rows ≡ rows_of (cache.needs (rules_of r.rules) (writes_of d n)) n) where
     tab : Tabled s rows
-    tab = tabled-columns s addresses names epochs l rows r.rules h.rules (subst (λ (k : ℕ). take k rows ≡ rows_of (cache.needs (rules_of r.rules) (columned addresses names epochs k)) k) c t)
+    tab = tabled-columns s d l rows r.rules h.rules (subst (λ (k : ℕ). take k rows ≡ rows_of (cache.needs (rules_of r.rules) (writes_of d k)) k) c t)
 
-    pub needs_seen : length rows ≡ most_held → Seen s rows addresses names epochs r
-    needs_seen w = record { decoded = h; wide = w; tabled = tab; columns = l }
+    pub needs_seen : Seen s rows d r
+    needs_seen = record { decoded = h; tabled = tab; columns = l }
 
     module _ (b : Bool) (f : b ≡ all_below (covered_at rows r.stored) n) where
       covered-is : b ≡ all_below (λ i. not (stored_in s i) || met (rules_in s) (writes_in s) (stored_in s) i) (accepted_count s)
@@ -212,21 +208,16 @@ pub ruleset holding = (rules, blank_made, adds_begun, decoded-most, decoded-held
 
 -- ---- both calls
 
-module _ (s : List ℕ) (a : Bool) (e : a ≡ ruled s) where
-  pub not-ruled : not a ≡ true → sound s ≡ false
+module _ (s : List ℕ) where
+  pub not-ruled : ruled s ≡ false → sound s ≡ false
   unfolding sound
-  not-ruled g = rw (← e, not-true a g)
+  not-ruled e = rw e
 
-  module _ (g : not a ≡ false) where
-    pub ruled-decoded : (r : Examined) → DecodedIf a s r → Decoded s r
-    unfolding DecodedIf
-    ruled-decoded r h = h (not-false a g)
+  module _ (e : ruled s ≡ true) (b : Bool) (f : b ≡ needs_hold s) where
+    pub not-holding : not b ≡ true → sound s ≡ false
+    unfolding sound
+    not-holding h = rw (e, ← f, not-true b h)
 
-    module _ (b : Bool) (f : b ≡ needs_hold s) where
-      pub not-holding : not b ≡ true → sound s ≡ false
-      unfolding sound
-      not-holding h = rw (← e, not-false a g, ← f, not-true b h)
-
-      pub all_sound : not b ≡ false → sound s ≡ true
-      unfolding sound
-      all_sound h = rw (← e, not-false a g, ← f, not-false b h)
+    pub all_sound : not b ≡ false → sound s ≡ true
+    unfolding sound
+    all_sound h = rw (e, ← f, not-false b h)

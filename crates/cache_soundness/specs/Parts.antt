@@ -1,5 +1,5 @@
 -- What the parts of the code compute.
-use Rattle.std.specs.Prelude.{ℕ, ◌≤◌, ◌≡◌, Bool, true, not, ◌||◌, List, length, get_or, take}
+use Rattle.std.specs.Prelude.{ℕ, ◌≤◌, ◌≡◌, Bool, not, ◌||◌, List, get_or, take}
 use Rattle.relation.specs.Bits.{bit, mask_of}
 use Rattle.relation.specs.Finite.{rows_of}
 use Rattle.relation.specs.Union.{part_of}
@@ -7,6 +7,7 @@ use Rattle.model.specs.Limits.{most_rules, most_held}
 use Rattle.model.specs.Needs.{needs}
 use Rattle.rule_match.specs.Held.{rules_of}
 use Rattle.cache_model.specs.State.{accepted_count, rules_in, writes_in, stored_in}
+use Rattle.cache_masks.specs.declared.Columns.{Columns}
 use Rattle.cache_contents.specs.Columns.{InColumns}
 use Rattle.cache_soundness.specs.declared.Examined.{Examined}
 
@@ -28,12 +29,8 @@ pub record Decoded (s : List ℕ) (r : Examined) : Type 0 where
   pub few : r.rules.count ≤ most_rules
   pub stored : r.stored ≡ mask_of (stored_in s) (accepted_count s)
 
-unfoldable pub DecodedIf : Bool → List ℕ → Examined → Type 0
-DecodedIf b s r = b ≡ true → Decoded s r
-
 -- what is seen besides: its needs in a table, and its writes in columns
-pub record Seen (s rows addresses names epochs : List ℕ) (r : Examined) : Type 0 where
+pub record Seen (s rows : List ℕ) (c : Columns) (r : Examined) : Type 0 where
   pub decoded : Decoded s r
-  pub wide : length rows ≡ most_held
   pub tabled : Tabled s rows
-  pub columns : InColumns s (accepted_count s) addresses names epochs
+  pub columns : InColumns s (accepted_count s) c

@@ -1,7 +1,7 @@
 // Sound states of the cache: known predicates, acyclic rules, counts, and what stored writes need.
 #![tactic(auto)]
 
-ghost use Rattle.std.specs.Prelude.{◌≡◌, true, false, ◌<◌, ◌≤◌, eqb, length};
+ghost use Rattle.std.specs.Prelude.{◌≡◌, true, false, ◌<◌, ◌≤◌, eqb, length, MatchOption};
 ghost use Rattle.relation.specs.Bits.{mask_of};
 ghost use Rattle.relation.specs.Lists.{all_below};
 ghost use Rattle.model.specs.Limits.{most_rules, most_held};
@@ -10,8 +10,9 @@ ghost use Rattle.model.specs.Test.{count_below};
 ghost use Rattle.rule_match.specs.Held.{rules_of};
 ghost use Rattle.cache_model.specs.State.{state_size, accepted_count, stored_count, stored_in};
 ghost use Rattle.cache_model.specs.Sound.{ruled, needs_hold};
-ghost use Rattle.cache_soundness.specs.Parts.{covered, covered_at, Decoded, DecodedIf, Seen};
+ghost use Rattle.cache_soundness.specs.Parts.{covered, covered_at, Decoded, Seen};
 
+use cache_masks::Columns;
 use rule_match::Rules;
 
 // Whether every predicate is one of the three.
@@ -19,12 +20,7 @@ fn is_known(rules: Rules) -> bool
     requires { rules.count ≤ most_rules }
     ensures { result ≡ known (rules_of rules) }
 {
-    for k in 0..rules.count {
-        if 2 < rules.items[k].predicate {
-            return false;
-        }
-    }
-    true
+    rules.items[..rules.count].iter().all(|rule| rule.predicate <= 2)
 }
 
 // Whether the row of i, where i is in a mask, is part of the mask.
@@ -39,8 +35,8 @@ fn row_covered(row: u64, mask: u64, i: usize) -> bool
 }
 
 // Whether the rows of all members of a mask are part of it.
-fn all_covered(rows: &[u64], mask: u64, n: usize) -> bool
-    requires { (length rows.now ≡ most_held) × (n ≤ most_held) }
+fn all_covered(rows: &[u64; model::MOST_HELD], mask: u64, n: usize) -> bool
+    requires { n ≤ most_held }
     ensures { result ≡ all_below (covered_at rows.now mask) n }
 {
     for i in 0..n {
@@ -56,86 +52,57 @@ fn is_counted(state: &[u8], stored: u64) -> bool
     requires { (length state.now ≡ state_size) × (stored ≡ mask_of (stored_in state.now) (accepted_count state.now)) }
     ensures { result ≡ eqb (stored_count state.now) (count_below (stored_in state.now) (accepted_count state.now)) }
 {
-    usize::from(state[2]) == u64::count_ones(stored) as usize
+    u32::from(state[2]) == stored.count_ones()
 }
 
-// What is decoded of a state: whether it can be; if so, its rules and its stored writes.
+// What is decoded of a state: its rules and its stored writes.
 #[derive(Clone, Copy)]
 pub struct Examined {
-    pub ruled: bool,
     pub rules: Rules,
     pub stored: u64,
 }
 
-// Nothing is decoded of a state that is not sound.
-fn unsound() -> Examined
-    ensures { result.ruled ≡ false }
-{
-    Examined {
-        ruled: false,
-        rules: rule_match::none(),
-        stored: 0,
-    }
-}
-
 // Whether a state is sound is found in two calls, each of which leaves the stack before the other begins.
 // The first: its rules and its stored writes, where it has the layout and its rules are known and not cyclic.
-pub fn decode(state: &[u8]) -> Examined
+pub fn decode(state: &[u8]) -> Option<Examined>
     requires { length state.now ≡ state_size }
-    ensures { (result.ruled ≡ ruled state.now) × DecodedIf result.ruled state.now result }
+    ensures { MatchOption result (ruled state.now ≡ false) (λ seen. (ruled state.now ≡ true) × Decoded state.now seen) }
 {
     if !cache_layout::is_framed(state) {
-        return unsound();
+        return None;
     }
     let stored = cache_layout::stored_mask(state);
     if !is_counted(state, stored) {
-        return unsound();
+        return None;
     }
     let rules = cache_contents::state_rules(state);
     if !is_known(rules) {
-        return unsound();
+        return None;
     }
     if rule_cycles::is_cyclic(rules) {
-        return unsound();
+        return None;
     }
-    Examined {
-        ruled: true,
-        rules,
-        stored,
-    }
+    Some(Examined { rules, stored })
 }
 
 // The second: whether stored writes need only stored ones, and there is no ring of needs. Leaves the needs in
 // rows, and the writes in columns.
 pub fn needs_hold(
-    rows: &mut [u64],
-    addresses: &mut [u8],
-    names: &mut [u16],
-    epochs: &mut [u32],
+    rows: &mut [u64; model::MOST_HELD],
+    columns: &mut Columns,
     state: &[u8],
     seen: Examined,
 ) -> bool
-    requires { ((length rows.old ≡ most_held) × ((length addresses.old ≡ most_held) × ((length names.old ≡ most_held) × (length epochs.old ≡ most_held)))) × ((length state.now ≡ state_size) × Decoded state.now seen) }
-    ensures { (result ≡ needs_hold state.now) × Seen state.now rows.new addresses.new names.new epochs.new seen }
+    requires { (length state.now ≡ state_size) × Decoded state.now seen }
+    ensures { (result ≡ needs_hold state.now) × Seen state.now rows.new columns.new seen }
 {
     let n = usize::from(state[1]);
-    cache_contents::fill_columns(addresses, names, epochs, state);
-    let mut alike = [0u64; model::MOST_HELD];
-    let mut ranks = [0u8; model::MOST_HELD];
-    let mut belows = [0u64; cache_masks::BOUNDS];
-    cache_needs::prepare(
-        rows,
-        &mut alike,
-        &mut ranks,
-        &mut belows,
-        addresses,
-        names,
-        epochs,
-        n,
-    );
+    cache_contents::fill_columns(columns, state);
+    let mut tables = cache_needs::no_tables();
+    cache_needs::prepare(rows, &mut tables, columns, n);
     let mut k: usize = 0;
     while k < seen.rules.count {
-        k = cache_needs::add_run(rows, seen.rules, k, names, n, &alike, &ranks, &belows);
+        k = cache_needs::add_run(rows, seen.rules, k, &columns.names, n, &tables);
     }
     if !all_covered(rows, seen.stored, n) {
         return false;

@@ -7,4 +7,4 @@ use Rattle.cache_contents.specs.Columns.{InColumns}
 use Rattle.cache_contents.proofs.fill_columns.Given as goal
 
 abbrev pub invariant-loop-i : goal.invariant-loop-i
-invariant-loop-i l = (l.i ≤ l.n) × (length l.addresses ≡ most_held) × (length l.names ≡ most_held) × (length l.epochs ≡ most_held) × InColumns l.state l.i l.addresses l.names l.epochs
+invariant-loop-i l = (l.i ≤ l.n) × InColumns l.state l.i l.columns

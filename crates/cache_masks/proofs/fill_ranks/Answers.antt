@@ -7,7 +7,7 @@ pub loop-i-init : goal.loop-i-init
 loop-i-init c = search ranking
 
 pub loop-i-preserved : goal.loop-i-preserved
-loop-i-preserved c = (search ranking, search ranking, search ranking, search ranking, search ranking)
+loop-i-preserved c = (search ranking, search ranking, search ranking, search ranking)
 
 pub returns : goal.returns
-returns c = (search ranking, (search ranking, search (ranking, ranks-done)))
+returns c = (search ranking, search (ranking, ranks-done))

@@ -8,4 +8,4 @@ use Rattle.cache_masks.specs.Ranks.{rank_of, rank_at}
 use Rattle.cache_masks.proofs.fill_ranks.Given as goal
 
 abbrev pub invariant-loop-i : goal.invariant-loop-i
-invariant-loop-i l = (l.i ≤ l.n) × (length l.ranks ≡ most_held) × (l.r ≡ rank_of l.epochs l.t) × (l.r ≤ most_held) × Filled (rank_at l.epochs) l.i l.ranks
+invariant-loop-i l = (l.i ≤ l.n) × (l.r ≡ rank_of l.epochs l.t) × (l.r ≤ most_held) × Filled (rank_at l.epochs) l.i l.ranks

@@ -3,4 +3,4 @@ use Rattle.cache_masks.proofs.MaskSteps.{last_steps}
 use Rattle.cache_masks.proofs.fill_same.Goals as goal
 
 pub loop-i-preserved : goal.loop-i-preserved
-loop-i-preserved c = (search last_steps, search last_steps, search last_steps)
+loop-i-preserved c = (search last_steps, search last_steps)

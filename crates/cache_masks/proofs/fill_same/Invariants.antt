@@ -8,4 +8,4 @@ use Rattle.cache_masks.specs.Masks.{same_at}
 use Rattle.cache_masks.proofs.fill_same.Given as goal
 
 abbrev pub invariant-loop-i : goal.invariant-loop-i
-invariant-loop-i l = (l.i ≤ l.n) × (length l.table ≡ most_held) × Filled (same_at l.column) l.i l.table
+invariant-loop-i l = (l.i ≤ l.n) × Filled (same_at l.column) l.i l.table

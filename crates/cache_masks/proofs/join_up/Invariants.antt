@@ -7,4 +7,4 @@ use Rattle.cache_masks.proofs.RankSteps.{Joined}
 use Rattle.cache_masks.proofs.join_up.Given as goal
 
 abbrev pub invariant-loop-r : goal.invariant-loop-r
-invariant-loop-r l = (1 ≤ l.r) × (l.r ≤ bounds) × (length l.table ≡ bounds) × Joined l.initial.table l.r l.table
+invariant-loop-r l = (1 ≤ l.r) × (l.r ≤ bounds) × Joined l.initial.table l.r l.table

@@ -7,4 +7,4 @@ use Rattle.cache_masks.specs.Ranks.{bounds, next_mask}
 use Rattle.cache_masks.proofs.mark_ranks.Given as goal
 
 abbrev pub invariant-loop-i : goal.invariant-loop-i
-invariant-loop-i l = (l.i ≤ l.n) × (length l.belows ≡ bounds) × Filled (next_mask l.ranks l.i) bounds l.belows
+invariant-loop-i l = (l.i ≤ l.n) × Filled (next_mask l.ranks l.i) bounds l.belows

@@ -6,4 +6,4 @@ pub add_to-requires : goal.add_to-requires
 add_to-requires c = search all-rules
 
 pub returns : goal.returns
-returns c = (search all-rules, (search all-rules, (search all-rules, λ old adds. search all-rules)))
+returns c = (search all-rules, (search all-rules, λ old adds. search all-rules))

@@ -6,7 +6,7 @@ use Rattle.cache_needs.proofs.TableSteps.{Adding}
 use Rattle.cache_needs.proofs.add_to.Given as goal
 
 abbrev pub invariant-loop-left : goal.invariant-loop-left
-invariant-loop-left l = (length l.rows ≡ most_held) × Adding l.initial.rows l.firsts l.seconds l.p l.ranks l.belows l.left l.rows
+invariant-loop-left l = Adding l.initial.rows l.firsts l.seconds l.p l.tables.ranks l.tables.belows l.left l.rows
 
 abbrev pub decreases-loop-left : goal.decreases-loop-left
 decreases-loop-left l = l.left

@@ -3,9 +3,9 @@ use mathlib.Core.Path.{◌≡◌}
 use mathlib.Core.List.{[]}
 use Prim.Native.Nat.{◌≤◌, ◌-◌}
 use lib.ListN.{take}
-use Rattle.cache_masks.specs.Columns.{columned}
+use Rattle.cache_masks.specs.Columns.{writes_of}
 use Rattle.cache_needs.specs.Needed.{dependent_mask}
 use Rattle.cache_needs.proofs.dependents.Given as goal
 
 abbrev pub invariant-loop-k : goal.invariant-loop-k
-invariant-loop-k l = (l.k ≤ l.rules.count) × (l.mask ≡ dependent_mask (take l.k l.rules.items) (columned [] l.names l.epochs l.n) l.w l.n)
+invariant-loop-k l = (l.k ≤ l.rules.count) × (l.mask ≡ dependent_mask (take l.k l.rules.items) (writes_of l.columns l.n) l.w l.n)

@@ -6,4 +6,4 @@ pub loop-i-init : goal.loop-i-init
 loop-i-init c = search earlier
 
 pub loop-i-preserved : goal.loop-i-preserved
-loop-i-preserved c = (search earlier, search earlier, search earlier, search earlier, search earlier)
+loop-i-preserved c = (search earlier, search earlier, search earlier, search earlier)

@@ -8,4 +8,4 @@ use Rattle.cache_needs.specs.Tables.{earlier_at, Lasts}
 use Rattle.cache_needs.proofs.fill_earlier.Given as goal
 
 abbrev pub invariant-loop-i : goal.invariant-loop-i
-invariant-loop-i l = (l.i ≤ l.n) × (length l.rows ≡ most_held) × (length l.last ≡ disk_blocks) × Filled (earlier_at l.addresses) l.i l.rows × Lasts l.addresses l.i l.rows l.last
+invariant-loop-i l = (l.i ≤ l.n) × (length l.last ≡ disk_blocks) × Filled (earlier_at l.addresses) l.i l.rows × Lasts l.addresses l.i l.rows l.last

@@ -2,9 +2,9 @@
 use mathlib.Core.Path.{◌≡◌}
 use Prim.Native.Nat.{◌≤◌, ◌-◌}
 use lib.ListN.{take}
-use Rattle.cache_masks.specs.Columns.{columned}
+use Rattle.cache_masks.specs.Columns.{writes_of}
 use Rattle.cache_needs.specs.Needed.{needed_mask}
 use Rattle.cache_needs.proofs.needed.Given as goal
 
 abbrev pub invariant-loop-k : goal.invariant-loop-k
-invariant-loop-k l = (l.k ≤ l.rules.count) × (l.mask ≡ needed_mask (take l.k l.rules.items) (columned l.addresses l.names l.epochs l.n) l.w l.n)
+invariant-loop-k l = (l.k ≤ l.rules.count) × (l.mask ≡ needed_mask (take l.k l.rules.items) (writes_of l.columns l.n) l.w l.n)

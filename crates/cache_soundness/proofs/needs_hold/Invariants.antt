@@ -12,7 +12,7 @@ use Rattle.cache_soundness.specs.Parts.{Decoded}
 use Rattle.cache_soundness.proofs.needs_hold.Given as goal
 
 abbrev pub invariant-loop-k : goal.invariant-loop-k
-invariant-loop-k l = (l.k ≤ l.seen.rules.count) × (l.n ≡ accepted_count l.state) × (length l.rows ≡ most_held) × Decoded l.state l.seen × InColumns l.state (accepted_count l.state) l.addresses l.names l.epochs × Prepared l.names l.n l.alike l.ranks l.belows × (Filled (earlier_at l.addresses) l.n l.initial.rows × Filled (rank_at l.epochs) l.n l.ranks × Filled (below_mask l.ranks l.n) bounds l.belows) × Adds (take l.k l.seen.rules.items) l.names l.n l.ranks l.belows l.initial.rows l.rows
+invariant-loop-k l = (l.k ≤ l.seen.rules.count) × (l.n ≡ accepted_count l.state) × (length l.rows ≡ most_held) × Decoded l.state l.seen × InColumns l.state (accepted_count l.state) l.columns × Prepared l.columns.names l.n l.tables × (Filled (earlier_at l.columns.addresses) l.n l.initial.rows × Filled (rank_at l.columns.epochs) l.n l.tables.ranks × Filled (below_mask l.tables.ranks l.n) bounds l.tables.belows) × Adds (take l.k l.seen.rules.items) l.columns.names l.n l.tables.ranks l.tables.belows l.initial.rows l.rows
 
 abbrev pub decreases-loop-k : goal.decreases-loop-k
 decreases-loop-k l = l.seen.rules.count - l.k
