@@ -1,21 +1,19 @@
 -- The steps of rules held in order, in the terms of the code.
 use mathlib.Core.Path.{◌≡◌, refl, sym, ap, ◌∙◌}
-use mathlib.Core.Bool.{Bool, true, false, cond, not}
+use mathlib.Core.Bool.{Bool, true, false, cond}
 use mathlib.Core.List.{List, [], ◌∷◌, ◌++◌, append-nil, append_assoc}
 use Prim.Native.Nat.{ℕ, suc, ◌+◌, ◌-◌, ◌≤◌, ◌<◌}
 use native.Mathlib.Nat.{add-zero}
 use native.Mathlib.Numerals.{add-one}
 use native.Mathlib.Omega.{arith}
-use lib.Dec.{leb}
 use lib.ListN.{length, length-append, get_or, take, drop, set, drop_of_length-le}
 use Rattle.std.specs.List.{prefix_len, take_while}
 use Rattle.std.proofs.lemmas.List.Folds.{length-prefix_len}
 use Rattle.std.proofs.Common.{length-drop}
-use Rattle.std.proofs.lemmas.List.{drop-take}
+use Rattle.std.proofs.lemmas.List.{drop-take, drop-append-le, take_at, drop_at}
 use Rattle.std.specs.Int.{from_bool}
-use lib.Seq.{length-take-le, take_all, take-append-le, get_or-take, take-suc, take-set-le, take-suc-set, take-take, drop-cons, append_snoc}
+use lib.Seq.{length-take-le, take_all, take-append-le, get_or-take, take-suc, take-set-le, take-suc-set, take-take, drop-cons}
 use borrow.Author.Rules.{rules}
-use borrow.Author.Tests.{leb-true, leb-false, not-true, not-false}
 use Rattle.relation.specs.Bits.{bit}
 use Rattle.model.specs.Limits.{most_rules, most_candidates}
 use Rattle.model.specs.declared.Rule.{Rule}
@@ -65,30 +63,6 @@ place-is r (q ∷ qs) = go (before q r) (place-is r qs)
 pub place-counted : (r : Rule) (l : List Rule) (k : ℕ) → k ≡ length (take_while (λ q. before q r) l) → k ≡ place_of r l
 place-counted r l k e = e ∙ length-prefix_len (λ q. before q r) l ∙ place-is r l
 
-module _ (rule : Rule) (c : Rules) where
-  pub place-begun : 0 + place_of rule (drop 0 (rules_of c)) ≡ place_of rule (rules_of c)
-  place-begun = omega arith
-
-  module _ (k : ℕ) (all : length c.items ≡ most_rules) (few : c.count ≤ most_rules) (inv : k + place_of rule (drop k (rules_of c)) ≡ place_of rule (rules_of c)) where
-    pub place_stop : (b : Bool) → k < c.count → b ≡ before (item_at c k) rule → not b ≡ true → k ≡ place_of rule (rules_of c)
-    unfolding place_of
-    place_stop b h e n =
-        let z : place_of rule (drop k (rules_of c)) ≡ 0 = rw (held-from c all few k h, ← e, not-true b n) in
-        omega arith
-
-    pub place-more : (b : Bool) → k < c.count → b ≡ before (item_at c k) rule → not b ≡ false
-        → k + 1 + place_of rule (drop (k + 1) (rules_of c)) ≡ place_of rule (rules_of c)
-    unfolding place_of
-    place-more b h e n =
-        let z : place_of rule (drop k (rules_of c)) ≡ suc (place_of rule (drop (suc k) (rules_of c))) = rw (held-from c all few k h, ← e, not-false b n) in
-        rw (add-one k) (omega arith)
-
-    pub place_end : c.count ≤ k → k ≡ place_of rule (rules_of c)
-    unfolding place_of
-    place_end h =
-        let z : place_of rule (drop k (rules_of c)) ≡ 0 = rw (held_end c all few k h) in
-        omega arith
-
 -- ---- splice
 
 abbrev pub behind : Rules → ℕ → Rule → List Rule
@@ -103,16 +77,26 @@ module _ (c : Rules) (k : ℕ) (rule : Rule) where
       let d = length-drop k (rules_of c) in
       omega arith
 
-  -- the rules from place k on moved up by one, behind a rule put there
-  pub spliced : (moved rest : List Rule) → length c.items ≡ most_rules → c.count < most_rules → k ≤ c.count → moved ≡ take (c.count - k) (drop k c.items)
-      → take (c.count + 1) (take (k + 1) (set c.items k rule) ++ (moved ++ rest)) ≡ behind c k rule
-  spliced moved rest all few h e =
+  -- a rule put behind all, and turned round with those from place k on
+  pub spliced : (part turned rest : List Rule) → length c.items ≡ most_rules → c.count < most_rules → k ≤ c.count
+      → part ≡ take (c.count + 1 - k) (drop k (set c.items c.count rule)) → turned ≡ drop (length part - 1) part ++ take (length part - 1) part
+      → take (c.count + 1) (take k (set c.items c.count rule) ++ (turned ++ rest)) ≡ behind c k rule
+  spliced part turned rest all few h e q =
+      let held = rules_of c in
       let n = behind-length all few h in
-      let z : k + (c.count - k) ≡ c.count = omega arith in
-      let held : take (c.count - k) (drop k c.items) ≡ drop k (rules_of c) = sym (drop-take k (c.count - k) c.items) ∙ ap (λ (n : ℕ). drop k (take n c.items)) z in
-      let whole : take (k + 1) (set c.items k rule) ++ (moved ++ rest) ≡ behind c k rule ++ rest
-      = rw (pushed c.items k rule all (omega arith), e, held, ← take-take k c.count c.items h)
-      (append_snoc (take k (rules_of c)) rule (drop k (rules_of c) ++ rest) ∙ sym (append_assoc (take k (rules_of c)) (rule ∷ drop k (rules_of c)) rest)) in
+      let size = held-length c all (omega arith) in
+      let tail = drop k held in
+      let z : k + (c.count + 1 - k) ≡ c.count + 1 = omega arith in
+      let part-is : part ≡ tail ++ (rule ∷ [])
+      = e ∙ sym (drop-take k (c.count + 1 - k) (set c.items c.count rule)) ∙ ap (λ (n : ℕ). drop k (take n (set c.items c.count rule))) z
+        ∙ ap (drop k) (pushed c.items c.count rule all few) ∙ drop-append-le k held (rule ∷ []) (omega arith) in
+      let last : length part - 1 ≡ length tail = rw part-is (omega (arith, length-append tail (rule ∷ []))) in
+      let turned-is : turned ≡ rule ∷ tail
+      = q ∙ rw (last, part-is, drop_at tail (rule ∷ []) (length tail) refl, take_at tail (rule ∷ []) (length tail) refl) in
+      let front : take k (set c.items c.count rule) ≡ take k held
+      = take-set-le k c.items c.count rule h ∙ sym (take-take k c.count c.items h) in
+      let whole : take k (set c.items c.count rule) ++ (turned ++ rest) ≡ behind c k rule ++ rest
+      = rw (front, turned-is) (sym (append_assoc (take k held) (rule ∷ tail) rest)) in
       rw (whole, take-append-le (c.count + 1) (behind c k rule) rest (omega arith)) (take_all (c.count + 1) (behind c k rule) (omega arith))
 
 -- ---- insert
@@ -128,16 +112,6 @@ module _ (rule : Rule) (c : Rules) (k : ℕ) (short : c.count ≤ most_candidate
 
     pub insert-none : b ≡ false → Follows (inserted rule) c c
     insert-none f = follows_same rule blank c short k p h (ap (before rule) (held_at c all (omega arith) k h) ∙ sym q ∙ f)
-
--- a rule that stands at its place is held already, and so are more rules than there may be candidates
-pub insert-held : (rule : Rule) (c : Rules) (k : ℕ) (a b : Bool) → length c.items ≡ most_rules → c.count ≤ most_candidates + 1 → k < c.count
-    → k + place_of rule (drop k (rules_of c)) ≡ place_of rule (rules_of c) → a ≡ before (item_at c k) rule → a ≡ false → b ≡ before rule (item_at c k) → b ≡ false
-    → Follows (inserted rule) c c
-insert-held rule c k a b all few h inv p x q y = go (leb c.count most_candidates) refl
-  where
-    go : (short : Bool) → leb c.count most_candidates ≡ short → Follows (inserted rule) c c
-    go true e = insert-none rule c k (leb-true c.count most_candidates e) (place_stop rule c k all (omega arith) inv a h p (rw x)) b all h q y
-    go false e = follows-over rule c few (leb-false c.count most_candidates e)
 
 -- ---- pick
 
@@ -163,4 +137,4 @@ module _ (c : Rules) (m : ℕ) where
       → take n items ≡ picked (take i c.items) m → take n items ≡ picked (rules_of c) m
   pick-done items n i all few h l e = let z : i ≡ c.count = omega (arith, held-length c all few) in rw z at e
 
-pub ruleset ordering = (rules, length_mapped, follows-over, place-counted, place-begun, place_stop, place-more, place_end, spliced, insert-last, insert-between, insert-none, pick-begun, pick_more, pick-done)
+pub ruleset ordering = (rules, length_mapped, follows-over, place-counted, spliced, insert-last, insert-between, insert-none, pick-begun, pick_more, pick-done)

@@ -20,41 +20,37 @@ pub fn comes_before(a: Rule, b: Rule) -> bool
 }
 
 // How many of the rules held, from the front on, come before a rule.
-fn place(c: Rules, rule: Rule) -> usize
-    ensures place { result ≡ length (take_while (λ q. before q rule) (rules_of c)) }
-    ensures most { result ≤ c.count }
+fn place(c: &Rules, rule: Rule) -> usize
+    ensures place { result ≡ length (take_while (λ q. before q rule) (rules_of c.now)) }
+    ensures most { result ≤ c.now.count }
 {
     let held = &c.items[..c.count];
-    held.iter()
-        .take_while(|held| comes_before(**held, rule))
-        .count()
+    held.iter().take_while(|held| comes_before(**held, rule)).count()
 }
 
 // A rule put behind the first k.
-fn splice(c: Rules, k: usize, rule: Rule) -> Rules
-    requires { (c.count < most_rules) × (k ≤ c.count) }
-    ensures { (rules_of result ≡ take k (rules_of c) ++ (rule ∷ drop k (rules_of c))) × (result.count ≡ c.count + 1) }
+fn splice(c: &mut Rules, k: usize, rule: Rule)
+    requires { (c.old.count < most_rules) × (k ≤ c.old.count) }
+    ensures { (rules_of c.new ≡ take k (rules_of c.old) ++ (rule ∷ drop k (rules_of c.old))) × (c.new.count ≡ c.old.count + 1) }
 {
-    let mut out = c;
-    out.items[k] = rule;
-    out.items[k + 1..c.count + 1].copy_from_slice(&c.items[k..c.count]);
-    out.count = c.count + 1;
-    out
+    c.items[c.count] = rule;
+    c.items[k..c.count + 1].rotate_right(1);
+    c.count += 1;
 }
 
 // A rule put in its place, once. Of more rules than there may be candidates nothing more is kept.
-pub fn insert(c: Rules, rule: Rule) -> Rules
-    requires { c.count ≤ most_candidates + 1 }
-    ensures { (result.count ≤ most_candidates + 1) × Follows (inserted rule) c result }
+pub fn insert(c: &mut Rules, rule: Rule)
+    requires { c.old.count ≤ most_candidates + 1 }
+    ensures { (c.new.count ≤ most_candidates + 1) × Follows (inserted rule) c.old c.new }
 {
     if model::MOST_CANDIDATES < c.count {
-        return c;
+        return;
     }
     let k = place(c, rule);
-    if c.count <= k || comes_before(rule, c.items[k]) {
-        return splice(c, k, rule);
+    if k < c.count && !comes_before(rule, c.items[k]) {
+        return;
     }
-    c
+    splice(c, k, rule);
 }
 
 // The set of a number.

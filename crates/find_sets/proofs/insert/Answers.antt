@@ -5,8 +5,8 @@ use Rattle.find_sets.proofs.insert.Goals as goal
 pub returns-then-c-gt-MOST_CANDIDATES : goal.returns-then-c-gt-MOST_CANDIDATES
 returns-then-c-gt-MOST_CANDIDATES c = search ordering
 
-pub returns-then-c-k : goal.returns-then-c-k
-returns-then-c-k c = search ordering
+pub returns-then-not-comes_before : goal.returns-then-not-comes_before
+returns-then-not-comes_before c = search ordering
 
 pub returns : goal.returns
 returns c = search ordering
