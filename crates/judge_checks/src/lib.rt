@@ -29,12 +29,10 @@ fn range_holds(disk: &[u32; model::DISK_BLOCKS], head: usize, tail: usize) -> bo
     if model::DISK_BLOCKS < tail {
         return false;
     }
-    let mut k = head;
-    while k < tail {
+    for k in head..tail {
         if disk[k] == 0 {
             return false;
         }
-        k += 1;
     }
     true
 }

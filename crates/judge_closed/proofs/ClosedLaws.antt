@@ -358,37 +358,38 @@ module _ (n : ℕ) (dependencies dependents : List ℕ) (few : n ≤ most_main) 
       let p = pow_mono {i = n} {j = most_main} few in
       omega (arith, m, p, e)
 
-  module _ (f : ℕ) (e : f ≡ without free (get_or dependents h 0)) where
+  -- what is chosen stays, where a write is left out
+  module _ (c f : ℕ) (ec : c ≡ chosen) (e : f ≡ without free (get_or dependents h 0)) where
     pub out_less : (t : ℕ) → free ≡ t → f < t
     out_less t z = rw (← z, e) (left_less n dependencies dependents o few chosen free g h is_member)
 
-    pub out_choice : Choice dependencies n chosen f
-    out_choice = rw e (left-choice n dependencies dependents o few chosen free g h is_member)
+    pub out_choice : Choice dependencies n c f
+    out_choice = rw (ec, e) (left-choice n dependencies dependents o few chosen free g h is_member)
 
-    module _ (r : ℕ) (q : r ≡ count_below (valid_between dependencies n chosen f) (2 ^ n)) where
+    module _ (r : ℕ) (q : r ≡ count_below (valid_between dependencies n c f) (2 ^ n)) where
       pub double-room : 2 * r < 2 ^ 64
-      double-room = let m = count_fits chosen f r q in omega (arith, m)
+      double-room = let m = count_fits c f r q in omega (arith, m)
 
       pub double-done : (b : Bool) → b ≡ alone (get_or dependencies h 0) free h && alone (get_or dependents h 0) free h → b ≡ true → 2 * r ≡ count_below (valid_between dependencies n chosen free) (2 ^ n)
       double-done b z t =
           let y = sym z ∙ t in
-          rw (q, e) (sym (counts-double n dependencies dependents o few chosen free g h is_member (and_left _ (alone (get_or dependents h 0) free h) y) (and_right (alone (get_or dependencies h 0) free h) _ y)))
+          rw (q, ec, e) (sym (counts-double n dependencies dependents o few chosen free g h is_member (and_left _ (alone (get_or dependents h 0) free h) y) (and_right (alone (get_or dependencies h 0) free h) _ y)))
 
-  module _ (k : ℕ) (e : k ≡ without free (get_or dependencies h 0)) where
+  module _ (d k : ℕ) (ed : d ≡ bit_or chosen (get_or dependencies h 0)) (e : k ≡ without free (get_or dependencies h 0)) where
     pub in_less : (t : ℕ) → free ≡ t → k < t
     in_less t z = rw (← z, e) (right_less n dependencies dependents o few chosen free g h is_member)
 
-    pub in_choice : Choice dependencies n (bit_or chosen (get_or dependencies h 0)) k
-    in_choice = rw e (right_choice n dependencies dependents o few chosen free g h is_member)
+    pub in_choice : Choice dependencies n d k
+    in_choice = rw (ed, e) (right_choice n dependencies dependents o few chosen free g h is_member)
 
-  -- the counts of both, without it and with it
-  module _ (f r k m : ℕ) (ef : f ≡ without free (get_or dependents h 0)) (qf : r ≡ count_below (valid_between dependencies n chosen f) (2 ^ n)) (ek : k ≡ without free (get_or dependencies h 0))
-      (qk : m ≡ count_below (valid_between dependencies n (bit_or chosen (get_or dependencies h 0)) k) (2 ^ n)) where
-    pub both_room : r + m < 2 ^ 64
-    both_room = let a = count_fits chosen f r qf in let b = count_fits (bit_or chosen (get_or dependencies h 0)) k m qk in omega (arith, a, b)
+    -- the counts of both, without it and with it
+    module _ (c f r m : ℕ) (ec : c ≡ chosen) (ef : f ≡ without free (get_or dependents h 0)) (qf : r ≡ count_below (valid_between dependencies n c f) (2 ^ n))
+        (qk : m ≡ count_below (valid_between dependencies n d k) (2 ^ n)) where
+      pub both_room : r + m < 2 ^ 64
+      both_room = let a = count_fits c f r qf in let b = count_fits d k m qk in omega (arith, a, b)
 
-    pub both_done : r + m ≡ count_below (valid_between dependencies n chosen free) (2 ^ n)
-    both_done = rw (qf, qk, ef, ek) (sym (counts-split n dependencies dependents o few chosen free g h is_member (λ s. true) (2 ^ n)))
+      pub both_done : r + m ≡ count_below (valid_between dependencies n chosen free) (2 ^ n)
+      both_done = rw (qf, qk, ec, ef, ed, e) (sym (counts-split n dependencies dependents o few chosen free g h is_member (λ s. true) (2 ^ n)))
 
 pub ruleset counting = (rules, between-one, some_free, out_less, out_choice, double-room, double-done, in_less, in_choice, both_room, both_done)
 

@@ -3,8 +3,8 @@
 // two sets is counted without going through those that are free of each other.
 #![tactic(auto)]
 
-ghost use Rattle.std.specs.Prelude.{◌≡◌, ◌&&◌, ◌%◌, ◌^◌, ◌<◌, ◌≤◌, length};
-ghost use Rattle.relation.specs.Bits.{with_bit};
+ghost use Rattle.std.specs.Prelude.{◌≡◌, ◌&&◌, ◌%◌, ◌^◌, ◌<◌, ◌≤◌, length, get_or, bit_or};
+ghost use Rattle.relation.specs.Bits.{with_bit, without};
 ghost use Rattle.relation.specs.Tables.{Filled};
 ghost use Rattle.model.specs.Limits.{most_main};
 ghost use Rattle.model.specs.Test.{count_below};
@@ -24,10 +24,8 @@ fn fill_dependencies(dependencies: &mut [u64], closed: &[u64; 64], n: usize)
     requires { (length dependencies.old ≡ 64) × (n ≤ most_main) }
     ensures { Filled (reached_row closed.now n) n dependencies.new }
 {
-    let mut i: usize = 0;
-    while i < n {
+    for i in 0..n {
         dependencies[i] = dependency_row(closed[i], i, n);
-        i += 1;
     }
 }
 
@@ -37,10 +35,8 @@ fn dependent_row(dependencies: &[u64; 64], j: usize, n: usize) -> u64
     ensures { result ≡ reaching_row dependencies.now n j }
 {
     let mut mask: u64 = 0;
-    let mut i: usize = 0;
-    while i < n {
+    for i in 0..n {
         mask = relation::with_if(mask, i, relation::has_bit(dependencies[i], j));
-        i += 1;
     }
     mask
 }
@@ -50,10 +46,8 @@ fn fill_dependents(dependents: &mut [u64], dependencies: &[u64; 64], n: usize)
     requires { (length dependents.old ≡ 64) × (n ≤ most_main) }
     ensures { Filled (reaching_row dependencies.now n) n dependents.new }
 {
-    let mut j: usize = 0;
-    while j < n {
+    for j in 0..n {
         dependents[j] = dependent_row(dependencies, j, n);
-        j += 1;
     }
 }
 
@@ -68,6 +62,23 @@ pub fn order(dependencies: &mut [u64; 64], dependents: &mut [u64; 64], rows: &[u
     fill_dependents(dependents, dependencies, n);
 }
 
+// The schedules that are looked at together: all that have what is chosen and, beyond it, only what is free.
+#[derive(Clone, Copy)]
+pub struct Between {
+    pub chosen: u64,
+    pub free: u64,
+}
+
+// What each of n writes depends on, and what depends on it.
+#[derive(Clone, Copy)]
+pub struct Ties<'a> {
+    pub dependencies: &'a [u64; 64],
+    pub dependents: &'a [u64; 64],
+    pub n: usize,
+    pub ghost few: { n ≤ most_main },
+    pub ghost order: { Order n dependencies.now dependents.now },
+}
+
 // Whether a set has no free member but h.
 fn is_alone(set: u64, free: u64, h: usize) -> bool
     requires { h < 64 }
@@ -76,51 +87,56 @@ fn is_alone(set: u64, free: u64, h: usize) -> bool
     set & free == 1 << h
 }
 
-// Whether h is tied to no other free write: it depends on none, and none depends on it.
-fn is_untied(required: u64, requiring: u64, free: u64, h: usize) -> bool
-    requires { h < 64 }
-    ensures { result ≡ alone required free h && alone requiring free h }
-{
-    if !is_alone(required, free, h) {
-        return false;
+impl Ties<'_> {
+    // The schedules without write h, and so without all that depends on it.
+    pub fn without(&self, schedules: Between, h: usize) -> Between
+        requires { h < 64 }
+        ensures chosen { result.chosen ≡ schedules.chosen }
+        ensures free { result.free ≡ without schedules.free (get_or self.now.dependents.now h 0) }
+    {
+        Between {
+            chosen: schedules.chosen,
+            free: relation::without(schedules.free, self.dependents[h]),
+        }
     }
-    is_alone(requiring, free, h)
-}
 
-// How many valid schedules have all that is chosen, and nothing that is neither chosen nor free. A free write
-// that is tied to no other free one doubles them. `n` and `chosen` are there for the contract: how many there
-// are hangs on what is free and how it is tied.
-pub fn count_between(
-    dependencies: &[u64; 64],
-    dependents: &[u64; 64],
-    n: usize,
-    chosen: u64,
-    free: u64,
-) -> u64
-    requires { (n ≤ most_main) × (Order n dependencies.now dependents.now × Choice dependencies.now n chosen free) }
-    ensures { result ≡ count_below (valid_between dependencies.now n chosen free) (2 ^ n) }
-{
-    if free == 0 {
-        return 1;
+    // The schedules with write h, and so with all that it depends on.
+    pub fn with(&self, schedules: Between, h: usize) -> Between
+        requires { h < 64 }
+        ensures chosen { result.chosen ≡ bit_or schedules.chosen (get_or self.now.dependencies.now h 0) }
+        ensures free { result.free ≡ without schedules.free (get_or self.now.dependencies.now h 0) }
+    {
+        let required = self.dependencies[h];
+        Between {
+            chosen: schedules.chosen | required,
+            free: relation::without(schedules.free, required),
+        }
     }
-    let h = relation::highest(free);
-    let required = dependencies[h];
-    let requiring = dependents[h];
-    let out = count_between(
-        dependencies,
-        dependents,
-        n,
-        chosen,
-        relation::without(free, requiring),
-    );
-    if is_untied(required, requiring, free, h) {
-        return 2 * out;
+
+    // Whether h is tied to no other free write: it depends on none, and none depends on it.
+    fn is_untied(&self, free: u64, h: usize) -> bool
+        requires { h < 64 }
+        ensures { result ≡ alone (get_or self.now.dependencies.now h 0) free h && alone (get_or self.now.dependents.now h 0) free h }
+    {
+        let required = self.dependencies[h];
+        let requiring = self.dependents[h];
+        is_alone(required, free, h) && is_alone(requiring, free, h)
     }
-    out + count_between(
-        dependencies,
-        dependents,
-        n,
-        chosen | required,
-        relation::without(free, required),
-    )
+
+    // How many valid schedules these are. A free write that is tied to no other free one doubles them. `n` and
+    // what is chosen are there for the contract: how many there are hangs on what is free and how it is tied.
+    pub fn count_between(&self, schedules: Between) -> u64
+        requires { Choice self.now.dependencies.now self.now.n schedules.chosen schedules.free }
+        ensures { result ≡ count_below (valid_between self.now.dependencies.now self.now.n schedules.chosen schedules.free) (2 ^ self.now.n) }
+    {
+        if schedules.free == 0 {
+            return 1;
+        }
+        let h = relation::highest(schedules.free);
+        let out = self.count_between(self.without(schedules, h));
+        if self.is_untied(schedules.free, h) {
+            return 2 * out;
+        }
+        out + self.count_between(self.with(schedules, h))
+    }
 }

@@ -2,17 +2,16 @@
 -- bad ones goes along: of all that lie between two sets it is that of what is chosen, a part of every other one; at the end it says which bad one is the smallest.
 use mathlib.Core.Path.{◌≡◌, refl, sym, ap, ◌∙◌}
 use mathlib.Core.Logic.{◌⊎◌, inl, inr, ⊎_elim}
-use mathlib.Core.Bool.{Bool, true, false, cond, not, ◌&&◌, ◌||◌, and_comm, and-true, and-false, false≢true}
+use mathlib.Core.Bool.{Bool, true, false, cond, not, ◌&&◌, ◌||◌, and_comm, and-true, and-false}
 use mathlib.Core.List.{List}
-use Prim.Native.Nat.{ℕ, suc, ◌+◌, ◌-◌, ◌*◌, ◌%◌, ◌^◌, ◌≤◌, ◌<◌}
+use Prim.Native.Nat.{ℕ, suc, min, ◌+◌, ◌-◌, ◌*◌, ◌%◌, ◌^◌, ◌≤◌, ◌<◌}
+use native.Mathlib.Decide.{dec_lt}
 use native.Mathlib.Omega.{arith}
 use lib.Bits.{bit_or}
 use lib.Count.{ones-le}
-use lib.Dec.{leb}
 use lib.ListN.{get_or, take}
 use lib.Pow.{pow_mono, pow_pos}
 use borrow.Author.Rules.{rules}
-use borrow.Author.Tests.{leb-true, leb-false}
 use Rattle.relation.specs.Best.{fewer, smallest_below}
 use Rattle.relation.specs.Rank.{small_sets, rank}
 use Rattle.relation.specs.Bits.{bit, without}
@@ -32,7 +31,7 @@ use Rattle.judge_closed.specs.Closed.{Order, Orders, between, valid_between, Cho
 use Rattle.judge_closed.proofs.ClosedLaws.{between-has, valid-between, free_below, left_less, right_less, left-choice, right_choice, between_left, between_right, counts-split, chosen-valid, all_free, all-between}
 use Rattle.judge_settled.specs.declared.Answer.{Answer}
 use Rattle.judge_settled.specs.declared.Answer.TheVariants.{Yes, No, Open}
-use Rattle.judge_settled.specs.Settled.{Says, is_yes, opposed, Names, disk_of, all_hold, least_of, Ready}
+use Rattle.judge_settled.specs.Settled.{Says, disk_of, all_hold, Ready}
 use Rattle.judge_counting.specs.declared.Tally.{Tally}
 use Rattle.judge_counting.specs.Tally.{tallied, no_rank, with_good, with_bad, bad_between, Room, Gains}
 
@@ -41,53 +40,26 @@ pub good_is : (t : Tally) (many : ℕ) → record { valid = t.valid + many; bad 
 unfolding with_good
 good_is t many = refl
 
-pub bad-is : (t : Tally) (many s k r : ℕ) → k ≡ rank s → r ≡ least_of t.best k → record { valid = t.valid + many; bad = t.bad + many; best = r } ≡ with_bad t many s
+pub bad-is : (t : Tally) (many s k r : ℕ) → k ≡ rank s → r ≡ min t.best k → record { valid = t.valid + many; bad = t.bad + many; best = r } ≡ with_bad t many s
 unfolding with_bad
 bad-is t many s k r e q = rw (q, e)
 
--- the lesser of two is no more than either, and one of them
-least-is : (x y : ℕ) → (least_of x y ≤ x) × (least_of x y ≤ y) × ((least_of x y ≡ x) ⊎ (least_of x y ≡ y))
-unfolding least_of
-least-is x y = go (leb x y) refl
-  where
-    go : (b : Bool) → leb x y ≡ b → (cond b x y ≤ x) × (cond b x y ≤ y) × ((cond b x y ≡ x) ⊎ (cond b x y ≡ y))
-    go true e = (omega arith, leb-true x y e, inl refl)
-    go false e = (let h = leb-false x y e in omega arith, omega arith, inr refl)
+-- the lesser of two is one of them
+least-is : (x y : ℕ) → (min x y ≡ x) ⊎ (min x y ≡ y)
+least-is x y = elim (dec_lt x y) [ yes l ↦ inl (omega arith) | no l ↦ inr (omega arith) ]
 
--- what an answer is, by the tests of it
-is-yes : (answer : Answer) (t : Bool) → t ≡ is_yes answer → t ≡ true → answer ≡ Yes
-unfolding is_yes
-is-yes Yes t q e = refl
-is-yes No t q e = clash t e q
-is-yes (Open h) t q e = clash t e q
-
-is-no : (answer : Answer) (t : Bool) → t ≡ is_yes (opposed answer) → t ≡ true → answer ≡ No
-unfolding is_yes opposed
-is-no Yes t q e = clash t e q
-is-no No t q e = refl
-is-no (Open h) t q e = clash t e q
-
--- an open answer names a free write
-open_free : (p : ℕ → Bool) (chosen free h : ℕ) (answer : Answer) (y z : Bool) → Says p chosen free answer → y ≡ is_yes answer → y ≡ false → z ≡ is_yes (opposed answer) → z ≡ false → Names answer h
-    → bit free h ≡ true
-unfolding is_yes opposed Names Says
-open_free p chosen free h Yes y z g a b d e n = absurd (false≢true (sym b ∙ a))
-open_free p chosen free h No y z g a b d e n = absurd (false≢true (sym e ∙ d))
-open_free p chosen free h (Open k) y z g a b d e n = rw n g
-
-module _ (column base : List ℕ) (n : ℕ) (checks : List Check) (dependencies : List ℕ) (chosen free : ℕ) (g : Choice dependencies n chosen free) (answer : Answer)
-    (says : Says (all_hold column base n checks) chosen free answer) (old new : Tally) (many : ℕ) (count : many ≡ count_below (valid_between dependencies n chosen free) (2 ^ n)) where
+module _ (column base : List ℕ) (n : ℕ) (checks : List Check) (dependencies : List ℕ) (chosen free : ℕ) (g : Choice dependencies n chosen free) (old new : Tally)
+    (many : ℕ) (count : many ≡ count_below (valid_between dependencies n chosen free) (2 ^ n)) where
   abbrev valid-here : ℕ → Bool
   valid-here = valid_between dependencies n chosen free
 
   abbrev bad-here : ℕ → Bool
   bad-here = bad_between column base n checks dependencies chosen free
 
-  pub walk_good : (t : Bool) → t ≡ is_yes answer → t ≡ true → new ≡ with_good old many → Gains valid-here bad-here (2 ^ n) old new
+  pub walk_good : Says (all_hold column base n checks) chosen free Yes → new ≡ with_good old many → Gains valid-here bad-here (2 ^ n) old new
   unfolding with_good bad_between
-  walk_good t q y z =
-      let e = is-yes answer t q y in
-      let all : (s : ℕ) → between chosen free s ≡ true → all_hold column base n checks s ≡ true = unfold Says in (rw e at says) in
+  walk_good says z =
+      let all : (s : ℕ) → between chosen free s ≡ true → all_hold column base n checks s ≡ true = unfold Says in says in
       let no : (s : ℕ) → s < 2 ^ n → bad-here s ≡ false = (λ s l.
       untrue (bad-here s) (λ b. let v = and_right (not (all_hold column base n checks s)) (valid-here s) b in
       clash (not (all_hold column base n checks s)) (and_left (not (all_hold column base n checks s)) (valid-here s) b) (rw (all s (valid-between dependencies n chosen free s v))))) in
@@ -101,25 +73,22 @@ module _ (column base : List ℕ) (n : ℕ) (checks : List Check) (dependencies 
         one = inl refl;
       })
 
-  pub walk-bad : (t : Bool) → t ≡ is_yes (opposed answer) → t ≡ true → new ≡ with_bad old many chosen → Gains valid-here bad-here (2 ^ n) old new
+  pub walk-bad : Says (all_hold column base n checks) chosen free No → new ≡ with_bad old many chosen → Gains valid-here bad-here (2 ^ n) old new
   unfolding with_bad bad_between
-  walk-bad t q y z =
-      let e = is-no answer t q y in
-      let all : (s : ℕ) → between chosen free s ≡ true → all_hold column base n checks s ≡ false = unfold Says in (rw e at says) in
+  walk-bad says z =
+      let all : (s : ℕ) → between chosen free s ≡ true → all_hold column base n checks s ≡ false = unfold Says in says in
       let same : count_below bad-here (2 ^ n) ≡ count_below valid-here (2 ^ n) = count_ext bad-here valid-here (2 ^ n) (λ s l. go s all (valid-here s) refl) in
       let here : valid-here chosen ≡ true = chosen-valid n dependencies chosen free g in
-      let lesser = least-is old.best (rank chosen) in
       rw z
       (record {
         valid = ap (λ (k : ℕ). old.valid + k) count;
         bad = ap (λ (k : ℕ). old.bad + k) (count ∙ sym same);
-        kept = lesser.0;
+        kept = omega arith;
         least = λ s l b.
             let v = and_right (not (all_hold column base n checks s)) (valid-here s) b in
             let p = part-rank n chosen s g.chosen-most l (part_intro chosen s (between-has chosen free s (valid-between dependencies n chosen free s v))) in
-            let m = lesser.1 in
-            omega (arith, m, p);
-        one = ⊎_elim inl (λ k. inr (chosen, g.chosen-most, rw (all chosen (valid-between dependencies n chosen free chosen here)) here, k)) lesser.2;
+            omega (arith, p);
+        one = ⊎_elim inl (λ k. inr (chosen, g.chosen-most, rw (all chosen (valid-between dependencies n chosen free chosen here)) here, k)) (least-is old.best (rank chosen));
       })
     where
       go : (s : ℕ) → ((s : ℕ) → between chosen free s ≡ true → all_hold column base n checks s ≡ false) → (t : Bool) → valid-here s ≡ t → not (all_hold column base n checks s) && valid-here s ≡ valid-here s
@@ -150,10 +119,10 @@ pub record Fork (dependencies dependents : List ℕ) (n chosen free h : ℕ) : T
   pub choice : Choice dependencies n chosen free
   pub here : bit free h ≡ true
 
-pub fork : (column base writers dependencies dependents : List ℕ) (n chosen free h : ℕ) (checks : List Check) (answer : Answer) (y z : Bool) → Ready column base n writers → Order n dependencies dependents → Choice dependencies n chosen free
-    → Says (all_hold column base n checks) chosen free answer → y ≡ is_yes answer → y ≡ false → z ≡ is_yes (opposed answer) → z ≡ false → Names answer h → Fork dependencies dependents n chosen free h
-fork column base writers dependencies dependents n chosen free h checks answer y z ready o g says a b d e k =
-    record { few = ready.few; order = o; choice = g; here = open_free (all_hold column base n checks) chosen free h answer y z says a b d e k }
+-- an open answer names a free write
+pub open_free : (p : ℕ → Bool) (chosen free h : ℕ) (answer : Answer) → Says p chosen free answer → answer ≡ Open h → bit free h ≡ true
+unfolding Says
+open_free p chosen free h answer g e = rw e at g
 
 module _ (dependencies dependents : List ℕ) (n chosen free h : ℕ) (k : Fork dependencies dependents n chosen free h) where
   few : n ≤ most_main
@@ -171,50 +140,50 @@ module _ (dependencies dependents : List ℕ) (n chosen free h : ℕ) (k : Fork 
   pub open_below : h < 64
   open_below = let l = free_below n dependencies dependents o few chosen free g h e in omega (arith, l, few)
 
-  module _ (f : ℕ) (z : f ≡ without free (get_or dependents h 0)) where
+  module _ (c f : ℕ) (ec : c ≡ chosen) (z : f ≡ without free (get_or dependents h 0)) where
     pub out_falls : (t : ℕ) → free ≡ t → f < t
     out_falls t q = rw (← q, z) (left_less n dependencies dependents o few chosen free g h e)
 
-    pub out_free : Choice dependencies n chosen f
-    out_free = rw z (left-choice n dependencies dependents o few chosen free g h e)
+    pub out_free : Choice dependencies n c f
+    out_free = rw (ec, z) (left-choice n dependencies dependents o few chosen free g h e)
 
-    pub out_says : (p : ℕ → Bool) → Says p chosen free Yes → Says p chosen f Yes
+    pub out_says : (p : ℕ → Bool) → Says p chosen free Yes → Says p c f Yes
     unfolding Says
-    out_says p y = λ s b. y s (between_left n dependencies dependents o few chosen free g h e s (rw (← z) b))
+    out_says p y = λ s b. y s (between_left n dependencies dependents o few chosen free g h e s (rw (← ec, ← z) b))
 
-  module _ (f : ℕ) (z : f ≡ without free (get_or dependencies h 0)) where
+  module _ (d f : ℕ) (ed : d ≡ bit_or chosen (get_or dependencies h 0)) (z : f ≡ without free (get_or dependencies h 0)) where
     pub in_falls : (t : ℕ) → free ≡ t → f < t
     in_falls t q = rw (← q, z) (right_less n dependencies dependents o few chosen free g h e)
 
-    pub in_free : Choice dependencies n (bit_or chosen (get_or dependencies h 0)) f
-    in_free = rw z (right_choice n dependencies dependents o few chosen free g h e)
+    pub in_free : Choice dependencies n d f
+    in_free = rw (ed, z) (right_choice n dependencies dependents o few chosen free g h e)
 
-    pub in_says : (p : ℕ → Bool) → Says p chosen free Yes → Says p (bit_or chosen (get_or dependencies h 0)) f Yes
+    pub in_says : (p : ℕ → Bool) → Says p chosen free Yes → Says p d f Yes
     unfolding Says
-    in_says p y = λ s b. y s (between_right n dependencies dependents o few chosen free g h e s (rw (← z) b))
+    in_says p y = λ s b. y s (between_right n dependencies dependents o few chosen free g h e s (rw (← ed, ← z) b))
 
-  module _ (f r : ℕ) (ef : f ≡ without free (get_or dependents h 0)) (er : r ≡ without free (get_or dependencies h 0)) where
+  module _ (c f d r : ℕ) (ec : c ≡ chosen) (ef : f ≡ without free (get_or dependents h 0)) (ed : d ≡ bit_or chosen (get_or dependencies h 0)) (er : r ≡ without free (get_or dependencies h 0)) where
     both : (q : ℕ → Bool) (m : ℕ) → count_below (λ s. q s && valid_between dependencies n chosen free s) m
-        ≡ count_below (λ s. q s && valid_between dependencies n chosen f s) m + count_below (λ s. q s && valid_between dependencies n (bit_or chosen (get_or dependencies h 0)) r s) m
-    both q m = rw (ef, er) (counts-split n dependencies dependents o few chosen free g h e q m)
+        ≡ count_below (λ s. q s && valid_between dependencies n c f s) m + count_below (λ s. q s && valid_between dependencies n d r s) m
+    both q m = rw (ec, ef, ed, er) (counts-split n dependencies dependents o few chosen free g h e q m)
 
     module _ (old : Tally) (room : Room dependencies n chosen free old) where
-      pub room-left : Room dependencies n chosen f old
+      pub room-left : Room dependencies n c f old
       room-left = let b = both (λ s. true) (2 ^ n) in let v = room.valid in let w = room.bad in record { valid = omega (arith, b, v); bad = omega (arith, b, w) }
 
       module _ (column base : List ℕ) (checks : List Check) (first : Tally)
-          (gain : Gains (valid_between dependencies n chosen f) (bad_between column base n checks dependencies chosen f) (2 ^ n) old first) where
+          (gain : Gains (valid_between dependencies n c f) (bad_between column base n checks dependencies c f) (2 ^ n) old first) where
         abbrev bad-left : ℕ → Bool
-        bad-left = bad_between column base n checks dependencies chosen f
+        bad-left = bad_between column base n checks dependencies c f
 
         abbrev bad_right : ℕ → Bool
-        bad_right = bad_between column base n checks dependencies (bit_or chosen (get_or dependencies h 0)) r
+        bad_right = bad_between column base n checks dependencies d r
 
-        fewer-bad : count_below bad-left (2 ^ n) ≤ count_below (valid_between dependencies n chosen f) (2 ^ n)
+        fewer-bad : count_below bad-left (2 ^ n) ≤ count_below (valid_between dependencies n c f) (2 ^ n)
         unfolding bad_between
-        fewer-bad = count_less _ _ (2 ^ n) (λ s b. and_right (not (all_hold column base n checks s)) (valid_between dependencies n chosen f s) b)
+        fewer-bad = count_less _ _ (2 ^ n) (λ s b. and_right (not (all_hold column base n checks s)) (valid_between dependencies n c f s) b)
 
-        pub room_right : Room dependencies n (bit_or chosen (get_or dependencies h 0)) r first
+        pub room_right : Room dependencies n d r first
         room_right =
             let b = both (λ s. true) (2 ^ n) in
             let l = fewer-bad in
@@ -239,7 +208,7 @@ module _ (dependencies dependents : List ℕ) (n chosen free h : ℕ) (k : Fork 
             go false false true q = absurd (omega (arith, q))
             go false false false q = refl
 
-        pub walk_both : (last : Tally) → Gains (valid_between dependencies n (bit_or chosen (get_or dependencies h 0)) r) bad_right (2 ^ n) first last
+        pub walk_both : (last : Tally) → Gains (valid_between dependencies n d r) bad_right (2 ^ n) first last
             → Gains (valid_between dependencies n chosen free) (bad_between column base n checks dependencies chosen free) (2 ^ n) old last
         walk_both last next =
             let later = next.kept in

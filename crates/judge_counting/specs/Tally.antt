@@ -1,12 +1,12 @@
 -- The counts over schedules, and the smallest bad one.
-use Rattle.std.specs.Prelude.{ℕ, ◌+◌, ◌*◌, ◌^◌, ◌≤◌, ◌<◌, ◌≡◌, ◌⊎◌, Bool, true, not, ◌&&◌, List}
+use Rattle.std.specs.Prelude.{ℕ, ◌+◌, ◌*◌, ◌^◌, ◌≤◌, ◌<◌, ◌≡◌, ◌⊎◌, Bool, true, not, ◌&&◌, min, List}
 use Rattle.relation.specs.Best.{smallest_below}
 use Rattle.relation.specs.Rank.{small_sets, rank}
 use Rattle.model.specs.declared.Check.{Check}
 use Rattle.model.specs.Limits.{most_schedules}
 use Rattle.model.specs.Test.{shown_of, count_below}
 use Rattle.judge_closed.specs.Closed.{valid_between}
-use Rattle.judge_settled.specs.Settled.{all_hold, least_of}
+use Rattle.judge_settled.specs.Settled.{all_hold}
 use Rattle.judge_counting.specs.declared.Judgement.{Judgement}
 use Rattle.judge_counting.specs.declared.Tally.{Tally}
 
@@ -25,7 +25,7 @@ unfoldable pub with_good : Tally → ℕ → Tally
 with_good t many = record { valid = t.valid + many; bad = t.bad; best = t.best }
 
 unfoldable pub with_bad : Tally → ℕ → ℕ → Tally
-with_bad t many s = record { valid = t.valid + many; bad = t.bad + many; best = least_of t.best (rank s) }
+with_bad t many s = record { valid = t.valid + many; bad = t.bad + many; best = min t.best (rank s) }
 
 -- ---- between two sets
 

@@ -90,10 +90,8 @@ pub fn restore(
     requires { from + n ≤ most_initial }
     ensures { disk.new ≡ restored (held_from table.now from n) base.now disk.old }
 {
-    let mut i: usize = 0;
-    while i < n {
+    for i in 0..n {
         let a = address_of(table[from + i]);
         disk[a] = base[a];
-        i += 1;
     }
 }

@@ -30,13 +30,11 @@ fn load_writes(stores: &mut [u64], labels: &mut [u64], file: &[u8], from: usize,
     ensures { (result ≡ field_place file.now from n) × (Stores (writes_at file.now from n) stores.new × Labels (writes_at file.now from n) labels.new) }
 {
     let mut at = from;
-    let mut i: usize = 0;
-    while i < n {
+    for i in 0..n {
         let w = file_fields::write_at(file, at);
         stores[i] = judge_disks::pack_store(w);
         labels[i] = judge_disks::pack_label(w);
         at = file_format::end_of(file, at);
-        i += 1;
     }
     at
 }
@@ -67,10 +65,8 @@ fn pass_writes(file: &[u8], from: usize, n: usize) -> usize
     ensures { result ≡ field_place file.now from n }
 {
     let mut at = from;
-    let mut i: usize = 0;
-    while i < n {
+    for i in 0..n {
         at = file_format::end_of(file, at);
-        i += 1;
     }
     at
 }
@@ -82,11 +78,9 @@ fn file_checks(file: &[u8], from: usize, n: usize) -> [Check; model::MOST_CHECKS
 {
     let mut checks = [Check::Range(0); model::MOST_CHECKS];
     let mut at = from;
-    let mut i: usize = 0;
-    while i < n {
+    for i in 0..n {
         checks[i] = file_fields::check_at(file, at);
         at = file_format::end_of(file, at);
-        i += 1;
     }
     checks
 }

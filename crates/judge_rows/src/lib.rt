@@ -36,10 +36,8 @@ fn rule_row(rule: Rule, labels: &[u64; model::MOST_INITIAL], n: usize, one: u64)
         return 0;
     }
     let mut mask: u64 = 0;
-    let mut j: usize = 0;
-    while j < n {
+    for j in 0..n {
         mask = with_match(mask, j, rule, one, labels[j]);
-        j += 1;
     }
     mask
 }
@@ -50,15 +48,11 @@ pub fn fill(rows: &mut [u64], rules: Rules, labels: &[u64; model::MOST_INITIAL],
     requires { (length rows.old ≡ 64) × ((rules.count ≤ most_rules) × (n ≤ 64)) }
     ensures { take n rows.new ≡ rows_from (rules_of rules) labels.now n n }
 {
-    let mut i: usize = 0;
-    'labels: while i < n {
+    'labels: for i in 0..n {
         let mut mask: u64 = 0;
-        let mut k: usize = 0;
-        'rules: while k < rules.count {
+        'rules: for k in 0..rules.count {
             mask = mask | rule_row(rules.items[k], labels, n, labels[i]);
-            k += 1;
         }
         rows[i] = mask;
-        i += 1;
     }
 }

@@ -58,9 +58,7 @@ pub fn complete(rows: &mut [u64], n: usize)
     requires { (length rows.old ≡ 64) × ((n ≤ most_main) × Narrow rows.old n) }
     ensures { Completes rows.old n rows.new }
 {
-    let mut i: usize = 0;
-    while i < n {
+    for i in 0..n {
         rows[i] = bring(rows, n, i);
-        i += 1;
     }
 }

@@ -18,21 +18,9 @@ use Rattle.model.specs.Limits.{disk_blocks}
 use Rattle.judge_disks.specs.Packed.{unpacked}
 use Rattle.judge_settled.specs.declared.Answer.{Answer}
 use Rattle.judge_settled.specs.declared.Answer.TheVariants.{Yes, No, Open}
-use Rattle.judge_settled.specs.Settled.{is_yes, opposed, Names, agreed, definite, own_block, valued, writers_of}
+use Rattle.judge_settled.specs.Settled.{opposed, definite, own_block, valued, writers_of}
 
 module _ (a : Answer) where
-  pub yes_is : a ≡ Yes → true ≡ is_yes a
-  unfolding is_yes
-  yes_is e = rw e
-
-  pub yes_no : a ≡ No → false ≡ is_yes a
-  unfolding is_yes
-  yes_no e = rw e
-
-  pub yes_open : (h : ℕ) → a ≡ Open h → false ≡ is_yes a
-  unfolding is_yes
-  yes_open h e = rw e
-
   pub definite_yes : a ≡ Yes → true ≡ definite a
   unfolding definite
   definite_yes e = rw e
@@ -56,30 +44,6 @@ module _ (a : Answer) where
   pub opposed_open : (h : ℕ) → a ≡ Open h → Open h ≡ opposed a
   unfolding opposed
   opposed_open h e = rw e
-
-  pub agreed_yes : (b : Answer) (r : Bool) → a ≡ Yes → r ≡ is_yes b → r ≡ agreed a b
-  unfolding agreed
-  agreed_yes b r e q = rw e q
-
-  pub agreed_no : (b : Answer) (r : Bool) → a ≡ No → r ≡ is_yes (opposed b) → r ≡ agreed a b
-  unfolding agreed
-  agreed_no b r e q = rw e q
-
-  pub no_is : (b : Answer) (r : Bool) → b ≡ opposed a → r ≡ is_yes b → r ≡ is_yes (opposed a)
-  no_is b r e q = rw (← e) q
-
-  pub names_yes : a ≡ Yes → Names a 0
-  names_yes e = rw e (unfold Names in tt)
-
-  pub names_no : a ≡ No → Names a 0
-  names_no e = rw e (unfold Names in tt)
-
-  pub names_open : (h : ℕ) → a ≡ Open h → Names a h
-  names_open h e = rw e (unfold Names in refl)
-
-  pub agreed_open : (b : Answer) (h : ℕ) → a ≡ Open h → false ≡ agreed a b
-  unfolding agreed
-  agreed_open b h e = rw e
 
 pub valued_yes : (own v : ℕ) → own ≡ v → Yes ≡ valued own v
 unfolding valued
@@ -129,4 +93,4 @@ module _ (column : List ℕ) where
   pub writers_all : (i n : ℕ) (writers : List ℕ) → Filled (writers_of column i) disk_blocks writers → i ≤ n → n ≤ i → Filled (writers_of column n) disk_blocks writers
   writers_all i n writers g a b = let z : i ≡ n = omega arith in rw z at g
 
-pub ruleset answering = (rules, yes_is, yes_no, yes_open, definite_yes, definite_no, definite_open, opposed_yes, opposed_no, opposed_open, agreed_yes, agreed_no, agreed_open, no_is, names_yes, names_no, names_open, valued_yes, valued_no, own_range, own_pair, own_pointer, writers_none, writers_more, writers_all)
+pub ruleset answering = (rules, definite_yes, definite_no, definite_open, opposed_yes, opposed_no, opposed_open, valued_yes, valued_no, own_range, own_pair, own_pointer, writers_none, writers_more, writers_all)

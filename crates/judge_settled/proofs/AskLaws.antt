@@ -1,30 +1,30 @@
 -- The parts of a check by what is said of the blocks they look at, and the checks one after the other.
 use mathlib.Core.Path.{◌≡◌, refl, sym, ap, ◌∙◌}
-use mathlib.Core.Bool.{Bool, true, false, cond, not, false≢true}
-use mathlib.Core.List.{List}
+use mathlib.Core.Bool.{Bool, true, false, cond, not}
+use mathlib.Core.List.{List, [], ◌∷◌}
 use Prim.Native.Nat.{ℕ, ◌+◌, ◌-◌, ◌≤◌, ◌<◌}
 use native.Mathlib.Decide.{ℕ_discrete, dec_lt}
+use native.Mathlib.Numerals.{add-one}
 use native.Mathlib.Omega.{arith}
 use lib.Dec.{eqb}
 use lib.ListN.{length, get_or, take}
-use lib.Seq.{get_or-set_same, get_or-set_other}
+use lib.Seq.{get_or-set_same, get_or-set_other, take-suc, take-length}
 use borrow.Author.Rules.{rules}
-use borrow.Author.Tests.{eq-eqb, ne_eqb, le-leb, lt-leb, not-true, not-false}
-use Rattle.relation.specs.Lists.{all_below}
-use Rattle.relation.proofs.ListLaws.{untrue, all_below-true, all_below_intro, clash}
+use borrow.Author.Tests.{eq-eqb, ne_eqb, le-leb, lt-leb}
+use Rattle.relation.specs.Lists.{all_below, all}
+use Rattle.relation.proofs.ListLaws.{untrue, all_below-true, all_below_intro, clash, and_intro, all_append, all_true, index_mem}
 use Rattle.model.specs.declared.Check.{Check}
 use Rattle.model.specs.declared.Check.TheVariants.{Range, Pair, Pointer}
-use Rattle.model.specs.Limits.{disk_blocks, last_block, most_checks}
+use Rattle.model.specs.Limits.{disk_blocks, last_block}
 use Rattle.model.specs.Disk.{empty, first_of, second_of, block_at}
-use Rattle.model.specs.Check.{damaged, range_holds, holds}
+use Rattle.model.specs.Check.{damaged, range_holds, holds, consistent}
 use Rattle.model.proofs.CheckLaws.{undamaged_ordered, undamaged_inside}
 use Rattle.judge_disks.specs.Packed.{held_from}
 use Rattle.judge_disks.proofs.RestoreLaws.{mid_length}
-use Rattle.judge_checks.proofs.CheckSteps.{checks_stop, checks-more}
 use Rattle.judge_closed.specs.Closed.{between}
 use Rattle.judge_settled.specs.declared.Answer.{Answer}
 use Rattle.judge_settled.specs.declared.Answer.TheVariants.{Yes, No, Open}
-use Rattle.judge_settled.specs.Settled.{Says, is_yes, opposed, disk_of, laid, is_block, holds_in, all_hold, own_block, known_of, is_known, is_there, range_in, holds_by, valued, Ready, Runs, later_of}
+use Rattle.judge_settled.specs.Settled.{Says, opposed, disk_of, laid, is_block, holds_in, all_hold, own_block, known_of, is_known, is_there, range_in, holds_by, valued, Ready, Runs, later_of}
 use Rattle.judge_settled.proofs.SettledLaws.{fixed_there}
 use Rattle.judge_settled.proofs.RunLaws.{Passes, later_passes}
 
@@ -46,17 +46,28 @@ module _ (p q : ℕ → Bool) (chosen free : ℕ) where
   says_opposed (Open h) f g = g
 
 -- what is said with a yes, and with another answer
-says_yes : (p : ℕ → Bool) (chosen free : ℕ) (answer : Answer) → Says p chosen free answer → is_yes answer ≡ true → (s : ℕ) → between chosen free s ≡ true → p s ≡ true
-unfolding Says is_yes
-says_yes p chosen free Yes g e = g
-says_yes p chosen free No g e = absurd (false≢true e)
-says_yes p chosen free (Open h) g e = absurd (false≢true e)
+says_yes : (p : ℕ → Bool) (chosen free : ℕ) (answer : Answer) → Says p chosen free answer → answer ≡ Yes → (s : ℕ) → between chosen free s ≡ true → p s ≡ true
+unfolding Says
+says_yes p chosen free answer g e = rw e at g
 
-says_other : (p q : ℕ → Bool) (chosen free : ℕ) (answer : Answer) → Says p chosen free answer → is_yes answer ≡ false → ((s : ℕ) → between chosen free s ≡ true → p s ≡ false → q s ≡ false) → Says q chosen free answer
-unfolding Says is_yes
-says_other p q chosen free Yes g e f = absurd (false≢true (sym e))
+says_other : (p q : ℕ → Bool) (chosen free : ℕ) (answer : Answer) → Says p chosen free answer → (answer ≡ Yes → ⊥) → ((s : ℕ) → between chosen free s ≡ true → p s ≡ false → q s ≡ false) → Says q chosen free answer
+unfolding Says
+says_other p q chosen free Yes g e f = absurd (e refl)
 says_other p q chosen free No g e f = λ s b. f s b (g s b)
 says_other p q chosen free (Open h) g e f = g
+
+-- ---- a list of checks, one more and one that fails
+
+module _ (d : List ℕ) (checks : List Check) (z : Check) (i : ℕ) (l : i < length checks) where
+  passes_more : consistent (take i checks) d ≡ true → holds d (get_or checks i z) ≡ true → consistent (take (i + 1) checks) d ≡ true
+  unfolding consistent
+  passes_more p q =
+      rw (add-one i, take-suc checks i z l, all_append (holds d) (take i checks) (get_or checks i z ∷ []))
+      (and_intro (all (holds d) (take i checks)) _ p (unfold all in and_intro (holds d (get_or checks i z)) true q refl))
+
+  passes_not : holds d (get_or checks i z) ≡ false → consistent checks d ≡ false
+  unfolding consistent
+  passes_not q = untrue (all (holds d) checks) (λ p. clash (holds d (get_or checks i z)) (all_true (holds d) p (get_or checks i z) (index_mem checks i z l refl)) q)
 
 module _ (column base : List ℕ) (n chosen free : ℕ) where
   -- ---- one block known
@@ -114,10 +125,10 @@ module _ (column base : List ℕ) (n chosen free : ℕ) where
       there-none = record { at = λ s b. ap (all_below (λ i. not (empty (block_at (known_of column base n a own s) (head + i))))) {x = head - head} {y = 0} (omega arith) }
 
       -- one block that is there, and those that are passed behind it
-      pub there-passed : (writers runs : List ℕ) (k tail r : ℕ) (answer : Answer) (y : Bool) → Ready column base n writers → Runs base writers 0 runs → There head k → head ≤ k → k < tail → tail ≤ disk_blocks
-          → Says (is_there column base n a own k) chosen free answer → y ≡ is_yes answer → not y ≡ false → r ≡ later_of runs a k tail → There head r
+      pub there-passed : (writers runs : List ℕ) (k tail r : ℕ) (answer : Answer) → Ready column base n writers → Runs base writers 0 runs → There head k → head ≤ k → k < tail → tail ≤ disk_blocks
+          → Says (is_there column base n a own k) chosen free answer → answer ≡ Yes → r ≡ later_of runs a k tail → There head r
       unfolding is_there
-      there-passed writers runs k tail r answer y ready rs g h l m says q z e =
+      there-passed writers runs k tail r answer ready rs g h l m says q e =
           let p = later_passes base writers runs a k tail r rs l m e in
           record {
             at = λ s b.
@@ -125,7 +136,7 @@ module _ (column base : List ℕ) (n chosen free : ℕ) where
                 (λ i x. elim (dec_lt (head + i) k) [
                   | yes o ↦ all_below-true (λ i. not (empty (block_at (known_of column base n a own s) (head + i)))) (k - head) (g.at s b) i (omega (arith, o))
                   | no o ↦ elim (ℕ_discrete (head + i) k) [
-                    | yes w ↦ rw w (says_yes (is_there column base n a own k) chosen free answer says (sym q ∙ not-false y z) s b)
+                    | yes w ↦ rw w (says_yes (is_there column base n a own k) chosen free answer says q s b)
                     | no w ↦ (
                         let (fixed, other) = p.at (head + i) (omega (arith, o, w)) (omega (arith, x, h, p.over)) in
                         let same : block_at (known_of column base n a own s) (head + i) ≡ block_at (disk_of column base n s) (head + i) = get_or-set_other (disk_of column base n s) a (head + i) own 0 other in
@@ -149,11 +160,11 @@ module _ (column base : List ℕ) (n chosen free : ℕ) where
         pub range-most : (k : ℕ) → head ≤ k → k < tail → tail ≤ disk_blocks
         range-most k x y = let z = undamaged_inside head tail (tail - 1) (sym d ∙ whole) (omega (arith, x, y)) (omega (arith, y)) in omega (arith, z)
 
-        pub there_stop : (k : ℕ) (answer : Answer) (y : Bool) → head ≤ k → k < tail → Says (is_there column base n a own k) chosen free answer → y ≡ is_yes answer → not y ≡ true
+        pub there_stop : (k : ℕ) (answer : Answer) → head ≤ k → k < tail → Says (is_there column base n a own k) chosen free answer → (answer ≡ Yes → ⊥)
             → Says (range_in column base n a own head tail) chosen free answer
         unfolding range_in range_holds is_there
-        there_stop k answer y h l says q z =
-            says_other (is_there column base n a own k) (range_in column base n a own head tail) chosen free answer says (sym q ∙ not-true y z)
+        there_stop k answer h l says q =
+            says_other (is_there column base n a own k) (range_in column base n a own head tail) chosen free answer says q
             (λ s b none. rw (sym d ∙ whole)
             (untrue (all_below (λ i. not (empty (block_at (known_of column base n a own s) (head + i)))) (tail - head))
             (λ all.
@@ -204,21 +215,17 @@ module _ (column base : List ℕ) (n chosen free : ℕ) where
 
   -- ---- one check after the other
 
-  module _ (checks : List Check) (z : Check) (m i : ℕ) (few : m ≤ most_checks) (size : length checks ≡ most_checks) (l : i < m) (answer : Answer) (y : Bool) (g : Says (holds_in column base n (get_or checks i z)) chosen free answer)
-      (q : y ≡ is_yes answer) where
-    pub ask_more : not y ≡ false → Says (all_hold column base n (take i checks)) chosen free Yes → Says (all_hold column base n (take (i + 1) checks)) chosen free Yes
+  module _ (checks : List Check) (z : Check) (i : ℕ) (l : i < length checks) (answer : Answer) (g : Says (holds_in column base n (get_or checks i z)) chosen free answer) where
+    pub ask_more : answer ≡ Yes → Says (all_hold column base n (take i checks)) chosen free Yes → Says (all_hold column base n (take (i + 1) checks)) chosen free Yes
     unfolding Says all_hold holds_in
-    ask_more e h = λ s b.
-        let yes : holds (disk_of column base n s) (get_or checks i z) ≡ true = says_yes (holds_in column base n (get_or checks i z)) chosen free answer g (sym q ∙ not-false y e) s b in
-        checks-more (disk_of column base n s) checks z m i (holds (disk_of column base n s) (get_or checks i z)) l few size (h s b) refl (rw yes)
+    ask_more e h = λ s b. passes_more (disk_of column base n s) checks z i l (h s b) (says_yes (holds_in column base n (get_or checks i z)) chosen free answer g e s b)
 
-    pub ask_stop : not y ≡ true → Says (all_hold column base n (take m checks)) chosen free answer
+    pub ask_stop : (answer ≡ Yes → ⊥) → Says (all_hold column base n checks) chosen free answer
     unfolding all_hold holds_in
     ask_stop e =
-        says_other (holds_in column base n (get_or checks i z)) (all_hold column base n (take m checks)) chosen free answer g (sym q ∙ not-true y e)
-        (λ s b none. sym (checks_stop (disk_of column base n s) checks z m i (holds (disk_of column base n s) (get_or checks i z)) l few size refl (rw none)))
+        says_other (holds_in column base n (get_or checks i z)) (all_hold column base n checks) chosen free answer g e (λ s b none. passes_not (disk_of column base n s) checks z i l none)
 
-  pub ask_all : (checks : List Check) (m i : ℕ) (answer : Answer) → i ≤ m → m ≤ i → answer ≡ Yes → Says (all_hold column base n (take i checks)) chosen free Yes → Says (all_hold column base n (take m checks)) chosen free answer
-  ask_all checks m i answer a b e g = let z : i ≡ m = omega arith in rw (e, ← z) g
+  pub ask_all : (checks : List Check) (answer : Answer) → answer ≡ Yes → Says (all_hold column base n (take (length checks) checks)) chosen free Yes → Says (all_hold column base n checks) chosen free answer
+  ask_all checks answer e g = rw e (rw take-length at g)
 
 pub ruleset asking = (rules, known-own, known-other, there_says, range-damaged, range_inside, range-most, there-none, there-passed, passed_from, passed-most, passed-falls, there_stop, there-all, range_ordered, pair_other, pair_same, pointer_none, pointer_past, pointer_to, with_range, with_form, ask_more, ask_stop, ask_all)

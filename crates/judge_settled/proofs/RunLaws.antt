@@ -5,14 +5,15 @@ use mathlib.Core.List.{List}
 use Prim.Native.Nat.{ℕ, ◌+◌, ◌-◌, ◌≤◌, ◌<◌}
 use native.Mathlib.Decide.{ℕ_discrete, dec_lt}
 use native.Mathlib.Omega.{arith}
+use Prim.Native.Nat.{min}
 use lib.Dec.{eqb, leb, ltb}
 use lib.ListN.{length, get_or, set}
 use lib.Seq.{get_or-set_same, get_or-set_other}
 use borrow.Author.Rules.{rules}
-use borrow.Author.Tests.{eq-eqb, ne_eqb, eqb-true, eqb-false, le-leb, lt-leb, leb-true, leb-false, le-ltb, lt-ltb, ltb-true, ltb-false}
+use borrow.Author.Tests.{eq-eqb, ne_eqb, eqb-true, eqb-false, le-leb, lt-leb, leb-false, le-ltb, lt-ltb, ltb-true, ltb-false}
 use Rattle.relation.specs.Tables.{Blank}
 use Rattle.model.specs.Limits.{disk_blocks}
-use Rattle.judge_settled.specs.Settled.{Fixed, Run, Runs, run_end, least_of, later_of}
+use Rattle.judge_settled.specs.Settled.{Fixed, Run, Runs, run_end, later_of}
 
 -- ---- the table
 
@@ -68,36 +69,12 @@ module _ (base writers : List ℕ) where
 
 -- ---- the next block to look at
 
-pub least_first : (x y : ℕ) → x ≤ y → x ≡ least_of x y
-unfolding least_of
-least_first x y h = rw (le-leb x y h)
-
-pub least-second : (x y : ℕ) → y < x → y ≡ least_of x y
-unfolding least_of
-least-second x y h = rw (lt-leb x y h)
-
-least-most : (x y : ℕ) → (least_of x y ≤ x) × (least_of x y ≤ y)
-unfolding least_of
-least-most x y = go (leb x y) refl
-  where
-    go : (b : Bool) → leb x y ≡ b → (cond b x y ≤ x) × (cond b x y ≤ y)
-    go true e = (omega arith, leb-true x y e)
-    go false e = (let h = leb-false x y e in omega arith, omega arith)
-
-least-over : (x y k : ℕ) → k < x → k < y → k < least_of x y
-unfolding least_of
-least-over x y k h l = go (leb x y)
-  where
-    go : (b : Bool) → k < cond b x y
-    go true = h
-    go false = l
-
 module _ (runs : List ℕ) (a k tail : ℕ) where
   pub later-tail : k + 1 ≡ tail → tail ≡ later_of runs a k tail
   unfolding later_of
   later-tail e = rw (eq-eqb (k + 1) tail e)
 
-  module _ (d : k + 1 ≡ tail → ⊥) (to : ℕ) (e : to ≡ least_of (get_or runs (k + 1) 0) tail) where
+  module _ (d : k + 1 ≡ tail → ⊥) (to : ℕ) (e : to ≡ min (get_or runs (k + 1) 0) tail) where
     pub later-next : to ≤ k + 1 → k + 1 ≡ later_of runs a k tail
     unfolding later_of
     later-next h = rw (ne_eqb (k + 1) tail d, ← e, le-leb to (k + 1) h)
@@ -107,7 +84,7 @@ module _ (runs : List ℕ) (a k tail : ℕ) where
       unfolding later_of
       later_past h = rw (ne_eqb (k + 1) tail d, ← e, lt-leb to (k + 1) some, lt-ltb a (k + 1) h)
 
-      pub later-known : (r : ℕ) → k + 1 ≤ a → r ≡ least_of to a → r ≡ later_of runs a k tail
+      pub later-known : (r : ℕ) → k + 1 ≤ a → r ≡ min to a → r ≡ later_of runs a k tail
       unfolding later_of
       later-known r h q = rw (ne_eqb (k + 1) tail d, ← e, lt-leb to (k + 1) some, le-ltb a (k + 1) h) q
 
@@ -122,19 +99,20 @@ unfolding later_of
 later_passes base writers runs a k tail r g l m e = rw e (go (eqb (k + 1) tail) (leb to (k + 1)) (ltb a (k + 1)) refl refl refl)
   where
     to : ℕ
-    to = least_of (get_or runs (k + 1) 0) tail
+    to = min (get_or runs (k + 1) 0) tail
 
     run : (k + 1 ≡ tail → ⊥) → Run base writers (k + 1) (get_or runs (k + 1) 0)
     run d = g.at (k + 1) (omega arith) (omega (arith, d, l, m))
 
     go : (b n c : Bool) → eqb (k + 1) tail ≡ b → leb to (k + 1) ≡ n → ltb a (k + 1) ≡ c
-        → Passes base writers a k tail (cond b tail (cond n (k + 1) (cond c to (least_of to a))))
+        → Passes base writers a k tail (cond b tail (cond n (k + 1) (cond c to (min to a))))
     go true n c x w y = let z = eqb-true (k + 1) tail x in record { over = omega arith; most = omega arith; at = λ j p q. absurd (omega (arith, z, p, q)) }
     go false true c x w y = let d = eqb-false (k + 1) tail x in record { over = omega arith; most = omega (arith, d, l); at = λ j p q. absurd (omega (arith, p, q)) }
     go false false true x w y =
         let d = eqb-false (k + 1) tail x in
         let some = leb-false to (k + 1) w in
-        let (first, second) = least-most (get_or runs (k + 1) 0) tail in
+        let first : to ≤ get_or runs (k + 1) 0 = omega arith in
+        let second : to ≤ tail = omega arith in
         let low = ltb-true a (k + 1) y in
         record {
           over = omega (arith, some);
@@ -144,13 +122,15 @@ later_passes base writers runs a k tail r g l m e = rw e (go (eqb (k + 1) tail) 
     go false false false x w y =
         let d = eqb-false (k + 1) tail x in
         let some = leb-false to (k + 1) w in
-        let (first, second) = least-most (get_or runs (k + 1) 0) tail in
-        let (third, fourth) = least-most to a in
+        let first : to ≤ get_or runs (k + 1) 0 = omega arith in
+        let second : to ≤ tail = omega arith in
+        let third : min to a ≤ to = omega arith in
+        let fourth : min to a ≤ a = omega arith in
         let high = ltb-false a (k + 1) y in
         record {
-          over = least-over to a k (omega (arith, some)) (omega (arith, high));
+          over = omega (arith, some, high);
           most = omega (arith, second, third);
           at = λ j p q. ((run d).at j (omega arith) (omega (arith, first, third, q)), λ (z : j ≡ a). absurd (omega (arith, fourth, q, z)));
         }
 
-pub ruleset running = (rules, end_written, end_empty, end_run, run_none, runs_blank, run_more, runs_more, runs_all, least_first, least-second, later-tail, later-next, later_past, later-known)
+pub ruleset running = (rules, end_written, end_empty, end_run, run_none, runs_blank, run_more, runs_more, runs_all, later-tail, later-next, later_past, later-known)

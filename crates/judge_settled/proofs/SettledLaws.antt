@@ -2,22 +2,20 @@
 -- flagged is looked at, from the last down to one that is chosen. The same for a check, by its own block.
 use mathlib.Core.Path.{◌≡◌, refl, sym, ap, ◌∙◌}
 use mathlib.Core.Logic.{◌⊎◌, inl, inr, ⊎_elim}
-use mathlib.Core.Bool.{Bool, true, false, not, ◌&&◌, ◌||◌, false≢true}
+use mathlib.Core.Bool.{Bool, true, false, ◌&&◌, ◌||◌, false≢true}
 use mathlib.Core.List.{List}
 use Prim.Native.Nat.{ℕ, ◌*◌, ◌%◌, ◌^◌, ◌≤◌, ◌<◌}
 use native.Mathlib.Omega.{arith}
 use lib.Bits.{bit_and, bit_or}
 use lib.Dec.{eqb, ltb}
 use lib.ListN.{length, get_or}
-use lib.Seq.{set-get_or}
 use borrow.Author.Rules.{rules}
-use borrow.Author.Tests.{eqb-true, eq-eqb, ne_eqb, ltb-true, lt-ltb, not-false}
+use borrow.Author.Tests.{eqb-true, eq-eqb, ne_eqb, ltb-true, lt-ltb}
 use Rattle.relation.specs.Bits.{bit, without, Highest}
 use Rattle.relation.proofs.BitLaws.{bit-and, bit-or, bit-zero, bit_pow, bit_mask, power_is}
 use Rattle.relation.proofs.ListLaws.{untrue, or_cases, and_left, and_right, and_intro, clash}
 use Rattle.relation.proofs.MemberLaws.{left_less}
 use Rattle.relation.proofs.SetLaws.{without_member, member_without}
-use Rattle.model.specs.declared.Check.{Check}
 use Rattle.model.specs.Limits.{disk_blocks, most_main}
 use Rattle.model.specs.Disk.{empty, block_at}
 use Rattle.judge_disks.specs.Packed.{unpacked}
@@ -26,7 +24,7 @@ use Rattle.judge_closed.specs.Closed.{between}
 use Rattle.judge_closed.proofs.ClosedLaws.{between-has, between_may}
 use Rattle.judge_settled.specs.declared.Answer.{Answer}
 use Rattle.judge_settled.specs.declared.Answer.TheVariants.{Yes, No, Open}
-use Rattle.judge_settled.specs.Settled.{Says, is_yes, opposed, agreed, disk_of, laid, is_block, holds_in, own_block, holds_by, valued, writers_of, Ready, Fixed, Among, Only, definite, Agrees, AlikeIf}
+use Rattle.judge_settled.specs.Settled.{Says, disk_of, laid, valued, writers_of, Ready, Fixed, Among, Only, definite, Agrees, AlikeIf}
 
 -- ---- the writes to an address
 
@@ -88,41 +86,12 @@ module _ (column : List ℕ) (n a set h rest : ℕ) (few : n ≤ most_main) (l :
 pub record Per (p : ℕ → Bool) (column base : List ℕ) (n chosen free a own : ℕ) (answer : Answer) : Type 0 where
   pub of : (s : ℕ) → between chosen free s ≡ true → laid column base n a s ≡ own → Agrees answer (p s)
 
-pub per_value : (column base : List ℕ) (n chosen free a own v : ℕ) (answer : Answer) → answer ≡ valued own v → Per (is_block column base n a v) column base n chosen free a own answer
-per_value column base n chosen free a own v answer e = record { of = λ s b q. rw e (go s q (eqb own v) refl) }
-  where
-    go : (s : ℕ) → laid column base n a s ≡ own → (t : Bool) → eqb own v ≡ t → Agrees (valued own v) (is_block column base n a v s)
-    go s q true z = unfold is_block valued in rw (q, z) (unfold Agrees in refl)
-    go s q false z = unfold is_block valued in rw (q, z) (unfold Agrees in refl)
-
--- with the block put where it is already the disk is the same
-holds-own : (column base : List ℕ) (n : ℕ) (c : Check) (s own : ℕ) → laid column base n (own_block c) s ≡ own → holds_in column base n c s ≡ holds_by column base n c own s
-unfolding holds_in holds_by laid
-holds-own column base n c s own e = rw (← e, set-get_or (disk_of column base n s) (own_block c) 0)
-
-pub per_check : (column base : List ℕ) (n chosen free own : ℕ) (c : Check) (answer : Answer) → Says (holds_by column base n c own) chosen free answer
-    → Per (holds_in column base n c) column base n chosen free (own_block c) own answer
+pub per_question : (p w : ℕ → Bool) (column base : List ℕ) (n chosen free a own : ℕ) (answer : Answer) → ((s : ℕ) → laid column base n a s ≡ own → p s ≡ w s) → Says w chosen free answer
+    → Per p column base n chosen free a own answer
 unfolding Says Agrees
-per_check column base n chosen free own c Yes g = record { of = λ s b q. holds-own column base n c s own q ∙ g s b }
-per_check column base n chosen free own c No g = record { of = λ s b q. holds-own column base n c s own q ∙ g s b }
-per_check column base n chosen free own c (Open h) g = record { of = λ s b q. tt }
-
--- an answer that agrees is definite, and says the same
-agreed-definite : (first answer : Answer) → agreed first answer ≡ true → definite first ≡ true
-unfolding agreed definite
-agreed-definite Yes answer e = refl
-agreed-definite No answer e = refl
-agreed-definite (Open h) answer e = absurd (false≢true e)
-
-agreed-same : (first answer : Answer) (b : Bool) → agreed first answer ≡ true → Agrees answer b → Agrees first b
-unfolding agreed Agrees is_yes opposed
-agreed-same Yes Yes b e g = g
-agreed-same Yes No b e g = absurd (false≢true e)
-agreed-same Yes (Open h) b e g = absurd (false≢true e)
-agreed-same No Yes b e g = absurd (false≢true e)
-agreed-same No No b e g = g
-agreed-same No (Open h) b e g = absurd (false≢true e)
-agreed-same (Open k) answer b e g = absurd (false≢true e)
+per_question p w column base n chosen free a own Yes f g = record { of = λ s b q. f s q ∙ g s b }
+per_question p w column base n chosen free a own No f g = record { of = λ s b q. f s q ∙ g s b }
+per_question p w column base n chosen free a own (Open h) f g = record { of = λ s b q. tt }
 
 -- a schedule between flags what is chosen
 module _ (p : ℕ → Bool) (column base : List ℕ) (n chosen free a : ℕ) (first : Answer) where
@@ -134,19 +103,16 @@ module _ (p : ℕ → Bool) (column base : List ℕ) (n chosen free a : ℕ) (fi
   pub going_none : (set : ℕ) → Among column n a set → Going set set
   going_none set g = record { among = g; each = λ s b o. inl o }
 
-  module _ (set left h own : ℕ) (answer : Answer) (t : Bool) (g : Going set left) (top : Highest left h) (l : h < 64) (inside : a < disk_blocks) (size : length base ≡ disk_blocks)
-      (e : own ≡ (unpacked (get_or column h 0)).block) (r : Per p column base n chosen free a own answer) (q : t ≡ agreed first answer) (yes : not t ≡ false) where
-    agrees : agreed first answer ≡ true
-    agrees = sym q ∙ not-false t yes
-
+  module _ (set left h own : ℕ) (answer : Answer) (g : Going set left) (top : Highest left h) (l : h < 64) (inside : a < disk_blocks) (size : length base ≡ disk_blocks)
+      (e : own ≡ (unpacked (get_or column h 0)).block) (r : Per p column base n chosen free a own answer) (d : definite first ≡ true) (q : answer ≡ first) where
     here : (s : ℕ) → between chosen free s ≡ true → Only column n a left s → bit s h ≡ true → Agrees first (p s)
     here s b o z =
-        agreed-same first answer (p s) agrees (r.of s b (laid_top column n a base (omega arith) s left o h g.among top z ∙ sym e))
+        rw q at (r.of s b (laid_top column n a base (omega arith) s left o h g.among top z ∙ sym e))
 
     pub going_chosen : (c : Bool) → c ≡ bit chosen h → c ≡ true → AlikeIf true p column n chosen free a set first
     unfolding AlikeIf
     going_chosen c k z = (
-      agreed-definite first answer agrees,
+      d,
       λ s b o. ⊎_elim (λ m. here s b m (between-has chosen free s b h (sym k ∙ z))) (λ m. m) (g.each s b o),
     )
 
@@ -161,14 +127,13 @@ module _ (p : ℕ → Bool) (column base : List ℕ) (n chosen free a : ℕ) (fi
         go s b m true f = inr (here s b m f)
         go s b m false f = inl (rest-only column n a left h next few l z s m f)
 
-  pub going_base : (set left : ℕ) (answer : Answer) (t : Bool) → Going set left → left ≡ 0 → a < disk_blocks → length base ≡ disk_blocks → Per p column base n chosen free a (block_at base a) answer
-      → t ≡ agreed first answer → AlikeIf t p column n chosen free a set first
+  pub going_base : (set left : ℕ) (answer : Answer) → Going set left → left ≡ 0 → a < disk_blocks → length base ≡ disk_blocks → Per p column base n chosen free a (block_at base a) answer
+      → definite first ≡ true → answer ≡ first → AlikeIf true p column n chosen free a set first
   unfolding AlikeIf
-  going_base set left answer true g z inside size r q = (
-    agreed-definite first answer (sym q),
-    λ s b o. ⊎_elim (λ m. agreed-same first answer (p s) (sym q) (r.of s b (laid-base column n a base (omega arith) s left m z))) (λ m. m) (g.each s b o),
+  going_base set left answer g z inside size r d q = (
+    d,
+    λ s b o. ⊎_elim (λ m. rw q at (r.of s b (laid-base column n a base (omega arith) s left m z))) (λ m. m) (g.each s b o),
   )
-  going_base set left answer false g z inside size r q = tt
 
   pub going_not : (set : ℕ) → AlikeIf false p column n chosen free a set first
   unfolding AlikeIf
@@ -237,79 +202,65 @@ module _ (column base writers : List ℕ) (n chosen free a may : ℕ) (ready : R
         done No f d = unfold Says Agrees in f
         done (Open k) f d = unfold definite in absurd (false≢true d)
 
-  -- ---- the block is v
+-- a known block is v
+pub value_says : (own v chosen free : ℕ) (answer : Answer) → answer ≡ valued own v → Says (λ s. eqb own v) chosen free answer
+value_says own v chosen free answer e = rw e (go (eqb own v) refl)
+  where
+    go : (t : Bool) → eqb own v ≡ t → Says (λ s. eqb own v) chosen free (valued own v)
+    go true z = unfold valued in rw z (unfold Says in λ s b. refl)
+    go false z = unfold valued in rw z (unfold Says in λ s b. refl)
 
-  module _ (v own : ℕ) (answer : Answer) (k : answer ≡ valued own v) where
-    value_says : ((s : ℕ) → between chosen free s ≡ true → laid column base n a s ≡ own) → Says (is_block column base n a v) chosen free answer
-    value_says f = go (eqb own v) refl
-      where
-        go : (t : Bool) → eqb own v ≡ t → Says (is_block column base n a v) chosen free answer
-        go true z = rw k (unfold valued in rw z (unfold Says is_block in λ s b. rw (f s b) z))
-        go false z = rw k (unfold valued in rw z (unfold Says is_block in λ s b. rw (f s b) z))
+-- ---- a question, by the address of its own block; with that block known it is w
 
-    pub value-base : may ≡ 0 → own ≡ block_at base a → Says (is_block column base n a v) chosen free answer
-    value-base z q = value_says (λ s b. fixed_base z s b ∙ sym q)
-
-    pub value-last : (h : ℕ) (c : Bool) → Highest may h → c ≡ bit chosen h → c ≡ true → own ≡ (unpacked (get_or column h 0)).block → Says (is_block column base n a v) chosen free answer
-    value-last h c top z y q = value_says (λ s b. fixed_last h top s b (between-has chosen free s b h (sym z ∙ y)) ∙ sym q)
-
--- ---- a check, by the address a of its own block
-
-module _ (column base : List ℕ) (n chosen free : ℕ) (c : Check) (a : ℕ) (ea : a ≡ own_block c) (inside : a < disk_blocks) (size : length base ≡ disk_blocks) (first : Answer) where
-  own-inside : own_block c < disk_blocks
-  own-inside = rw (← ea) inside
-
-  module _ (set left h own : ℕ) (answer : Answer) (t : Bool) (g : Going (holds_in column base n c) column base n chosen free (own_block c) first set left) (top : Highest left h) (l : h < 64)
-      (e : own ≡ (unpacked (get_or column h 0)).block) (r : Says (holds_by column base n c own) chosen free answer) (q : t ≡ agreed first answer) (yes : not t ≡ false) where
-    pub checks-chosen : (d : Bool) → d ≡ bit chosen h → d ≡ true → AlikeIf true (holds_in column base n c) column n chosen free (own_block c) set first
-    checks-chosen =
-        going_chosen (holds_in column base n c) column base n chosen free (own_block c) first set left h own answer t g top l own-inside size e (per_check column base n chosen free own c answer r) q yes
-
-    pub checks-more : (next : ℕ) → n ≤ most_main → next ≡ without left (1 * 2 ^ h % 18446744073709551616) → Going (holds_in column base n c) column base n chosen free (own_block c) first set next
-    checks-more =
-        going_more (holds_in column base n c) column base n chosen free (own_block c) first set left h own answer t g top l own-inside size e (per_check column base n chosen free own c answer r) q yes
-
-  pub checks-base : (set left : ℕ) (answer : Answer) (t : Bool) → Going (holds_in column base n c) column base n chosen free (own_block c) first set left → left ≡ 0
-      → Says (holds_by column base n c (block_at base a)) chosen free answer → t ≡ agreed first answer → AlikeIf t (holds_in column base n c) column n chosen free (own_block c) set first
-  checks-base set left answer t g z r q =
-      going_base (holds_in column base n c) column base n chosen free (own_block c) first set left answer t g z own-inside size
-      (per_check column base n chosen free (block_at base (own_block c)) c answer (rw ea at r)) q
-
-module _ (column base writers : List ℕ) (n chosen free may : ℕ) (c : Check) (a : ℕ) (ea : a ≡ own_block c) (inside : a < disk_blocks) (ready : Ready column base n writers)
-    (e : may ≡ bit_and (get_or writers a 0) (bit_or chosen free)) where
-  inside-own : own_block c < disk_blocks
+module _ (p : ℕ → Bool) (w : ℕ → ℕ → Bool) (column base : List ℕ) (n chosen free a begins : ℕ) (by : (own s : ℕ) → laid column base n begins s ≡ own → p s ≡ w own s) (ea : a ≡ begins) (inside : a < disk_blocks) where
+  inside-own : begins < disk_blocks
   inside-own = rw (← ea) inside
 
-  may_own : may ≡ bit_and (get_or writers (own_block c) 0) (bit_or chosen free)
-  may_own = rw (← ea) e
+  per : (own : ℕ) (answer : Answer) → Says (w own) chosen free answer → Per p column base n chosen free begins own answer
+  per own answer = per_question p (w own) column base n chosen free begins own answer (by own)
 
-  check_says : (own : ℕ) (answer : Answer) → Says (holds_by column base n c own) chosen free answer → ((s : ℕ) → between chosen free s ≡ true → laid column base n (own_block c) s ≡ own)
-      → Says (holds_in column base n c) chosen free answer
-  unfolding Says
-  check_says own Yes k f = λ s b. holds-own column base n c s own (f s b) ∙ k s b
-  check_says own No k f = λ s b. holds-own column base n c s own (f s b) ∙ k s b
-  check_says own (Open h) k f = k
+  module _ (size : length base ≡ disk_blocks) (first : Answer) (d : definite first ≡ true) where
+    module _ (set left h own : ℕ) (answer : Answer) (g : Going p column base n chosen free begins first set left) (top : Highest left h) (l : h < 64) (e : own ≡ (unpacked (get_or column h 0)).block)
+        (r : Says (w own) chosen free answer) (q : answer ≡ first) where
+      pub alike_chosen : (c : Bool) → c ≡ bit chosen h → c ≡ true → AlikeIf true p column n chosen free begins set first
+      alike_chosen = going_chosen p column base n chosen free begins first set left h own answer g top l inside-own size e (per own answer r) d q
 
-  pub check_base : (answer : Answer) → Says (holds_by column base n c (block_at base a)) chosen free answer → may ≡ 0 → Says (holds_in column base n c) chosen free answer
-  check_base answer g z = check_says (block_at base a) answer g (λ s b. fixed_base column base writers n chosen free (own_block c) may ready inside-own may_own z s b ∙ rw ea)
+      pub alike_more : (next : ℕ) → n ≤ most_main → next ≡ without left (1 * 2 ^ h % 18446744073709551616) → Going p column base n chosen free begins first set next
+      alike_more = going_more p column base n chosen free begins first set left h own answer g top l inside-own size e (per own answer r) d q
 
-  module _ (h : ℕ) (top : Highest may h) where
-    pub check_last : (own : ℕ) (answer : Answer) (t : Bool) → Says (holds_by column base n c own) chosen free answer → t ≡ bit chosen h → t ≡ true → own ≡ (unpacked (get_or column h 0)).block
-        → Says (holds_in column base n c) chosen free answer
-    check_last own answer t g z y q =
-        check_says own answer g (λ s b. fixed_last column base writers n chosen free (own_block c) may ready inside-own may_own h top s b (between-has chosen free s b h (sym z ∙ y)) ∙ sym q)
+    pub alike_base : (set left : ℕ) (answer : Answer) (t : Bool) → Going p column base n chosen free begins first set left → left ≡ 0 → Says (w (block_at base a)) chosen free answer
+        → (t ≡ true → answer ≡ first) → AlikeIf t p column n chosen free begins set first
+    alike_base set left answer true g z r q =
+        going_base p column base n chosen free begins first set left answer g z inside-own size (per (block_at base begins) answer (rw ea at r)) d (q refl)
+    alike_base set left answer false g z r q = going_not p column base n chosen free begins first set
 
-    pub check_rest : (rest : ℕ) → rest ≡ without may (1 * 2 ^ h % 18446744073709551616) → Among column n (own_block c) rest
-    check_rest = rest_writers column base writers n chosen free (own_block c) may ready inside-own may_own h top
+  module _ (writers : List ℕ) (may : ℕ) (ready : Ready column base n writers) (e : may ≡ bit_and (get_or writers a 0) (bit_or chosen free)) where
+    may_own : may ≡ bit_and (get_or writers begins 0) (bit_or chosen free)
+    may_own = rw (← ea) e
 
-    pub check_open : (t : Bool) → t ≡ bit chosen h → t ≡ false → Says (holds_in column base n c) chosen free (Open h)
-    check_open = says_open column base writers n chosen free (own_block c) may ready inside-own may_own h top (holds_in column base n c)
+    says_known : (own : ℕ) (answer : Answer) → Says (w own) chosen free answer → ((s : ℕ) → between chosen free s ≡ true → laid column base n begins s ≡ own) → Says p chosen free answer
+    unfolding Says
+    says_known own Yes k f = λ s b. by own s (f s b) ∙ k s b
+    says_known own No k f = λ s b. by own s (f s b) ∙ k s b
+    says_known own (Open h) k f = k
 
-    pub check_alike : (own rest : ℕ) (first : Answer) (t : Bool) → own ≡ (unpacked (get_or column h 0)).block → Says (holds_by column base n c own) chosen free first
-        → rest ≡ without may (1 * 2 ^ h % 18446744073709551616) → AlikeIf t (holds_in column base n c) column n chosen free (own_block c) rest first → t ≡ true → Says (holds_in column base n c) chosen free first
-    check_alike own rest first t q r z g y =
-        says_alike column base writers n chosen free (own_block c) may ready inside-own may_own h top (holds_in column base n c) own rest first t q (per_check column base n chosen free own c first r) z g y
+    pub ask_base : (answer : Answer) → Says (w (block_at base a)) chosen free answer → may ≡ 0 → Says p chosen free answer
+    ask_base answer g z = says_known (block_at base a) answer g (λ s b. fixed_base column base writers n chosen free begins may ready inside-own may_own z s b ∙ rw ea)
 
-pub ruleset settling = (rules, per_value, going_none, going_chosen, going_more, going_base, going_not, left_less, may_among, last-below, rest_writers, says_open, says_alike, value-base, value-last)
+    module _ (h : ℕ) (top : Highest may h) where
+      pub ask_last : (own : ℕ) (answer : Answer) (t : Bool) → Says (w own) chosen free answer → t ≡ bit chosen h → t ≡ true → own ≡ (unpacked (get_or column h 0)).block → Says p chosen free answer
+      ask_last own answer t g z y q =
+          says_known own answer g (λ s b. fixed_last column base writers n chosen free begins may ready inside-own may_own h top s b (between-has chosen free s b h (sym z ∙ y)) ∙ sym q)
 
-pub ruleset checking = (rules, going_none, going_not, left_less, checks-chosen, checks-more, checks-base, check_base, check_last, check_rest, check_open, check_alike)
+      pub ask_rest : (rest : ℕ) → rest ≡ without may (1 * 2 ^ h % 18446744073709551616) → Among column n begins rest
+      ask_rest = rest_writers column base writers n chosen free begins may ready inside-own may_own h top
+
+      pub ask_open : (t : Bool) → t ≡ bit chosen h → t ≡ false → Says p chosen free (Open h)
+      ask_open = says_open column base writers n chosen free begins may ready inside-own may_own h top p
+
+      pub ask_alike : (own rest : ℕ) (first : Answer) (t : Bool) → own ≡ (unpacked (get_or column h 0)).block → Says (w own) chosen free first
+          → rest ≡ without may (1 * 2 ^ h % 18446744073709551616) → AlikeIf t p column n chosen free begins rest first → t ≡ true → Says p chosen free first
+      ask_alike own rest first t q r z g y =
+          says_alike column base writers n chosen free begins may ready inside-own may_own h top p own rest first t q (per own first r) z g y
+
+pub ruleset settling = (rules, going_none, going_not, left_less, last-below, value_says)

@@ -1,5 +1,5 @@
 -- What all schedules between two sets say of a block, of a check, of all checks.
-use Rattle.std.specs.Prelude.{ℕ, ◌+◌, ◌≤◌, ◌<◌, ◌≡◌, Bool, true, false, cond, not, List, eqb, leb, ltb, length, get_or, set}
+use Rattle.std.specs.Prelude.{ℕ, ◌+◌, ◌≤◌, ◌<◌, ◌≡◌, Bool, true, false, cond, not, List, eqb, leb, ltb, min, length, get_or, set}
 use Rattle.relation.specs.Bits.{bit, mask_of}
 use Rattle.relation.specs.Tables.{Filled}
 use Rattle.model.specs.declared.Check.{Check}
@@ -21,29 +21,11 @@ Says p chosen free Yes = (s : ℕ) → between chosen free s ≡ true → p s �
 Says p chosen free No = (s : ℕ) → between chosen free s ≡ true → p s ≡ false
 Says p chosen free (Open h) = bit free h ≡ true
 
--- an answer is yes
-unfoldable pub is_yes : Answer → Bool
-is_yes Yes = true
-is_yes No = false
-is_yes (Open h) = false
-
 -- the answer to the opposite question
 unfoldable pub opposed : Answer → Answer
 opposed Yes = No
 opposed No = Yes
 opposed (Open h) = Open h
-
--- the write that an open answer names
-unfoldable pub Names : Answer → ℕ → Type 0
-Names Yes r = Unit {0}
-Names No r = Unit {0}
-Names (Open h) r = r ≡ h
-
--- both are yes, or both no
-unfoldable pub agreed : Answer → Answer → Bool
-agreed Yes a = is_yes a
-agreed No a = is_yes (opposed a)
-agreed (Open h) a = false
 
 -- ---- what is asked of a schedule's disk: of the first n writes of a column, from a base
 
@@ -129,15 +111,12 @@ pub record Runs (base writers : List ℕ) (from : ℕ) (runs : List ℕ) : Type 
 unfoldable pub run_end : List ℕ → List ℕ → ℕ → ℕ → ℕ
 run_end base writers k to = cond (eqb (get_or writers k 0) 0) (cond (eqb (get_or base k 0) 0) k to) k
 
-unfoldable pub least_of : ℕ → ℕ → ℕ
-least_of x y = cond (leb x y) x y
-
 -- the next block behind k: of a run the end, but no further than `tail`, and than the block at a
 unfoldable pub later_of : List ℕ → ℕ → ℕ → ℕ → ℕ
 later_of runs a k tail =
     cond (eqb (k + 1) tail) tail
-    (cond (leb (least_of (get_or runs (k + 1) 0) tail) (k + 1)) (k + 1)
-    (cond (ltb a (k + 1)) (least_of (get_or runs (k + 1) 0) tail) (least_of (least_of (get_or runs (k + 1) 0) tail) a)))
+    (cond (leb (min (get_or runs (k + 1) 0) tail) (k + 1)) (k + 1)
+    (cond (ltb a (k + 1)) (min (get_or runs (k + 1) 0) tail) (min (min (get_or runs (k + 1) 0) tail) a)))
 
 -- a set has no others than writes to a
 unfoldable pub Among : List ℕ → ℕ → ℕ → ℕ → Type 0

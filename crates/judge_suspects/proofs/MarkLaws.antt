@@ -4,11 +4,11 @@ use mathlib.Core.Bool.{Bool, true, false, cond, not, ◌&&◌, or-false}
 use mathlib.Core.List.{List, [], ◌∷◌}
 use Prim.Native.Nat.{ℕ, ◌+◌, ◌≤◌, ◌<◌}
 use native.Mathlib.Numerals.{add-one}
-use native.Mathlib.Omega.{arith}
 use lib.Bits.{bit_or}
 use lib.Dec.{eqb}
 use lib.ListN.{length, get_or, take}
 use lib.Seq.{take-suc}
+use Rattle.std.proofs.lemmas.List.{take_all}
 use borrow.Author.Rules.{rules}
 use borrow.Author.Tests.{eq-eqb, ne_eqb}
 use Rattle.relation.specs.Bits.{bit, with_bit, mask_of}
@@ -18,7 +18,6 @@ use Rattle.relation.proofs.ListLaws.{any_append}
 use Rattle.relation.proofs.MaskLaws.{mask_none, mask_or, mask_begun, mask_more, mask_all}
 use Rattle.model.specs.declared.Check.{Check}
 use Rattle.model.specs.declared.Check.TheVariants.{Range, Pair, Pointer}
-use Rattle.model.specs.Limits.{most_checks}
 use Rattle.model.specs.Disk.{empty}
 use Rattle.judge_disks.specs.Packed.{unpacked}
 use Rattle.judge_suspects.specs.Suspects.{opens, spoils, opens_in, spoils_in, MarkedFor, Marked, mates_of}
@@ -92,16 +91,15 @@ module _ (column : List ℕ) (n : ℕ) (checks : List Check) where
   pub marked-none : Marked column n (take 0 checks) 0 0
   marked-none = record { own_is = unfold any in mask_none n; other-is = unfold any in mask_none n }
 
-  pub marked_more : (z : Check) (k m own other more others : ℕ) → Marked column n (take k checks) own other → k < m → m ≤ most_checks → length checks ≡ most_checks
-      → MarkedFor column n (get_or checks k z) more others
+  pub marked_more : (z : Check) (k own other more others : ℕ) → Marked column n (take k checks) own other → k < length checks → MarkedFor column n (get_or checks k z) more others
       → Marked column n (take (k + 1) checks) (bit_or own more) (bit_or other others)
-  marked_more z k m own other more others g h few size f = record {
-    own_is = rw (g.own_is, f.own_is) (any-more (opens_in column) n checks z k (omega arith));
-    other-is = rw (g.other-is, f.other-is) (any-more (spoils_in column) n checks z k (omega arith));
+  marked_more z k own other more others g h f = record {
+    own_is = rw (g.own_is, f.own_is) (any-more (opens_in column) n checks z k h);
+    other-is = rw (g.other-is, f.other-is) (any-more (spoils_in column) n checks z k h);
   }
 
-  pub marked_all : (k m own other : ℕ) → Marked column n (take k checks) own other → k ≤ m → m ≤ k → Marked column n (take m checks) own other
-  marked_all k m own other g h l = let z : k ≡ m = omega arith in rw (← z) g
+  pub marked_all : (k own other : ℕ) → Marked column n (take k checks) own other → length checks ≤ k → Marked column n checks own other
+  marked_all k own other g h = rw (take_all k checks h) at g
 
 pub ruleset checking = (rules, marked-none, marked_more, marked_all)
 

@@ -25,10 +25,7 @@ struct Marks {
 fn is_at(x: usize, a: u8, too: bool) -> bool
     ensures { result ≡ eqb x a && too }
 {
-    if x != a as usize {
-        return false;
-    }
-    too
+    x == usize::from(a) && too
 }
 
 // Whether a check can fail that begins with a write's block.
@@ -38,8 +35,8 @@ fn can_open(c: Check, write: u64) -> bool
     let x = judge_disks::address_of(write);
     let block = judge_disks::block_of(write);
     match c {
-        Check::Range(a) => x == a as usize,
-        Check::Pair { a, v, b: _, w: _ } => is_at(x, a, block == v),
+        Check::Range(a) => x == usize::from(a),
+        Check::Pair { a, v, .. } => is_at(x, a, block == v),
         Check::Pointer(a) => is_at(x, a, block != 0),
     }
 }
@@ -51,9 +48,8 @@ fn can_spoil(c: Check, write: u64) -> bool
     let x = judge_disks::address_of(write);
     let block = judge_disks::block_of(write);
     match c {
-        Check::Range(_) => block == 0,
-        Check::Pair { a: _, v: _, b, w } => is_at(x, b, block != w),
-        Check::Pointer(_) => block == 0,
+        Check::Range(_) | Check::Pointer(_) => block == 0,
+        Check::Pair { b, w, .. } => is_at(x, b, block != w),
     }
 }
 
@@ -64,29 +60,25 @@ fn mark_for(stores: &[u64; MOST_INITIAL], n: usize, c: Check) -> Marks
 {
     let mut own: u64 = 0;
     let mut other: u64 = 0;
-    let mut i: usize = 0;
-    while i < n {
+    for i in 0..n {
         let write = stores[i];
         own = relation::with_if(own, i, can_open(c, write));
         other = relation::with_if(other, i, can_spoil(c, write));
-        i += 1;
     }
     Marks { own, other }
 }
 
-// The same over the first m checks.
-fn mark(stores: &[u64; MOST_INITIAL], n: usize, checks: [Check; MOST_CHECKS], m: usize) -> Marks
-    requires { (n ≤ most_main) × (m ≤ most_checks) }
-    ensures { Marked stores.now n (take m checks) result.own result.other }
+// The same over all checks.
+fn mark(stores: &[u64; MOST_INITIAL], n: usize, checks: &[Check]) -> Marks
+    requires { n ≤ most_main }
+    ensures { Marked stores.now n checks.now result.own result.other }
 {
     let mut own: u64 = 0;
     let mut other: u64 = 0;
-    let mut k: usize = 0;
-    while k < m {
-        let found = mark_for(stores, n, checks[k]);
-        own = own | found.own;
-        other = other | found.other;
-        k += 1;
+    for c in checks {
+        let found = mark_for(stores, n, *c);
+        own |= found.own;
+        other |= found.other;
     }
     Marks { own, other }
 }
@@ -96,16 +88,14 @@ fn make_room(list: &mut [u64], many: usize, x: u64) -> usize
     requires { many < length list.old }
     ensures { MakesRoom many x list.old result list.new }
 {
-    let mut k = many;
-    while 0 < k {
-        let before = list[k - 1];
+    for k in (0..many).rev() {
+        let before = list[k];
         if before <= x {
-            return k;
+            return k + 1;
         }
-        list[k] = before;
-        k -= 1;
+        list[k + 1] = before;
     }
-    k
+    0
 }
 
 // Puts a number in its place among them.
@@ -121,10 +111,7 @@ fn insert(list: &mut [u64], many: usize, x: u64)
 fn mask_if(on: bool, mask: u64) -> u64
     ensures { result ≡ cond on mask 0 }
 {
-    if on {
-        return mask;
-    }
-    0
+    if on { mask } else { 0 }
 }
 
 // The writes that write h can be suspected with: it is the one that a check begins with and they are the other
@@ -136,85 +123,84 @@ fn mates(own: u64, other: u64, h: usize) -> u64
     mask_if(relation::has_bit(own, h), other) | mask_if(relation::has_bit(other, h), own)
 }
 
-// Lists the schedule without flags, and what single writes bring, of those in a mask.
-fn list_ones(list: &mut [u64], brought: &[u64], n: usize, mask: u64) -> usize
-    requires { ((length list.old ≡ most_listed) × (n ≤ most_main)) × ((length brought.now ≡ 64) × Completes brought.now n brought.now) }
-    ensures { OnesListed brought.now n mask n result list.new }
-{
-    list[0] = 0;
-    let mut many: usize = 1;
-    let mut i: usize = 0;
-    'ones: while i < n {
-        if !relation::has_bit(mask, i) {
-            i += 1;
-            continue 'ones;
-        }
-        insert(list, many, relation::rank(brought[i]));
-        many += 1;
-        i += 1;
-    }
-    many
-}
-
-// Lists what write h brings together with each write before it, of those in a mask. Most writes of a log have
-// no mate: they cost one test.
-fn list_row(list: &mut [u64], many: usize, brought: &[u64], n: usize, h: usize, mask: u64) -> usize
-    requires { ((length list.old ≡ most_listed) × ((n ≤ most_main) × (h < n))) × ((many + h ≤ most_listed) × ((length brought.now ≡ 64) × (Completes brought.now n brought.now × Ranks brought.now n many list.old))) }
-    ensures { RowListed brought.now n h mask h many list.old result list.new }
-{
-    if mask == 0 {
-        return many;
-    }
-    let mut now = many;
-    let mut l: usize = 0;
-    'row: while l < h {
-        if !relation::has_bit(mask, l) {
-            l += 1;
-            continue 'row;
-        }
-        insert(list, now, relation::rank(brought[h] | brought[l]));
-        now += 1;
-        l += 1;
-    }
-    now
-}
-
-// Lists what two writes bring, one of each mask.
-fn list_twos(
-    list: &mut [u64],
-    many: usize,
-    brought: &[u64],
+// What each of n writes brings.
+#[derive(Clone, Copy)]
+struct Brought<'a> {
+    rows: &'a [u64; 64],
     n: usize,
-    own: u64,
-    other: u64,
-) -> usize
-    requires { ((length list.old ≡ most_listed) × (n ≤ most_main)) × ((many ≤ 1 + n) × ((length brought.now ≡ 64) × (Completes brought.now n brought.now × Ranks brought.now n many list.old))) }
-    ensures { TwosListed brought.now n own other n many list.old result list.new }
-{
-    let mut now = many;
-    let mut h: usize = 0;
-    while h < n {
-        now = list_row(list, now, brought, n, h, mates(own, other, h));
-        h += 1;
+    ghost few: { n ≤ most_main },
+    ghost complete: { Completes rows.now n rows.now },
+}
+
+impl Brought<'_> {
+    // Lists the schedule without flags, and what single writes bring, of those in a mask.
+    fn list_ones(&self, list: &mut [u64; MOST_LISTED], mask: u64) -> usize
+        ensures { OnesListed self.now.rows.now self.now.n mask self.now.n result list.new }
+    {
+        list[0] = 0;
+        let mut many: usize = 1;
+        'ones: for i in 0..self.n {
+            if !relation::has_bit(mask, i) {
+                continue 'ones;
+            }
+            insert(list, many, relation::rank(self.rows[i]));
+            many += 1;
+        }
+        many
     }
-    now
+
+    // Lists what write h brings together with each write before it, of those in a mask. Most writes of a log have
+    // no mate: they cost one test.
+    fn list_row(&self, list: &mut [u64; MOST_LISTED], many: usize, h: usize, mask: u64) -> usize
+        requires before { h < self.now.n }
+        requires room { many + h ≤ most_listed }
+        requires ranks { Ranks self.now.rows.now self.now.n many list.old }
+        ensures { RowListed self.now.rows.now self.now.n h mask h many list.old result list.new }
+    {
+        if mask == 0 {
+            return many;
+        }
+        let mut now = many;
+        'row: for l in 0..h {
+            if !relation::has_bit(mask, l) {
+                continue 'row;
+            }
+            insert(list, now, relation::rank(self.rows[h] | self.rows[l]));
+            now += 1;
+        }
+        now
+    }
+
+    // Lists what two writes bring, one of each mask.
+    fn list_twos(&self, list: &mut [u64; MOST_LISTED], many: usize, marks: Marks) -> usize
+        requires ones { many ≤ 1 + self.now.n }
+        requires ranks { Ranks self.now.rows.now self.now.n many list.old }
+        ensures { TwosListed self.now.rows.now self.now.n marks.own marks.other self.now.n many list.old result list.new }
+    {
+        let mut now = many;
+        for h in 0..self.n {
+            now = self.list_row(list, now, h, mates(marks.own, marks.other, h));
+        }
+        now
+    }
 }
 
 // The suspects of a test: the ranks of its schedules among which the smallest bad one is, in rising order, and
 // how many. The table of rows is turned into one of what each write brings.
 pub fn suspects(
-    list: &mut [u64],
-    rows: &mut [u64],
+    list: &mut [u64; MOST_LISTED],
+    rows: &mut [u64; 64],
     stores: &[u64; MOST_INITIAL],
     n: usize,
     checks: [Check; MOST_CHECKS],
     m: usize,
 ) -> usize
-    requires { ((length list.old ≡ most_listed) × (length rows.old ≡ 64)) × ((n ≤ most_main) × ((m ≤ most_checks) × Narrow rows.old n)) }
+    requires { (n ≤ most_main) × ((m ≤ most_checks) × Narrow rows.old n) }
     ensures { Suspects rows.old stores.now n (take m checks) list.new result }
 {
     judge_schedules::complete(rows, n);
-    let marks = mark(stores, n, checks, m);
-    let ones = list_ones(list, rows, n, marks.own | marks.other);
-    list_twos(list, ones, rows, n, marks.own, marks.other)
+    let marks = mark(stores, n, &checks[..m]);
+    let brought = Brought { rows, n };
+    let ones = brought.list_ones(list, marks.own | marks.other);
+    brought.list_twos(list, ones, marks)
 }

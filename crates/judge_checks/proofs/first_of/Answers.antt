@@ -5,9 +5,6 @@ use mathlib.Core.Path.{refl}
 use borrow.Author.Rules.{rules}
 use Rattle.judge_checks.proofs.first_of.Goals as goal
 
-pub overflow_cast-result : goal.overflow_cast-result
-overflow_cast-result c = search rules
-
 pub returns : goal.returns
 unfolding first_of
 returns c = (refl, omega arith)

@@ -11,20 +11,8 @@ returns-then-tail-gt-DISK_BLOCKS c = search checking
 pub loop-k-init : goal.loop-k-init
 loop-k-init c = search checking
 
-pub offset_bounds-disk-k : goal.offset_bounds-disk-k
-offset_bounds-disk-k c = search checking
-
-pub bounds-disk-k : goal.bounds-disk-k
-bounds-disk-k c = search checking
-
 pub returns-then-disk-k-eq0 : goal.returns-then-disk-k-eq0
 returns-then-disk-k-eq0 c = search checking
-
-pub overflow_add-k : goal.overflow_add-k
-overflow_add-k c = search checking
-
-pub loop-k-smaller : goal.loop-k-smaller
-loop-k-smaller c = search checking
 
 pub loop-k-preserved : goal.loop-k-preserved
 loop-k-preserved c = search checking

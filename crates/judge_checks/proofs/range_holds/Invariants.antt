@@ -6,6 +6,3 @@ use Rattle.judge_checks.proofs.range_holds.Given as goal
 
 abbrev pub invariant-loop-k : goal.invariant-loop-k
 invariant-loop-k l = (l.head < l.tail) × (l.tail ≤ disk_blocks) × (l.head ≤ l.k) × (l.k ≤ l.tail) × Full l.disk l.head l.k
-
-abbrev pub decreases-loop-k : goal.decreases-loop-k
-decreases-loop-k l = l.tail - l.k

@@ -5,28 +5,7 @@ use Rattle.judge_closed.proofs.dependent_row.Goals as goal
 pub loop-i-init : goal.loop-i-init
 loop-i-init c = search ordering
 
-pub offset_bounds-dependencies-i : goal.offset_bounds-dependencies-i
-offset_bounds-dependencies-i c = search ordering
-
-pub bounds-dependencies-i : goal.bounds-dependencies-i
-bounds-dependencies-i c = search ordering
-
-pub has_bit-requires : goal.has_bit-requires
-has_bit-requires c = search ordering
-
-pub with_if-mask-requires : goal.with_if-mask-requires
-with_if-mask-requires c = search ordering
-
-pub overflow_add-i : goal.overflow_add-i
-overflow_add-i c = search ordering
-
-pub loop-i-smaller : goal.loop-i-smaller
-loop-i-smaller c = search ordering
-
 pub loop-i-preserved : goal.loop-i-preserved
 loop-i-preserved c =
     let l = c.loop-i in
     (search ordering, reaching_row-more _ _ l.i l.mask _ c.has_bit.result l.invariant.1 c.has_bit.ensures c.with_if-mask.ensures)
-
-pub returns : goal.returns
-returns c = search ordering

@@ -5,6 +5,3 @@ use Rattle.judge_disks.proofs.restore.Given as goal
 
 abbrev pub invariant-loop-i : goal.invariant-loop-i
 invariant-loop-i l = (l.i ≤ l.n) × Restoring l.table l.base l.initial.disk l.from l.n l.i l.disk
-
-abbrev pub decreases-loop-i : goal.decreases-loop-i
-decreases-loop-i l = l.n - l.i

@@ -8,6 +8,3 @@ use Rattle.judge_loading.proofs.file_checks.Given as goal
 
 abbrev pub invariant-loop-i : goal.invariant-loop-i
 invariant-loop-i l = (l.i ≤ l.n) × (length l.checks ≡ most_checks) × (l.at ≡ field_place l.file l.from l.i) × (take l.i l.checks ≡ checks_at l.file l.from l.i)
-
-abbrev pub decreases-loop-i : goal.decreases-loop-i
-decreases-loop-i l = l.n - l.i

@@ -9,6 +9,3 @@ use Rattle.judge_loading.proofs.load_writes.Given as goal
 
 abbrev pub invariant-loop-i : goal.invariant-loop-i
 invariant-loop-i l = (l.i ≤ l.n) × (length l.stores ≡ most_initial) × (length l.labels ≡ most_initial) × (l.at ≡ field_place l.file l.from l.i) × Stored l.file l.from l.i l.stores × Named l.file l.from l.i l.labels
-
-abbrev pub decreases-loop-i : goal.decreases-loop-i
-decreases-loop-i l = l.n - l.i

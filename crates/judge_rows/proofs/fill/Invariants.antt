@@ -10,11 +10,5 @@ use Rattle.judge_rows.proofs.fill.Given as goal
 abbrev pub invariant-rules : goal.invariant-rules
 invariant-rules l = (l.k ≤ l.rules.count) × (l.mask ≡ row_of (take l.k l.rules.items) (labelled (get_or l.labels l.i 0)) l.labels l.n)
 
-abbrev pub decreases-rules : goal.decreases-rules
-decreases-rules l = l.rules.count - l.k
-
 abbrev pub invariant-labels : goal.invariant-labels
 invariant-labels l = (l.i ≤ l.n) × (length l.rows ≡ 64) × (take l.i l.rows ≡ rows_from (rules_of l.rules) l.labels l.n l.i)
-
-abbrev pub decreases-labels : goal.decreases-labels
-decreases-labels l = l.n - l.i

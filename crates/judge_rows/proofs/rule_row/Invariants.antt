@@ -7,6 +7,3 @@ use Rattle.judge_rows.proofs.rule_row.Given as goal
 
 abbrev pub invariant-loop-j : goal.invariant-loop-j
 invariant-loop-j l = (l.j ≤ l.n) × (l.mask ≡ rule_row l.rule (labelled l.one) l.labels l.j)
-
-abbrev pub decreases-loop-j : goal.decreases-loop-j
-decreases-loop-j l = l.n - l.j

@@ -7,6 +7,3 @@ use Rattle.judge_schedules.proofs.complete.Given as goal
 
 abbrev pub invariant-loop-i : goal.invariant-loop-i
 invariant-loop-i l = (l.i ≤ l.n) × (length l.rows ≡ 64) × Completing l.initial.rows l.n l.i l.rows
-
-abbrev pub decreases-loop-i : goal.decreases-loop-i
-decreases-loop-i l = l.n - l.i

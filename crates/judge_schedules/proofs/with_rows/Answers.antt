@@ -5,21 +5,6 @@ use Rattle.judge_schedules.proofs.with_rows.Goals as goal
 pub loop-left-init : goal.loop-left-init
 loop-left-init c = search widening
 
-pub highest-i-requires : goal.highest-i-requires
-highest-i-requires c = search widening
-
-pub offset_bounds-rows-i : goal.offset_bounds-rows-i
-offset_bounds-rows-i c = search widening
-
-pub bounds-rows-i : goal.bounds-rows-i
-bounds-rows-i c = search widening
-
-pub overflow_shl-i : goal.overflow_shl-i
-overflow_shl-i c = search widening
-
-pub without-left-requires : goal.without-left-requires
-without-left-requires c = search widening
-
 pub loop-left-smaller : goal.loop-left-smaller
 loop-left-smaller c = search widening
 

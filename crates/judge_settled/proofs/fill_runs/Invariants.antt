@@ -8,6 +8,3 @@ use Rattle.judge_settled.proofs.fill_runs.Given as goal
 
 abbrev pub invariant-loop-k : goal.invariant-loop-k
 invariant-loop-k l = (l.k ≤ disk_blocks) × (length l.runs ≡ disk_blocks) × (Run l.base l.writers l.k l.to × Runs l.base l.writers l.k l.runs)
-
-abbrev pub decreases-loop-k : goal.decreases-loop-k
-decreases-loop-k l = l.k

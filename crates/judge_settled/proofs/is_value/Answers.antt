@@ -5,5 +5,5 @@ use Rattle.judge_settled.proofs.is_value.Goals as goal
 pub returns-then-own-v : goal.returns-then-own-v
 returns-then-own-v c = search answering
 
-pub returns : goal.returns
-returns c = search answering
+pub returns-else-own-v : goal.returns-else-own-v
+returns-else-own-v c = search answering

@@ -2,20 +2,8 @@
 use Rattle.judge_settled.proofs.RunLaws.{running}
 use Rattle.judge_settled.proofs.run_end.Goals as goal
 
-pub offset_bounds-writers-k : goal.offset_bounds-writers-k
-offset_bounds-writers-k c = search running
-
-pub bounds-writers-k : goal.bounds-writers-k
-bounds-writers-k c = search running
-
 pub returns-then-writers-k-ne0 : goal.returns-then-writers-k-ne0
 returns-then-writers-k-ne0 c = search running
-
-pub offset_bounds-base-k : goal.offset_bounds-base-k
-offset_bounds-base-k c = search running
-
-pub bounds-base-k : goal.bounds-base-k
-bounds-base-k c = search running
 
 pub returns-then-base-k-eq0 : goal.returns-then-base-k-eq0
 returns-then-base-k-eq0 c = search running

@@ -2,29 +2,8 @@
 use Rattle.judge_suspects.proofs.MarkLaws.{marking}
 use Rattle.judge_suspects.proofs.can_spoil.Goals as goal
 
-pub address_of-x-requires : goal.address_of-x-requires
-address_of-x-requires c = search marking
-
-pub block_of-block-requires : goal.block_of-block-requires
-block_of-block-requires c = search marking
-
-pub enum_told-1 : goal.enum_told-1
-enum_told-1 c = search marking
-
-pub enum_known-c : goal.enum_known-c
-enum_known-c c = search marking
-
-pub is_at-requires : goal.is_at-requires
-is_at-requires c = search marking
-
-pub enum_told-in-Pointer : goal.enum_told-in-Pointer
-enum_told-in-Pointer c = search marking
-
 pub returns-in-Range : goal.returns-in-Range
 returns-in-Range c = search marking
 
 pub returns-in-Pair : goal.returns-in-Pair
 returns-in-Pair c = search marking
-
-pub returns-in-Pointer : goal.returns-in-Pointer
-returns-in-Pointer c = search marking

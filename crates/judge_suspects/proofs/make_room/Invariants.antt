@@ -4,6 +4,3 @@ use Rattle.judge_suspects.proofs.make_room.Given as goal
 
 abbrev pub invariant-loop-k : goal.invariant-loop-k
 invariant-loop-k l = Shifting l.initial.list l.many l.x l.k l.list
-
-abbrev pub decreases-loop-k : goal.decreases-loop-k
-decreases-loop-k l = l.k

@@ -1,13 +1,7 @@
--- `judge_suspects::mark` meets its contract. The invariant: the masks of the checks below k.
-use mathlib.Core.Path.{◌≡◌}
-use Prim.Native.Nat.{◌-◌, ◌≤◌}
-use lib.ListN.{length, take}
-use Rattle.model.specs.Limits.{most_checks}
+-- `judge_suspects::mark` meets its contract. The invariant: the masks of the checks so far.
+use lib.ListN.{take}
 use Rattle.judge_suspects.specs.Suspects.{Marked}
 use Rattle.judge_suspects.proofs.mark.Given as goal
 
-abbrev pub invariant-loop-k : goal.invariant-loop-k
-invariant-loop-k l = (l.k ≤ l.m) × (length l.checks ≡ most_checks) × Marked l.stores l.n (take l.k l.checks) l.own l.other
-
-abbrev pub decreases-loop-k : goal.decreases-loop-k
-decreases-loop-k l = l.m - l.k
+abbrev pub invariant-loop-c : goal.invariant-loop-c
+invariant-loop-c l = Marked l.stores l.n (take l.c-index l.checks) l.own l.other

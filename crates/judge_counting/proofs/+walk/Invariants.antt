@@ -1,5 +1,0 @@
--- `judge_counting::walk` meets its contract, by induction on the number of what is free.
-use Rattle.judge_counting.proofs.+walk.Given as goal
-
-abbrev pub decreases-walk : goal.decreases-walk
-decreases-walk l = l.free
