@@ -2,7 +2,7 @@
 // 22,528 bytes are enough: a longer file is refused as its first 22,462 bytes are (`enough`).
 #![tactic(auto)]
 
-ghost use Rattle.std.specs.Prelude.{List, ℕ, ◌+◌, ◌≤◌, length};
+ghost use Rattle.std.specs.Prelude.{List, ℕ, ◌≡◌, ◌≤◌, length, IfOk};
 ghost use Rattle.judge_text.specs.Lines.{program_text, text_length};
 ghost use Rattle.judge_text.specs.Theorem.{enough, Read};
 ghost use Rattle.file_writing.specs.Writing.{Wrote};
@@ -13,20 +13,18 @@ use std::io::{Read, Write};
 // The buffer's bytes: `enough`, and some more.
 const BUFFER_LENGTH: usize = 22528;
 
-// Reads until the buffer is full or the input ends, and answers how many bytes it read; one more
-// than the buffer's length if a read fails.
-fn read_input(input: &mut impl Read, buffer: &mut [u8]) -> usize
-    ensures { result ≤ length buffer.new + 1 }
+// Reads until the buffer is full or the input ends, and answers how many bytes it read.
+fn read_input(input: &mut impl Read, buffer: &mut [u8]) -> io::Result<usize>
+    ensures { IfOk result (λ n. n ≤ length buffer.new) × (length buffer.new ≡ length buffer.old) }
 {
     let mut done: usize = 0;
     while done < buffer.len() {
-        match input.read(&mut buffer[done..]) {
-            Ok(0) => return done,
-            Ok(more) => done += more,
-            Err(_) => return buffer.len() + 1,
+        match input.read(&mut buffer[done..])? {
+            0 => return Ok(done),
+            more => done += more,
         }
     }
-    done
+    Ok(done)
 }
 
 // The text of an input of which the first n bytes of `buffer` were read, at the front of `out`, and
@@ -38,22 +36,23 @@ fn render(buffer: &[u8], n: usize, out: &mut [u8]) -> usize
     judge_text::judge_lines(&buffer[..n], out)
 }
 
-// Judges what was read into `buffer`, n bytes, by way of `out`.
-fn judge_input(rt: &HostRuntime, buffer: &[u8], n: usize, out: &mut [u8]) -> io::Result<()>
-    requires { (enough ≤ length buffer.now) × (text_length ≤ length out.old) }
+// Judges what is read into `buffer`, by way of `out`.
+fn judge_input(rt: &HostRuntime, buffer: &mut [u8], out: &mut [u8]) -> io::Result<()>
+    requires { (enough ≤ length buffer.old) × (text_length ≤ length out.old) }
 {
-    if buffer.len() < n {
-        return rt
+    match read_input(&mut rt.stdin(), buffer) {
+        Ok(n) => {
+            let m = render(buffer, n, out);
+            rt.stdout().write_all(&out[..m])
+        }
+        Err(_) => rt
             .stderr()
-            .write_all(b"judge: standard input could not be read\n");
+            .write_all(b"judge: standard input could not be read\n"),
     }
-    let m = render(buffer, n, out);
-    rt.stdout().write_all(&out[..m])
 }
 
 fn main(rt: HostRuntime) -> io::Result<()> {
     let mut buffer = [0u8; BUFFER_LENGTH];
     let mut out = [0u8; judge_text::TEXT_LENGTH];
-    let n = read_input(&mut rt.stdin(), &mut buffer);
-    judge_input(&rt, &buffer, n, &mut out)
+    judge_input(&rt, &mut buffer, &mut out)
 }

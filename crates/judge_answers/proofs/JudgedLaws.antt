@@ -1,11 +1,11 @@
 -- From the judge's answer to its code, outcome by outcome.
 use mathlib.Core.Path.{◌≡◌}
-use Prim.Native.Nat.{ℕ, ◌+◌, ◌≤◌, ◌<◌}
+use Prim.Native.Nat.{ℕ, ◌<◌}
 use native.Mathlib.Omega.{arith}
 use borrow.Author.Rules.{rules}
-use Rattle.std.specs.Prelude.{Option, None, Some, Result, Ok, Err}
+use Rattle.std.specs.Prelude.{Option, Result, Ok, Err}
 use Rattle.model.specs.declared.Refusal.{Refusal}
-use Rattle.model.specs.Limits.{words, most_schedules}
+use Rattle.model.specs.Limits.{words}
 use Rattle.model.specs.Answer.{Outcome, answer, refused, refusal, number_of, outcome}
 use Rattle.judge_counting.specs.declared.Judgement.{Judgement}
 use Rattle.judge_cases.specs.Judge.{Case, judgement_of, verdict_of, judged_of, decided_of, SmallRefusal, FewNumbers, Few, FewDecided}
@@ -62,16 +62,4 @@ verdict-refused (refused n p) x why r h e q =
     rw (z, y) at q
 verdict-refused (answer c) x why r h e q = let a = rw e at h in let z : ◌≡◌ {A = ℕ} 0 1 = cc in absurd (omega arith)
 
-pub fails-fits : (v : Option ℕ) (s : ℕ) → v ≡ Some s → FewDecided (Ok v) → s ≤ most_schedules
-unfolding FewDecided
-fails-fits v s e f = rw e at f
-
-pub code_holds : (v : Option ℕ) → v ≡ None → 0 ≡ verdict_code v
-unfolding verdict_code
-code_holds v e = rw e
-
-pub code_fails : (v : Option ℕ) (s : ℕ) → v ≡ Some s → s + 1 ≡ verdict_code v
-unfolding verdict_code
-code_fails v s e = rw e
-
-pub ruleset judged = (rules, counts-few, refused-fits, judge-counts, judge-refused, decided_few, decided_fits, verdict_decided, verdict-refused, code_holds, code_fails)
+pub ruleset judged = (rules, counts-few, refused-fits, judge-counts, judge-refused, decided_few, decided_fits, verdict_decided, verdict-refused)

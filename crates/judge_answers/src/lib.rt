@@ -15,6 +15,7 @@ const FROM_BAD: u64 = 1 << COUNT_BITS;
 const FROM_SHOWN: u64 = 1 << (COUNT_BITS + COUNT_BITS);
 
 // The three numbers of a judgement: valid, bad from bit 21 on, shown from bit 42 on.
+#[tactic(auto, unfolding(judge_cases::specs::Judge::FewNumbers, crate::specs::Judged::judgement_code))]
 pub fn code_of(j: Judgement) -> u64
     requires { FewNumbers j }
     ensures { result ≡ judgement_code j }
@@ -23,6 +24,7 @@ pub fn code_of(j: Judgement) -> u64
 }
 
 // 0 where no schedule is bad, else one more than the smallest bad one's number.
+#[tactic(auto, unfolding(judge_cases::specs::Judge::FewDecided, crate::specs::Judged::verdict_code))]
 pub fn code_of_verdict(v: Option<u64>) -> u64
     requires { FewDecided (Ok v) }
     ensures { result ≡ verdict_code v }

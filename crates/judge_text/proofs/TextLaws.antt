@@ -7,22 +7,21 @@ use native.Mathlib.Numerals.{add-one}
 use native.Mathlib.Omega.{arith}
 use lib.ListN.{length}
 use borrow.Author.Rules.{rules}
+use Rattle.std.specs.Prelude.{Result, Ok, Err}
 use Rattle.model.specs.declared.Rule.{Rule}
 use Rattle.model.specs.declared.Refusal.{Refusal}
 use Rattle.model.specs.Limits.{most_rules, most_tests}
-use Rattle.model.specs.Answer.{Outcome, answer, refused}
+use Rattle.model.specs.Answer.{Outcome, answer, refused, number_of}
 use Rattle.model.specs.Cyclic.{cyclic}
 use Rattle.model.specs.Test.{File, valid_count, bad_count}
 use Rattle.file_format.specs.declared.Extent.{Extent}
 use Rattle.file_format.specs.File.{read_of}
 use Rattle.file_format.specs.Scan.{test_at}
-use Rattle.file_format.specs.Held.{test_of, extent_of, AllInside, Placed}
-use Rattle.rule_match.specs.declared.Rules.{Rules}
+use Rattle.file_format.specs.Held.{test_of, extent_of, AllInside}
 use Rattle.rule_match.specs.Held.{rules_of}
 use Rattle.judge_counting.specs.declared.Judgement.{Judgement}
-use Rattle.judge_cases.specs.declared.Cases.{Cases}
-use Rattle.judge_cases.specs.declared.Cases.TheVariants.{Tests}
-use Rattle.judge_cases.specs.Judge.{case_at, judgement_of, SmallRefusal, judged_file, OpensTo, FewNumbers}
+use Rattle.judge_cases.specs.declared.Opened.{Opened}
+use Rattle.judge_cases.specs.Judge.{case_at, judgement_of, SmallRefusal, judged_file, OpensTo, OpensFile, FewNumbers}
 use Rattle.file_writing.specs.Writing.{Wrote}
 use Rattle.judge_text.specs.Decimal.{Digits}
 use Rattle.judge_text.specs.Lines.{refused_line, test_line, lines, text_of, program_text, case_lines, test_digits, count_digits, refusal_digits, place_digits}
@@ -95,17 +94,17 @@ text_judged (answer g) f e = go (cyclic g.rules) e
     go true q = let z : ◌≡◌ {A = ℕ} 0 1 = cc in absurd (omega arith)
     go false q = let z : g ≡ f = cc in rw z
 
-module _ (s : List ℕ) (rules : Rules) (ts : List Extent) (x : Cases) (o : OpensTo s rules ts x) where
-  module _ (why : Refusal) (e : x ≡ Cases.Refused why) where
-    turned_down : (judged_file (read_of s) ≡ refused why.number why.place) × SmallRefusal why
-    unfolding OpensTo
+module _ (s : List ℕ) (x : Result Opened Refusal) (o : OpensFile s x) where
+  module _ (why : Refusal) (e : x ≡ Err why) where
+    turned_down : (judged_file (read_of s) ≡ refused (number_of why.cause) why.place) × SmallRefusal why
+    unfolding OpensFile
     turned_down = rw e at o
 
-    pub text_refused : (l l₁ : List ℕ) (r : ℕ) → Wrote l 0 (refused_line why.number why.place) l₁ r → Wrote l 0 (program_text s) l₁ r
+    pub text_refused : (l l₁ : List ℕ) (r : ℕ) → Wrote l 0 (refused_line (number_of why.cause) why.place) l₁ r → Wrote l 0 (program_text s) l₁ r
     unfolding program_text
-    text_refused l l₁ r w = rw (text_unjudged (read_of s) why.number why.place turned_down.0) w
+    text_refused l l₁ r w = rw (text_unjudged (read_of s) (number_of why.cause) why.place turned_down.0) w
 
-    pub number-few : Digits refusal_digits why.number
+    pub number-few : Digits refusal_digits (number_of why.cause)
     unfolding Digits
     number-few = let h = turned_down.1.0 in (omega arith, omega arith)
 
@@ -113,27 +112,27 @@ module _ (s : List ℕ) (rules : Rules) (ts : List Extent) (x : Cases) (o : Open
     unfolding Digits
     place-few = let h = turned_down.1.1 in (omega arith, omega arith)
 
-  module _ (n : ℕ) (e : x ≡ Tests n) where
-    found : (f : File) × (judged_file (read_of s) ≡ answer f) × (rules_of rules ≡ f.rules) × (rules.count ≤ most_rules) × Placed s f.tests ts n
-    unfolding OpensTo
+  module _ (y : Opened) (e : x ≡ Ok y) where
+    found : OpensTo s y
+    unfolding OpensFile
     found = rw e at o
 
-    pub tests-few : n ≤ most_tests
+    pub tests-few : y.count ≤ most_tests
     tests-few = found.4.most
 
-    pub rules-few : rules.count ≤ most_rules
+    pub rules-few : y.rules.count ≤ most_rules
     rules-few = found.3
 
-    pub tests-inside : AllInside s ts n
+    pub tests-inside : AllInside s y.tests y.count
     tests-inside = found.4.inside
 
-    pub text_tests : (l l₁ : List ℕ) (r : ℕ) → Wrote l 0 (case_lines (rules_of rules) s ts n) l₁ r → Wrote l 0 (program_text s) l₁ r
+    pub text_tests : (l l₁ : List ℕ) (r : ℕ) → Wrote l 0 (case_lines (rules_of y.rules) s y.tests y.count) l₁ r → Wrote l 0 (program_text s) l₁ r
     unfolding program_text case_lines
     text_tests l l₁ r w =
         let f = found.0 in
-        let same : lines (λ i. test_line (suc i) (valid_count (rules_of rules) (test_at s (extent_of ts i))) (bad_count (rules_of rules) (test_at s (extent_of ts i)))) n
-        ≡ lines (λ i. test_line (suc i) (valid_count f.rules (test_of f i)) (bad_count f.rules (test_of f i))) n
-        = lines_ext _ _ n (λ i h. rw (found.2, found.4.each i h)) in
+        let same : lines (λ i. test_line (suc i) (valid_count (rules_of y.rules) (test_at s (extent_of y.tests i))) (bad_count (rules_of y.rules) (test_at s (extent_of y.tests i)))) y.count
+        ≡ lines (λ i. test_line (suc i) (valid_count f.rules (test_of f i)) (bad_count f.rules (test_of f i))) y.count
+        = lines_ext _ _ y.count (λ i h. rw (found.2, found.4.each i h)) in
         rw (text_judged (read_of s) f found.1, found.4.count, ← same) w
 
 pub ruleset texts = (rules, case_line, few-valid, few-bad, cases_none, test-digits, cases_more, cases_all, text_refused, number-few, place-few, tests-few, rules-few, tests-inside, text_tests)

@@ -3,6 +3,7 @@
 
 ghost use Rattle.std.specs.Prelude.{◌≡◌, cond, ◌+◌, ◌≤◌, eqb, length};
 ghost use Rattle.model.specs.Limits.{most_rules, most_tests};
+ghost use Rattle.model.specs.Answer.{number_of};
 ghost use Rattle.model.specs.Test.{valid_count, bad_count};
 ghost use Rattle.file_format.specs.Scan.{test_at};
 ghost use Rattle.file_format.specs.Held.{Inside, AllInside};
@@ -12,7 +13,8 @@ ghost use Rattle.judge_text.specs.Decimal.{decimal, Digits};
 ghost use Rattle.judge_text.specs.Lines.{refused_line, test_line, case_lines, program_text, holds_text, fails_text, test_digits, count_digits, refusal_digits, place_digits, verdict_length, test_length, refused_length, text_length};
 
 use file_format::Extent;
-use judge_cases::Cases;
+use judge_cases::Opened;
+use model::Refusal;
 use rule_match::Rules;
 
 // The most digits of a test's number, of a count of schedules, of a refusal's number and of its place.
@@ -57,15 +59,15 @@ fn put_number(out: &mut [u8], at: usize, n: u64, digits: usize) -> usize
 }
 
 // `refused`, number, place.
-fn put_refused(out: &mut [u8], at: usize, number: u64, place: u64) -> usize
-    requires { (at + refused_length ≤ length out.old) × (Digits refusal_digits number × Digits place_digits place) }
-    ensures { Wrote out.old at (refused_line number place) out.new result × (result ≤ at + refused_length) }
+fn put_refused(out: &mut [u8], at: usize, why: Refusal) -> usize
+    requires { (at + refused_length ≤ length out.old) × (Digits refusal_digits (number_of why.cause) × Digits place_digits why.place) }
+    ensures { Wrote out.old at (refused_line (number_of why.cause) why.place) out.new result × (result ≤ at + refused_length) }
 {
     let at = put_text(out, at, b"refused");
     let at = file_writing::put(out, at, b' ');
-    let at = put_number(out, at, number, REFUSAL_DIGITS);
+    let at = put_number(out, at, u64::from(why.cause.number()), REFUSAL_DIGITS);
     let at = file_writing::put(out, at, b' ');
-    let at = put_number(out, at, place, PLACE_DIGITS);
+    let at = put_number(out, at, why.place as u64, PLACE_DIGITS);
     file_writing::put(out, at, b'\n')
 }
 
@@ -103,20 +105,14 @@ fn put_case(out: &mut [u8], at: usize, file: &[u8], rules: Rules, e: Extent, k: 
     put_line(out, at, k, j.valid, j.bad)
 }
 
-// The lines of the first n tests.
-fn put_cases(
-    out: &mut [u8],
-    file: &[u8],
-    rules: Rules,
-    tests: [Extent; model::MOST_TESTS],
-    n: usize,
-) -> usize
-    requires { ((n ≤ most_tests) × (text_length ≤ length out.old)) × AllInside file.now tests n }
-    ensures { Wrote out.old 0 (case_lines (rules_of rules) file.now tests n) out.new result × (result ≤ text_length) }
+// The lines of a file's tests.
+fn put_cases(out: &mut [u8], file: &[u8], opened: &Opened) -> usize
+    requires { ((opened.now.count ≤ most_tests) × (text_length ≤ length out.old)) × AllInside file.now opened.now.tests opened.now.count }
+    ensures { Wrote out.old 0 (case_lines (rules_of opened.now.rules) file.now opened.now.tests opened.now.count) out.new result × (result ≤ text_length) }
 {
     let mut at: usize = 0;
-    for i in 0..n {
-        at = put_case(out, at, file, rules, tests[i], i as u64 + 1);
+    for i in 0..opened.count {
+        at = put_case(out, at, file, opened.rules, opened.tests[i], i as u64 + 1);
     }
     at
 }
@@ -126,12 +122,8 @@ pub fn judge_lines(file: &[u8], out: &mut [u8]) -> usize
     requires { text_length ≤ length out.old }
     ensures { Wrote out.old 0 (program_text file.now) out.new result × (result ≤ text_length) }
 {
-    let opened = judge_cases::open_file(file);
-    let rules = opened.rules;
-    let tests = opened.tests;
-    let cases = opened.cases;
-    match cases {
-        Cases::Tests(n) => put_cases(out, file, rules, tests, n),
-        Cases::Refused(why) => put_refused(out, 0, why.number as u64, why.place as u64),
+    match judge_cases::open_file(file) {
+        Ok(opened) => put_cases(out, file, &opened),
+        Err(why) => put_refused(out, 0, why),
     }
 }

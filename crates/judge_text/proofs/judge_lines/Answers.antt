@@ -8,8 +8,8 @@ put_cases-requires c = search texts
 pub put_refused-requires : goal.put_refused-requires
 put_refused-requires c = search texts
 
-pub returns-in-Tests : goal.returns-in-Tests
-returns-in-Tests c = search texts
+pub returns-in-Ok : goal.returns-in-Ok
+returns-in-Ok c = search texts
 
-pub returns-in-Refused : goal.returns-in-Refused
-returns-in-Refused c = search texts
+pub returns-in-Err : goal.returns-in-Err
+returns-in-Err c = search texts

@@ -1,5 +1,5 @@
 -- `judge_text::put_cases` meets its contract. The invariant: the lines of the first i tests are written, each in so many bytes at most.
-use Prim.Native.Nat.{◌*◌, ◌-◌, ◌≤◌}
+use Prim.Native.Nat.{◌*◌, ◌≤◌}
 use mathlib.Core.Path.{◌≡◌}
 use lib.ListN.{length}
 use Rattle.rule_match.specs.Held.{rules_of}
@@ -8,4 +8,8 @@ use Rattle.judge_text.specs.Lines.{case_lines, test_length}
 use Rattle.judge_text.proofs.put_cases.Given as goal
 
 abbrev pub invariant-loop-i : goal.invariant-loop-i
-invariant-loop-i l = (l.i ≤ l.n) × (l.at ≤ test_length * l.i) × (length l.out ≡ length l.initial.out) × Wrote l.initial.out 0 (case_lines (rules_of l.rules) l.file l.tests l.i) l.out l.at
+invariant-loop-i l =
+    (l.i ≤ l.opened.count)
+    × (l.at ≤ test_length * l.i)
+    × (length l.out ≡ length l.initial.out)
+    × Wrote l.initial.out 0 (case_lines (rules_of l.opened.rules) l.file l.opened.tests l.i) l.out l.at

@@ -1,6 +1,6 @@
 -- `judge_text::put_line` meets its contract: its parts, written one behind the other, are the line.
 use native.Mathlib.Omega.{arith}
-use Rattle.judge_text.proofs.LineLaws.{line_steps, line_wrote}
+use Rattle.judge_text.proofs.LineLaws.{line_wrote}
 use Rattle.judge_text.proofs.put_line.Goals as goal
 
 -- so deep `omega` no longer reaches what the beginning tells: it is handed over

@@ -1,6 +1,9 @@
 -- `judge_text::put_refused` meets its contract: its parts, written one behind the other, are the line.
+use mathlib.Core.Path.{◌≡◌}
 use native.Mathlib.Omega.{arith}
-use Rattle.judge_text.proofs.LineLaws.{line_steps, refused-wrote}
+use borrow.Author.Rules.{rules}
+use Rattle.model.specs.Answer.{number_of}
+use Rattle.judge_text.proofs.LineLaws.{refused-wrote}
 use Rattle.judge_text.proofs.put_refused.Goals as goal
 
 pub returns : goal.returns
@@ -19,4 +22,5 @@ returns c =
     let f3 = c.put-at-2.ensures.place in
     let f4 = c.put_number-at-2.ensures.1 in
     let f5 = c.put.ensures.place in
-    (w, omega arith)
+    let n : c.from.result ≡ number_of c.args.why.cause = search rules in
+    (rw n at w, omega arith)
