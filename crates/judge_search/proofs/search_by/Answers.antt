@@ -20,7 +20,7 @@ checks-preserved c =
     let a = c.args in (
       omega arith,
       l.invariant.1,
-      checks-more c.apply.new.disk a.checks (Range 0) a.m l.i c.check_holds.result (omega arith) c.requires.1.0 c.search.invariant.1 l.invariant.2 c.check_holds.ensures (ap not c.if-not-check_holds.false),
+      checks-more c.apply.new.disk a.checks (Range 0) a.m l.i c.check_holds.result (omega arith) c.requires.1 c.search.invariant.1 l.invariant.2 c.check_holds.ensures (ap not c.if-not-check_holds.false),
     )
 
 pub search-preserved : goal.search-preserved
@@ -31,7 +31,7 @@ search-preserved c =
     let disk = c.apply.new.disk in (
       omega arith,
       o.invariant.1,
-      c.restore.ensures ∙ restored-run a.stores.now a.base.now 0 a.n _ disk c.requires.1.1 l.invariant.1,
+      c.restore.ensures ∙ restored-run a.stores.now a.base.now 0 a.n _ disk (search searching) l.invariant.1,
       clear_pass _ _ _ _ o.k a.m l.i _ disk refl l.invariant.1 o.invariant.3 (omega arith) (omega arith) l.invariant.2,
     )
 
@@ -45,4 +45,4 @@ returns-then-not-check_holds c =
     let a = c.args in
     let disk = c.apply.new.disk in
     stops_here _ _ _ _ o.k a.m l.i _ disk refl l.invariant.1 a.many o.invariant.3 (omega arith)
-    (checks_stop disk a.checks (Range 0) a.m l.i c.check_holds.result (omega arith) c.requires.1.0 o.invariant.1 c.check_holds.ensures (ap not c.if-not-check_holds.true))
+    (checks_stop disk a.checks (Range 0) a.m l.i c.check_holds.result (omega arith) c.requires.1 o.invariant.1 c.check_holds.ensures (ap not c.if-not-check_holds.true))
