@@ -6,7 +6,7 @@ pub loop-i-init : goal.loop-i-init
 loop-i-init c = search texts
 
 pub put_case-at-requires : goal.put_case-at-requires
-put_case-at-requires c = ((search texts, search texts), (search texts, c.requires.1.1 _ (search texts)))
+put_case-at-requires c = ((search texts, search texts), c.requires.1 _ (search texts))
 
 pub loop-i-preserved : goal.loop-i-preserved
 loop-i-preserved c = search texts
