@@ -38,13 +38,13 @@ use Rattle.cache_model.specs.Sound.{Sound, ruled, needs_hold, sound}
 use Rattle.cache_model.specs.Calls.{left, hand_in_of}
 use Rattle.cache_statelaws.proofs.LayoutLaws.{writes-length, accepted_in}
 use Rattle.cache_statelaws.proofs.SoundLaws.{sound-true}
-use Rattle.cache_masks.specs.Columns.{columned}
+use Rattle.cache_masks.specs.Columns.{columned, writes_of}
 use Rattle.cache_masks.proofs.ColumnLaws.{columned-length, columned-at, front_at, last-at}
 use Rattle.cache_needs.specs.Needed.{needed_mask, dependent_mask}
-use Rattle.cache_needs.proofs.NeedLaws.{dependents-any}
+use Rattle.cache_masks.specs.declared.Columns.{Columns}
 use Rattle.cache_soundness.specs.declared.Examined.{Examined}
 use Rattle.cache_soundness.specs.Parts.{Tabled, Seen}
-use Rattle.cache_soundness.proofs.SoundSteps.{columns-alike, not-ruled, ruled-decoded, not-holding, all_sound}
+use Rattle.cache_soundness.proofs.SoundSteps.{columns-alike, not-ruled, not-holding, all_sound}
 use Rattle.cache_steps.specs.Given.{call_leaves_state, coded_kept, hand_fault_by, hand_fault}
 
 -- ---- closes_ring, fault_behind
@@ -78,13 +78,13 @@ module _ (rules : List Rule) (addresses names epochs : List ℕ) (n : ℕ) (w : 
       (untrue (depends_on rules (label_of w) (label_of w)) (λ e. false≢true (sym a ∙ true-cyclic rules (unfold Cyclic in (label_of w, Plus.one (depends_on-true rules (label_of w) (label_of w) e))))))
 
   module _ (rows : List ℕ) (dependents : ℕ) (few : n < most_held) (t : take n rows ≡ rows_of (cache.needs rules ws) n) (a : cyclic rules ≡ false)
-      (ringless : needs_ring rules ws ≡ false) (d : dependents ≡ dependent_mask rules (columned [] names epochs n) w n) where
+      (ringless : needs_ring rules ws ≡ false) (d : dependents ≡ dependent_mask rules ws w n) where
     ring-is : (needed : ℕ) → needed ≡ needed_mask rules ws w n → closes_ring rows needed dependents ≡ needs_ring rules (ws ++ (w ∷ []))
     unfolding needs_ring needed_mask
     ring-is needed e =
         added_ring (cache.needs rules ws) wider n rows needed dependents few t same-below
         (ap (has_ring (cache.needs rules ws)) (sym (columned-length addresses names epochs n)) ∙ ringless)
-        (not_itself a) e (d ∙ dependents-any rules [] addresses names epochs n w ∙ sym column)
+        (not_itself a) e (d ∙ sym column)
         ∙ ap (has_ring wider) (sym wider_length)
 
     pub ring-none : dependents ≡ 0 → false ≡ needs_ring rules (ws ++ (w ∷ []))
@@ -93,11 +93,11 @@ module _ (rules : List Rule) (addresses names epochs : List ℕ) (n : ℕ) (w : 
     pub ring_looked : (needed : ℕ) (r : Bool) → needed ≡ needed_mask rules ws w n → r ≡ closes_ring rows needed dependents → r ≡ needs_ring rules (ws ++ (w ∷ []))
     ring_looked needed r e q = q ∙ ring-is needed e
 
-  module _ (stored dependents : ℕ) (d : dependents ≡ dependent_mask rules (columned [] names epochs n) w n) where
+  module _ (stored dependents : ℕ) (d : dependents ≡ dependent_mask rules ws w n) where
     depends_bit : (i : ℕ) → i < n → bit dependents i ≡ depends_on rules (label_at ws i) (label_of w)
     unfolding dependent_mask
     depends_bit i h =
-        ap (λ (m : ℕ). bit m i) (d ∙ dependents-any rules [] addresses names epochs n w)
+        ap (λ (m : ℕ). bit m i) d
         ∙ bit_mask (λ j. depends_on rules (label_at ws j) (label_of w)) n i ∙ rw (lt-ltb i n h)
 
     pub none-late : bit_and dependents stored ≡ 0 → late rules ws (bit stored) w ≡ false
@@ -141,56 +141,57 @@ module _ (w : Write) (s : List ℕ) where
   unfolding hand_fault hand_fault_by
   hand_short h = rw (ne_eqb _ _ h)
 
-  module _ (hs : length s ≡ state_size) (a : Bool) (e : a ≡ ruled s) where
-    pub hand_unruled : not a ≡ true → 15 ≡ hand_fault w s
+  module _ (hs : length s ≡ state_size) where
+    pub hand_unruled : ruled s ≡ false → 15 ≡ hand_fault w s
     unfolding hand_fault hand_fault_by
-    hand_unruled t = rw (eq-eqb _ _ hs, not-ruled s a e t)
+    hand_unruled e = rw (eq-eqb _ _ hs, not-ruled s e)
 
-    module _ (t : not a ≡ false) (b : Bool) (f : b ≡ needs_hold s) where
-      pub hand_needs : not b ≡ true → 15 ≡ hand_fault w s
+    module _ (e : ruled s ≡ true) (b : Bool) (f : b ≡ needs_hold s) where
+      pub hand_needs : b ≡ false → 15 ≡ hand_fault w s
       unfolding hand_fault hand_fault_by
-      hand_needs h = rw (eq-eqb _ _ hs, not-holding s a e t b f h)
+      hand_needs h = rw (eq-eqb _ _ hs, not-holding s e b f h)
 
-      module _ (h : not b ≡ false) (n : ℕ) (c : n ≡ accepted_count s) where
+      module _ (h : b ≡ true) (n : ℕ) (c : n ≡ accepted_count s) where
         well : sound s ≡ true
-        well = all_sound s a e t b f h
+        well = all_sound s e b f h
 
         pub hand_full : most_held ≤ n → 16 ≡ hand_fault w s
         unfolding hand_fault hand_fault_by
         hand_full g = rw (eq-eqb _ _ hs, well, ← c, le-leb _ _ g)
 
-        module _ (r : Examined) (rows addresses names epochs : List ℕ) (m : n < most_held) (seen : Seen s rows addresses names epochs r) where
+        module _ (r : Examined) (rows : List ℕ) (d : Columns) (m : n < most_held) (seen : Seen s rows d r) where
           good : Sound s
           good = sound-true s well
 
-          here : Alike (columned addresses names epochs n) (writes_in s)
-          here = subst (λ (k : ℕ). Alike (columned addresses names epochs k) (writes_in s)) (sym c) (columns-alike s addresses names epochs seen.columns)
+          here : Alike (writes_of d n) (writes_in s)
+          here = subst (λ (k : ℕ). Alike (writes_of d k) (writes_in s)) (sym c) (columns-alike s d seen.columns)
 
           rules_are : rules_of r.rules ≡ rules_in s
           rules_are = seen.decoded.rules
 
-          -- what the columns' refusals ask
-          pub behind-few : r.rules.count ≤ most_rules
-          behind-few = seen.decoded.few
-
-          pub behind-rows : take n rows ≡ rows_of (cache.needs (rules_of r.rules) (columned addresses names epochs n)) n
+          behind-rows : take n rows ≡ rows_of (cache.needs (rules_of r.rules) (writes_of d n)) n
           unfolding Tabled
           behind-rows =
               ap (λ (k : ℕ). take k rows) c ∙ seen.tabled
-              ∙ sym (rw rules_are (ap (rows_of (cache.needs (rules_in s) (columned addresses names epochs n))) (sym (columned-length addresses names epochs n))
-              ∙ alike-rows (rules_in s) (columned addresses names epochs n) (writes_in s) here ∙ ap (rows_of (cache.needs (rules_in s) (writes_in s))) (writes-length s)))
+              ∙ sym (rw rules_are (ap (rows_of (cache.needs (rules_in s) (writes_of d n))) (sym (columned-length d.addresses d.names d.epochs n))
+              ∙ alike-rows (rules_in s) (writes_of d n) (writes_in s) here ∙ ap (rows_of (cache.needs (rules_in s) (writes_in s))) (writes-length s)))
 
-          pub behind-acyclic : cyclic (rules_of r.rules) ≡ false
+          behind-acyclic : cyclic (rules_of r.rules) ≡ false
           behind-acyclic = rw rules_are (untrue (cyclic (rules_in s)) (λ q. good.holds.acyclic (cyclic-true (rules_in s) good.holds.known q)))
 
-          pub behind-ringless : needs_ring (rules_of r.rules) (columned addresses names epochs n) ≡ false
+          behind-ringless : needs_ring (rules_of r.rules) (writes_of d n) ≡ false
           behind-ringless =
-              rw (rules_are, alike-ring (rules_in s) (columned addresses names epochs n) (writes_in s) here)
+              rw (rules_are, alike-ring (rules_in s) (writes_of d n) (writes_in s) here)
               (untrue (needs_ring (rules_in s) (writes_in s)) (λ q. good.holds.ringless (rw (accepted_in s) (needs_ring-true (rules_in s) (writes_in s) q))))
 
-          late_is : late (rules_in s) (columned addresses names epochs n) (bit r.stored) w ≡ late (rules_in s) (writes_in s) (stored_in s) w
+          -- what the columns' refusals ask
+          pub behind-asks : ((r.rules.count ≤ most_rules) × ((n < most_held) × (take n rows ≡ rows_of (cache.needs (rules_of r.rules) (writes_of d n)) n)))
+              × ((cyclic (rules_of r.rules) ≡ false) × (needs_ring (rules_of r.rules) (writes_of d n) ≡ false))
+          behind-asks = ((seen.decoded.few, (m, behind-rows)), (behind-acyclic, behind-ringless))
+
+          late_is : late (rules_in s) (writes_of d n) (bit r.stored) w ≡ late (rules_in s) (writes_in s) (stored_in s) w
           late_is =
-              alike-late (rules_in s) (columned addresses names epochs n) (writes_in s) here (bit r.stored) w
+              alike-late (rules_in s) (writes_of d n) (writes_in s) here (bit r.stored) w
               ∙ late-same (rules_in s) (writes_in s) (bit r.stored) (stored_in s)
               (λ i h. let l : i < accepted_count s = subst (λ (k : ℕ). i < k) (writes-length s) h in
               rw (seen.decoded.stored, bit_mask (stored_in s) (accepted_count s) i, lt-ltb i (accepted_count s) l)) w
@@ -199,13 +200,13 @@ module _ (w : Write) (s : List ℕ) where
               late-same rules vs p q same w = unfold late in any_below_ext _ _ (length vs) (λ i h. rw (same i h))
 
           pub hand_behind : (k : ℕ)
-              → k ≡ cond (late (rules_of r.rules) (columned addresses names epochs n) (bit r.stored) w) 17 (cond (needs_ring (rules_of r.rules) (columned addresses names epochs n ++ (w ∷ []))) 18 0)
+              → k ≡ cond (late (rules_of r.rules) (writes_of d n) (bit r.stored) w) 17 (cond (needs_ring (rules_of r.rules) (writes_of d n ++ (w ∷ []))) 18 0)
               → k ≡ hand_fault w s
           unfolding hand_fault hand_fault_by
           hand_behind k q =
-              q ∙ rw (rules_are, late_is, alike-ring (rules_in s) (columned addresses names epochs n ++ (w ∷ [])) (writes_in s ++ (w ∷ [])) (alike-more (columned addresses names epochs n) (writes_in s) here w), eq-eqb _ _ hs, well, ← c, lt-leb _ _ m)
+              q ∙ rw (rules_are, late_is, alike-ring (rules_in s) (writes_of d n ++ (w ∷ [])) (writes_in s ++ (w ∷ [])) (alike-more (writes_of d n) (writes_in s) here w), eq-eqb _ _ hs, well, ← c, lt-leb _ _ m)
 
-pub ruleset faulting = (rules, hand_short, hand_unruled, hand_needs, hand_full, ruled-decoded)
+pub ruleset faulting = (rules, hand_short, hand_unruled, hand_needs, hand_full)
 
 -- ---- pelzhondy_hand_in
 

@@ -214,10 +214,10 @@ module _ (s : List ℕ) where
   not-ruled e = rw e
 
   module _ (e : ruled s ≡ true) (b : Bool) (f : b ≡ needs_hold s) where
-    pub not-holding : not b ≡ true → sound s ≡ false
+    pub not-holding : b ≡ false → sound s ≡ false
     unfolding sound
-    not-holding h = rw (e, ← f, not-true b h)
+    not-holding h = rw (e, ← f, h)
 
-    pub all_sound : not b ≡ false → sound s ≡ true
+    pub all_sound : b ≡ true → sound s ≡ true
     unfolding sound
-    all_sound h = rw (e, ← f, not-false b h)
+    all_sound h = rw (e, ← f, h)

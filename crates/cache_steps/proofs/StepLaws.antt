@@ -13,6 +13,7 @@ use lib.ListN.{length, get_or}
 use lib.Pow.{pow_mono, pow_pos}
 use borrow.Author.Rules.{rules}
 use borrow.Author.Tests.{eqb-true, eq-eqb, ne_eqb}
+use Rattle.std.specs.Prelude.{Option, None, Some, IfSome}
 use Rattle.relation.specs.Bits.{bit, with_bit, mask_of, without, Lowest}
 use Rattle.relation.proofs.BitLaws.{mask_ext}
 use Rattle.relation.proofs.MemberLaws.{member_below, Left as Remains, left-all, left-none, left_after, left-fewer}
@@ -28,16 +29,16 @@ use Rattle.cache_model.specs.State.{state_size, accepted_count, stored_count, ru
 use Rattle.cache_model.specs.Sound.{ruled, needs_hold, sound}
 use Rattle.cache_model.specs.Calls.{Left, Held, holding, left, storing, checked, stepped, step_of, steps_of, drained}
 use Rattle.relation.specs.Union.{part_of}
+use Rattle.cache_masks.specs.declared.Columns.{Columns}
 use Rattle.cache_soundness.specs.declared.Examined.{Examined}
 use Rattle.cache_soundness.specs.Parts.{Tabled, Seen}
-use Rattle.cache_soundness.proofs.SoundSteps.{stored-bit, row-met, not-ruled, ruled-decoded, not-holding, all_sound}
+use Rattle.cache_soundness.proofs.SoundSteps.{stored-bit, row-met, not-ruled, not-holding, all_sound}
 use Rattle.cache_statelaws.proofs.LayoutLaws.{writes-length, write-at}
 use Rattle.cache_statelaws.proofs.SoundLaws.{sound-true, sound-most, stored-most}
 use Rattle.model.proofs.ReadyLaws.{ready_earliest}
 use Rattle.cache_soundlaws.proofs.KeepLaws.{earliest_accepted, sound-size, rules-marked, writes-marked, accepted_count-marked, stored-marked, sound-stepped, length-stepped, step-sound as step-once}
-use Rattle.cache_steps.specs.declared.Looked.{Looked}
 use Rattle.cache_steps.specs.Given.{call_leaves, coded_left, fault_by, call_fault}
-use Rattle.cache_steps.specs.Ready.{first_from, ready_by, first_ready, LookedIf}
+use Rattle.cache_steps.specs.Ready.{place_of, first_from, ready_by, first_ready, with_stored}
 
 -- ---- ready
 
@@ -94,24 +95,20 @@ module _ (rows : List ℕ) (mask n : ℕ) where
   unfolding part_of
   seek_more left i next l b q f = record { small = rw q (without-below left _); going = left_after Unready waiting left i next l.going l.small b q (ne_eqb _ _ f) }
 
-  pub seek_found : (left i : ℕ) → n ≤ most_held → Seeks left → Lowest left i → bit_and (get_or rows i 0) mask ≡ get_or rows i 0 → i + 1 ≡ first_ready rows mask n
+  pub seek_found : (left i : ℕ) → n ≤ most_held → Seeks left → Lowest left i → bit_and (get_or rows i 0) mask ≡ get_or rows i 0 → suc i ≡ first_ready rows mask n
   unfolding Lowest first_ready part_of
   seek_found left i few l low e =
       let w = l.going.part i low.0 in
       let h = waits-below i w in
       let m = without_member (2 ^ n - 1) mask i w in
-      rw (add-one i)
-      (sym (first-is (ready_by rows mask) n 0 i (omega arith) (omega arith) (rw (m.1, eq-eqb _ _ e))
-      (λ j a b. unready few j (omega arith) (λ g. l.going.done j g (low.1 j b)))))
+      sym (first-is (ready_by rows mask) n 0 i (omega arith) (omega arith) (rw (m.1, eq-eqb _ _ e))
+      (λ j a b. unready few j (omega arith) (λ g. l.going.done j g (low.1 j b))))
 
   pub seek_none : (left : ℕ) → n ≤ most_held → Seeks left → left ≡ 0 → 0 ≡ first_ready rows mask n
   unfolding first_ready
   seek_none left few l z = sym (first-none (ready_by rows mask) n 0 (λ j a b. unready few j (omega arith) (left-none Unready waiting left l.going z j)))
 
-pub place-below : (i : ℕ) → i < 64 → i + 1 < 2 ^ 64
-place-below i h = omega arith
-
-pub ruleset readying = (rules, left-fewer, seek_begun, seek_more, seek_found, seek_none, place-below)
+pub ruleset readying = (rules, left-fewer, seek_begun, seek_more, seek_found, seek_none)
 
 module _ (s rows : List ℕ) (n mask : ℕ) (c : n ≡ accepted_count s) (t : Tabled s rows) (m : mask ≡ mask_of (stored_in s) (accepted_count s)) where
   ready-from : (i k : ℕ) → i + k ≤ accepted_count s → first_from (ready_by rows mask) i k ≡ ready_from (rules_in s) (writes_in s) (stored_in s) i k
@@ -152,29 +149,30 @@ module _ (s : List ℕ) (t : sound s ≡ true) where
 pub write-stored : (s d d' : List ℕ) (i : ℕ) (w : Write) → w ≡ write_in s i → d' ≡ stored_on d w → d' ≡ stored_on d (write_in s i)
 write-stored s d d' i w e q = rw e at q
 
-module _ (s rows : List ℕ) (n mask p : ℕ) (c : n ≡ accepted_count s) (t : Tabled s rows) (m : mask ≡ mask_of (stored_in s) (accepted_count s)) (f : p ≡ first_ready rows mask n) where
-  found : p ≡ ready (rules_in s) (writes_in s) (stored_in s)
+module _ (s rows : List ℕ) (n mask : ℕ) (p : Option ℕ) (c : n ≡ accepted_count s) (t : Tabled s rows) (m : mask ≡ mask_of (stored_in s) (accepted_count s))
+    (f : place_of p ≡ first_ready rows mask n) where
+  found : place_of p ≡ ready (rules_in s) (writes_in s) (stored_in s)
   found = f ∙ ready-state s rows n mask c t m
 
-  most : p ≤ accepted_count s
+  most : place_of p ≤ accepted_count s
   most = rw f (ready-most s rows n mask c t m)
 
-  pub place-fits : sound s ≡ true → (p ≡ 0 → ⊥) → p - 1 < most_held
-  place-fits g z = let h = few-writes s g in let l = most in omega arith
-
-  pub step_idle : (d : List ℕ) → p ≡ 0 → call_leaves 0 s d ≡ coded_left (stepped s d)
+  pub step_idle : (d : List ℕ) (r : Option ℕ) → p ≡ None → r ≡ None → (call_leaves (place_of r) s d ≡ coded_left (stepped s d)) × IfSome r (λ i. i < most_held)
   unfolding coded_left coded stepped storing
-  step_idle d z = rw (← found, z)
+  step_idle d r z e = rw e (rw (← found, z), tt)
 
-  pub step-stores : (d s' d' : List ℕ) → (p ≡ 0 → ⊥) → s' ≡ marked s (p - 1) → d' ≡ stored_on d (write_in s (p - 1)) → call_leaves p s' d' ≡ coded_left (stepped s d)
-  unfolding coded_left coded stepped storing
-  step-stores d s' d' z g h = rw (← found) (go p most z g h)
-    where
-      go : (k : ℕ) → k ≤ accepted_count s → (k ≡ 0 → ⊥) → s' ≡ marked s (k - 1) → d' ≡ stored_on d (write_in s (k - 1)) → call_leaves k s' d' ≡ coded_left (storing k s d)
-      go zero a z f g = absurd (z refl)
-      go (suc k) a z f g =
-          let y : suc k - 1 ≡ k = omega arith in
-          rw (write-at s k (omega arith), rw y at f, rw y at g)
+  module _ (i : ℕ) (z : p ≡ Some i) where
+    pub place-fits : sound s ≡ true → i < most_held
+    place-fits g =
+        let h = few-writes s g in
+        let l = subst (λ (x : Option ℕ). place_of x ≤ accepted_count s) z most in
+        omega (arith, h, l)
+
+    pub step-stores : (d s' d' : List ℕ) → s' ≡ marked s i → d' ≡ stored_on d (write_in s i) → call_leaves (suc i) s' d' ≡ coded_left (stepped s d)
+    unfolding coded_left coded stepped storing
+    step-stores d s' d' g h =
+        let l = subst (λ (x : Option ℕ). place_of x ≤ accepted_count s) z most in
+        rw (← found, z, write-at s i (omega (arith, l)), g, h)
 
 pub state-size : (s : List ℕ) → sound s ≡ true → length s ≡ state_size
 state-size = sound-size
@@ -182,11 +180,6 @@ state-size = sound-size
 pub ruleset stepping = (rules, state-size, few-writes, few-marked, few-held, write-stored, place-fits, step_idle, step-stores)
 
 -- ---- look, pelzhondy_step, pelzhondy_drain
-
--- of a call that is refused nothing is told
-pub untold : (n : ℕ) (s rows : List ℕ) (r : Looked) → eqb n 0 ≡ false → LookedIf (eqb n 0) s rows r
-unfolding LookedIf
-untold n s rows r e = λ t. absurd (false≢true (sym e ∙ t))
 
 module _ (s d : List ℕ) where
   pub fault_short : (length s ≡ state_size → ⊥) → 14 ≡ call_fault s d
@@ -198,26 +191,24 @@ module _ (s d : List ℕ) where
     unfolding call_fault fault_by
     fault_narrow h = rw (eq-eqb _ _ g, ne_eqb _ _ h)
 
-    module _ (h : length d ≡ disk_length) (a : Bool) (e : a ≡ ruled s) where
-      pub fault_unruled : not a ≡ true → 15 ≡ call_fault s d
+    module _ (h : length d ≡ disk_length) where
+      pub fault_unruled : ruled s ≡ false → 15 ≡ call_fault s d
       unfolding call_fault fault_by
-      fault_unruled f = rw (eq-eqb _ _ g, eq-eqb _ _ h, not-ruled s a e f)
+      fault_unruled f = rw (eq-eqb _ _ g, eq-eqb _ _ h, not-ruled s f)
 
-      module _ (f : not a ≡ false) (b : Bool) (q : b ≡ needs_hold s) where
-        pub fault-needs : not b ≡ true → 15 ≡ call_fault s d
+      module _ (e : ruled s ≡ true) (b : Bool) (q : b ≡ needs_hold s) where
+        pub fault-needs : b ≡ false → 15 ≡ call_fault s d
         unfolding call_fault fault_by
-        fault-needs k = rw (eq-eqb _ _ g, eq-eqb _ _ h, not-holding s a e f b q k)
+        fault-needs k = rw (eq-eqb _ _ g, eq-eqb _ _ h, not-holding s e b q k)
 
-        pub fault-none : not b ≡ false → 0 ≡ call_fault s d
+        pub fault-none : b ≡ true → call_fault s d ≡ 0
         unfolding call_fault fault_by
-        fault-none k = rw (eq-eqb _ _ g, eq-eqb _ _ h, all_sound s a e f b q k)
+        fault-none k = rw (eq-eqb _ _ g, eq-eqb _ _ h, all_sound s e b q k)
 
-pub told : (s rows addresses names epochs : List ℕ) (r : Examined) → Seen s rows addresses names epochs r
-    → LookedIf (eqb 0 0) s rows (record { number = 0; stored = r.stored })
-unfolding LookedIf
-told s rows addresses names epochs r v = λ t. (v.tabled, v.decoded.stored)
+pub told : (s rows : List ℕ) (c : Columns) (r : Examined) → Seen s rows c r → Tabled s rows × (r.stored ≡ mask_of (stored_in s) (accepted_count s))
+told s rows c r v = (v.tabled, v.decoded.stored)
 
-pub ruleset looking = (rules, untold, fault_short, fault_narrow, fault_unruled, fault-needs, fault-none, told, ruled-decoded)
+pub ruleset looking = (rules, fault_short, fault_narrow, fault_unruled, fault-needs, fault-none, told)
 
 module _ (s d : List ℕ) where
   -- a call that meets no refusal
@@ -233,10 +224,9 @@ module _ (s d : List ℕ) where
       go false b c p q r z = absurd (omega arith)
 
   -- what a call that meets none has seen
-  pub cleared : (r : Looked) (rows : List ℕ) → r.number ≡ call_fault s d → r.number ≡ 0 → length rows ≡ most_held → LookedIf (eqb r.number 0) s rows r
-      → (length rows ≡ most_held) × ((length d ≡ disk_length) × ((sound s ≡ true) × (Tabled s rows × (r.stored ≡ mask_of (stored_in s) (accepted_count s)))))
-  unfolding LookedIf
-  cleared r rows e z l h = let c = clean r.number e z in let v = h (eq-eqb r.number 0 z) in (l, (c.1.0, (c.1.1, (v.0, v.1))))
+  pub cleared : (stored : ℕ) (rows : List ℕ) → call_fault s d ≡ 0 → Tabled s rows → stored ≡ mask_of (stored_in s) (accepted_count s)
+      → (length d ≡ disk_length) × ((sound s ≡ true) × (Tabled s rows × (stored ≡ mask_of (stored_in s) (accepted_count s))))
+  cleared stored rows z t m = let c = clean (call_fault s d) refl z in (c.1.0, (c.1.1, (t, m)))
 
   module _ (call : List ℕ → List ℕ → Left) (n : ℕ) (e : n ≡ call_fault s d) where
     pub call-refused : (r : ℕ) → (n ≡ 0 → ⊥) → r ≡ refusal n 0 → call_leaves r s d ≡ coded_left (checked call s d)
@@ -258,38 +248,28 @@ module _ (s d : List ℕ) where
 
 pub ruleset calling = (rules, call-refused, call_made)
 
--- ---- with_place, drain_sound
+-- ---- with_stored, drain_sound
 
-module _ (mask place : ℕ) where
-  pub place-some : (r : ℕ) → 0 < place → r ≡ with_bit mask (place - 1) → r ≡ cond (eqb place 0) mask (with_bit mask (place - 1))
-  place-some r h e = rw (ne_eqb place 0 (λ z. absurd (omega arith))) e
-
-  pub place_none : place ≤ 0 → mask ≡ cond (eqb place 0) mask (with_bit mask (place - 1))
-  place_none h = rw (eq-eqb place 0 (omega arith))
-
-pub ruleset placing = (rules, place_none, place-some)
-
--- which writes are stored after a step, by the place that it answers
-mask_stepped : (s d : List ℕ) (mask r : ℕ) → sound s ≡ true → r ≡ coded (stepped s d).outcome → mask ≡ mask_of (stored_in s) (accepted_count s)
-    → (r ≤ most_held) × (cond (eqb r 0) mask (with_bit mask (r - 1)) ≡ mask_of (stored_in (stepped s d).state) (accepted_count (stepped s d).state))
-unfolding stepped storing coded
-mask_stepped s d mask r t e m = go (ready (rules_in s) (writes_in s) (stored_in s)) refl e
+-- which writes are stored after a step, by the write that it stores
+mask_stepped : (s d : List ℕ) (mask : ℕ) (p : Option ℕ) → sound s ≡ true → place_of p ≡ coded (stepped s d).outcome → mask ≡ mask_of (stored_in s) (accepted_count s)
+    → with_stored mask p ≡ mask_of (stored_in (stepped s d).state) (accepted_count (stepped s d).state)
+unfolding stepped storing coded with_stored
+mask_stepped s d mask p t e m = go p (ready (rules_in s) (writes_in s) (stored_in s)) refl e
   where
-    go : (k : ℕ) → ready (rules_in s) (writes_in s) (stored_in s) ≡ k → r ≡ coded (storing k s d).outcome
-        → (r ≤ most_held) × (cond (eqb r 0) mask (with_bit mask (r - 1)) ≡ mask_of (stored_in (storing k s d).state) (accepted_count (storing k s d).state))
-    go zero q e = (omega arith, rw e m)
-    go (suc i) q e =
+    go : (p : Option ℕ) (k : ℕ) → ready (rules_in s) (writes_in s) (stored_in s) ≡ k → place_of p ≡ coded (storing k s d).outcome
+        → with_stored mask p ≡ mask_of (stored_in (storing k s d).state) (accepted_count (storing k s d).state)
+    go None zero q e = m
+    go (Some i) zero q e = absurd (omega arith)
+    go None (suc i) q e = absurd (omega arith)
+    go (Some j) (suc i) q e =
         let a = (ready_earliest (rules_in s) (writes_in s) (stored_in s) i q).accepted in
         let l = writes-length s in
-        let w = few-writes s t in
         let h : i < accepted_count s = omega arith in
-        let y : suc i - 1 ≡ i = omega arith in
+        let y : j ≡ i = omega arith in
         let g = sound-true s t in
-        let v = (ready_earliest (rules_in s) (writes_in s) (stored_in s) i q).waits in (
-          omega arith,
-          rw (e, eqb-suc-zero i, y, m, accepted_count-marked s g i h v)
-              (mask_with (stored_in s) (accepted_count s) i h ∙ mask_ext _ _ (accepted_count s) (λ j hj. sym (stored-marked s g i h v j))),
-        )
+        let v = (ready_earliest (rules_in s) (writes_in s) (stored_in s) i q).waits in
+        rw (y, m, accepted_count-marked s g i h v)
+        (mask_with (stored_in s) (accepted_count s) i h ∙ mask_ext _ _ (accepted_count s) (λ j hj. sym (stored-marked s g i h v j)))
 
 -- a step keeps the rules and the writes, and so the needs
 tabled-marked : (s rows : List ℕ) (i : ℕ) → sound s ≡ true → i < accepted_count s → stored_in s i ≡ false → Tabled s rows → Tabled (marked s i) rows
@@ -329,7 +309,7 @@ module _ (s d : List ℕ) (m k : ℕ) where
       rw z
 
   -- what a step leaves, as the code says it
-  module _ (s' d' s'' d'' : List ℕ) (r : ℕ) (e : call_leaves r s'' d'' ≡ coded_left (stepped s' d')) where
+  module _ (s' d' s'' d'' : List ℕ) (p : Option ℕ) (e : call_leaves (place_of p) s'' d'' ≡ coded_left (stepped s' d')) where
     step-state : s'' ≡ (stepped s' d').state
     unfolding coded_left
     step-state = ap (λ g. g.state) e
@@ -343,16 +323,13 @@ module _ (s d : List ℕ) (m k : ℕ) where
         let z : n + 1 - k ≡ suc (n - k) = omega arith in
         rw (z, steps_last (n - k) (holding s d), ← q, step-state, step-disk, step-once s' d' t l)
 
-    step-answer : r ≡ coded (stepped s' d').outcome
+    step-answer : place_of p ≡ coded (stepped s' d').outcome
     unfolding coded_left
     step-answer = ap (λ g. g.answer) e
 
-    pub drain-place : (mask : ℕ) → sound s' ≡ true → mask ≡ mask_of (stored_in s') (accepted_count s') → r ≤ most_held
-    drain-place mask t h = (mask_stepped s' d' mask r t step-answer h).0
-
-    pub drain_mask : (mask next : ℕ) → sound s' ≡ true → mask ≡ mask_of (stored_in s') (accepted_count s') → next ≡ cond (eqb r 0) mask (with_bit mask (r - 1))
+    pub drain_mask : (mask next : ℕ) → sound s' ≡ true → mask ≡ mask_of (stored_in s') (accepted_count s') → next ≡ with_stored mask p
         → next ≡ mask_of (stored_in s'') (accepted_count s'')
-    drain_mask mask next t h q = q ∙ rw step-state (mask_stepped s' d' mask r t step-answer h).1
+    drain_mask mask next t h q = q ∙ rw step-state (mask_stepped s' d' mask p t step-answer h)
 
     pub drain-sound : sound s' ≡ true → sound s'' ≡ true
     drain-sound t = rw step-state (sound-stepped s' d' t)
@@ -373,4 +350,4 @@ module _ (s d : List ℕ) (m k : ℕ) where
       let r = rw z at q in
       rw (← c, ← f, ← r)
 
-pub ruleset draining = (rules, state-size, counts_ordered, drain-begun, drain-more, drain-sound, drain-size, drain-disk, drain-tabled, drain-place, drain_mask, drain-done)
+pub ruleset draining = (rules, state-size, counts_ordered, drain-begun, drain-more, drain-sound, drain-size, drain-disk, drain-tabled, drain_mask, drain-done)

@@ -1,10 +1,7 @@
 -- The earliest write that is ready, by a table of needs and a mask of stored writes.
-use Rattle.std.specs.Prelude.{ℕ, zero, suc, Bool, true, cond, not, ◌&&◌, ◌≡◌, List, get_or}
-use Rattle.relation.specs.Bits.{bit, mask_of}
+use Rattle.std.specs.Prelude.{ℕ, zero, suc, Bool, cond, not, ◌&&◌, List, get_or, Option, None, Some}
+use Rattle.relation.specs.Bits.{bit, with_bit}
 use Rattle.relation.specs.Union.{part_of}
-use Rattle.cache_model.specs.State.{accepted_count, stored_in}
-use Rattle.cache_soundness.specs.Parts.{Tabled}
-use Rattle.cache_steps.specs.declared.Looked.{Looked}
 
 -- the first of the k numbers from i on that passes a test, counted from 1; 0 if there is none
 unfoldable pub first_from : (ℕ → Bool) → ℕ → ℕ → ℕ
@@ -18,6 +15,12 @@ ready_by rows mask i = not (bit mask i) && part_of (get_or rows i 0) mask
 unfoldable pub first_ready : List ℕ → ℕ → ℕ → ℕ
 first_ready rows mask n = first_from (ready_by rows mask) 0 n
 
--- what a step or a drain that is not refused has seen of its state: its needs and its stored writes
-unfoldable pub LookedIf : Bool → List ℕ → List ℕ → Looked → Type 0
-LookedIf b s rows r = b ≡ true → Tabled s rows × (r.stored ≡ mask_of (stored_in s) (accepted_count s))
+-- a write by its place from 1; 0 is for none
+abbrev pub place_of : Option ℕ → ℕ
+place_of None = 0
+place_of (Some i) = suc i
+
+-- a mask, with that write
+unfoldable pub with_stored : ℕ → Option ℕ → ℕ
+with_stored mask None = mask
+with_stored mask (Some i) = with_bit mask i
