@@ -79,7 +79,7 @@ fn decide_test(file: &[u8], rules: Rules, e: Extent) -> Option<u64>
     } = load_case(file, rules, e);
     judge_search::smallest_bad(
         &mut rows,
-        test.base,
+        &test.base,
         &test.stores,
         test.main,
         checks,

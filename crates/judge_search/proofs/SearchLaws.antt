@@ -1,8 +1,8 @@
 -- The search: no schedule before a place of the list leaves an inconsistent disk. So the first that does has the least rank of the bad ones.
 use mathlib.Core.Path.{◌≡◌, refl, sym, ap, ◌∙◌}
-use mathlib.Core.Bool.{Bool, true, false}
-use mathlib.Core.List.{List}
-use Prim.Native.Nat.{ℕ, ◌+◌, ◌-◌, ◌%◌, ◌^◌, ◌≤◌, ◌<◌}
+use mathlib.Core.Bool.{Bool, true, false, and-false}
+use mathlib.Core.List.{List, [], ◌∷◌}
+use Prim.Native.Nat.{ℕ, zero, suc, ◌+◌, ◌-◌, ◌%◌, ◌^◌, ◌≤◌, ◌<◌}
 use native.Mathlib.Numerals.{add-one}
 use native.Mathlib.Decide.{dec_lt}
 use native.Mathlib.Omega.{arith}
@@ -10,10 +10,13 @@ use lib.Dec.{eqb, ltb}
 use lib.ListN.{length, get_or, take}
 use lib.Pow.{pow_mono}
 use borrow.Author.Rules.{rules}
-use Rattle.std.specs.Prelude.{Option, None, Some}
+use Rattle.std.specs.Prelude.{Option, None, Some, MatchBool}
+use Rattle.std.specs.List.{AllWithin, HoldsAt}
+use Rattle.std.proofs.Common.{get_or-take, length-take-le}
 use borrow.Author.Tests.{eqb-true, lt-ltb, ltb-true}
 use Rattle.relation.specs.Best.{smallest_below}
 use Rattle.relation.specs.Rank.{small_sets, rank}
+use Rattle.relation.specs.Lists.{all}
 use Rattle.relation.proofs.BestLaws.{rank-set, least_smallest, passes_none}
 use Rattle.relation.proofs.ListLaws.{clash, untrue, below_extend, and_left, and_right, and_intro}
 use Rattle.model.specs.declared.Write.{Write}
@@ -64,20 +67,42 @@ module _ (p : ℕ → Bool) (list : List ℕ) (k : ℕ) (c : Clear p list k) whe
       before : ltb 0 k ≡ true → k - 1 < k
       before q = let l = ltb-true 0 k q in omega (arith, l)
 
-module _ (base : List ℕ) (ws : List Write) (cs : List Check) (list : List ℕ) (k m i s : ℕ) (d : List ℕ) (q : s ≡ listed list k) (e : d ≡ run ws s base) where
-  pub clear_pass : Clear (leaves_inconsistent base ws (take m cs)) list k → i ≤ m → m ≤ i → consistent (take i cs) d ≡ true → Clear (leaves_inconsistent base ws (take m cs)) list (k + 1)
+module _ (base : List ℕ) (ws : List Write) (cs : List Check) (list : List ℕ) (k s : ℕ) (d : List ℕ) (b : Bool) (q : s ≡ listed list k) (e : d ≡ run ws s base) (h : b ≡ consistent cs d) where
+  pub clear_pass : Clear (leaves_inconsistent base ws cs) list k → b ≡ true → Clear (leaves_inconsistent base ws cs) list (k + 1)
   unfolding leaves_inconsistent
-  clear_pass c h l t = let z : i ≡ m = omega (arith, h, l) in clear-suc _ list k c (rw (← q, ← e, rw z at t))
+  clear_pass c t = clear-suc _ list k c (rw (← q, ← e, ← h, t) refl)
 
-  pub stops_here : (many : ℕ) → Clear (leaves_inconsistent base ws (take m cs)) list k → k < many → false ≡ consistent (take m cs) d → StopsAt (leaves_inconsistent base ws (take m cs)) list many (Some s)
+  pub stops_here : (many : ℕ) → Clear (leaves_inconsistent base ws cs) list k → k < many → b ≡ false → StopsAt (leaves_inconsistent base ws cs) list many (Some s)
   unfolding StopsAt leaves_inconsistent
-  stops_here many c h f = (k, h, q, rw (← e, ← f), λ j l. c.none j l)
+  stops_here many c l t = (k, l, q, rw (← e, ← h, t) refl, λ j l. c.none j l)
 
 pub stops_never : (p : ℕ → Bool) (list : List ℕ) (k many : ℕ) → Clear p list k → many ≤ k → StopsAt p list many None
 unfolding StopsAt
 stops_never p list k many c l i b = c.none i (omega (arith, l, b))
 
 pub ruleset searching = (rules, repeated-first, repeated-next, clear_none, clear_again, stops_never)
+
+-- ---- all checks
+
+pub all_by : (p : Check → Bool) (cs : List Check) (r : Bool) → MatchBool r (AllWithin (λ c. p c ≡ true) cs 0 (length cs)) ((k : ℕ) × (k < length cs) × HoldsAt (λ c. p c ≡ false) cs k) → r ≡ all p cs
+unfolding all
+all_by p [] true h = refl
+all_by p [] false h = absurd (omega (arith, h.1))
+all_by p (x ∷ xs) true h = sym (and_intro (p x) (all p xs) (h 0 x (omega arith) (omega arith)) (sym (all_by p xs true (λ k d l b. h (suc k) d (omega arith) (omega arith)))))
+all_by p (x ∷ xs) false (zero, b, f) = rw (f x) refl
+all_by p (x ∷ xs) false (suc k, b, f) = rw (← all_by p xs false (k, omega arith, f)) (sym (and-false (p x)))
+
+-- ---- the first ones of an array
+
+pub stops_taken : (p : ℕ → Bool) (list : List ℕ) (many : ℕ) (v : Option ℕ) → many ≤ length list → StopsAt p (take many list) (length (take many list)) v → StopsAt p list many v
+unfolding StopsAt
+stops_taken p list many None h t =
+    let n = length-take-le many list h in
+    λ i l. rw (← get_or-take many list i 0 l) (t i (omega arith))
+stops_taken p list many (Some s) h (i, l, e, q, before) =
+    let n = length-take-le many list h in
+    let m : i < many = omega arith in
+    (i, m, rw (← get_or-take many list i 0 m) e, q, λ j g. rw (← get_or-take many list j 0 (omega arith)) (before j g))
 
 -- ---- from the list to all schedules
 
@@ -117,10 +142,10 @@ module _ (rows column base : List ℕ) (n : ℕ) (cs : List Check) (list : List 
         | no a ↦ let o = g.ranks.rising i j (omega (arith, a)) c in omega (arith, o, first, q, w)
       ]
 
-pub verdict-is : (rows column base : List ℕ) (n : ℕ) (cs : List Check) (list : List ℕ) (many : ℕ) (v : Option ℕ) → n ≤ most_main → length base ≡ disk_blocks → Suspects rows column n cs list many
-    → StopsAt (leaves_inconsistent base (held_from column 0 n) cs) list many v → v ≡ verdict_below (bad_rows rows n base (held_from column 0 n) cs) (2 ^ n)
+pub verdict-is : (rows column base : List ℕ) (n : ℕ) (cs : List Check) (list : List ℕ) (many : ℕ) (v : Option ℕ) → n ≤ most_main → length base ≡ disk_blocks → many ≤ length list → Suspects rows column n cs list many
+    → StopsAt (leaves_inconsistent base (held_from column 0 n) cs) (take many list) (length (take many list)) v → v ≡ verdict_below (bad_rows rows n base (held_from column 0 n) cs) (2 ^ n)
 unfolding verdict_below
-verdict-is rows column base n cs list many v few size g stops = found rows column base n cs list many few size g v stops
+verdict-is rows column base n cs list many v few size room g stops = found rows column base n cs list many few size g v (stops_taken _ list many v room stops)
 
 pub suspects-most : (rows column : List ℕ) (n : ℕ) (cs : List Check) (list : List ℕ) (many : ℕ) → Suspects rows column n cs list many → many ≤ most_listed
 suspects-most rows column n cs list many g = g.most

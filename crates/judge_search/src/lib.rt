@@ -3,18 +3,18 @@
 #![tactic(auto)]
 
 ghost use Rattle.std.specs.Prelude.{◌≡◌, ◌^◌, ◌<◌, ◌≤◌, length, take};
-ghost use Rattle.model.specs.Limits.{disk_blocks, most_main, most_checks};
+ghost use Rattle.model.specs.Limits.{most_main, most_checks};
+ghost use Rattle.model.specs.Check.{consistent};
 ghost use Rattle.judge_disks.specs.Packed.{held_from};
 ghost use Rattle.judge_schedules.specs.Valid.{bad_rows, Narrow};
-ghost use Rattle.judge_suspects.specs.Suspects.{most_listed};
 ghost use Rattle.judge_search.specs.Search.{repeated, leaves_inconsistent, StopsAt, verdict_below};
 
 use judge_suspects::MOST_LISTED;
 use model::{Check, DISK_BLOCKS, MOST_CHECKS, MOST_INITIAL};
 
 // Whether an entry of a list is the one before it once more.
-fn is_repeated(list: &[u64; MOST_LISTED], k: usize) -> bool
-    requires { k < most_listed }
+fn is_repeated(list: &[u64], k: usize) -> bool
+    requires { k < length list.now }
     ensures { result ≡ repeated list.now k }
 {
     if k == 0 {
@@ -23,32 +23,34 @@ fn is_repeated(list: &[u64; MOST_LISTED], k: usize) -> bool
     list[k - 1] == list[k]
 }
 
-// The search through the schedules of n writes whose ranks are the first `many` of a list, and through the
-// checks: the first schedule that leaves an inconsistent disk, if one does.
+// Whether all checks hold of a disk.
+fn is_consistent(disk: &[u32; DISK_BLOCKS], checks: &[Check]) -> bool
+    ensures { result ≡ consistent checks.now disk.now }
+{
+    checks.iter().all(|c| judge_checks::check_holds(disk, *c))
+}
+
+// The search through the schedules of n writes whose ranks are listed: the first that leaves an
+// inconsistent disk, if one does.
 fn search_by(
-    list: &[u64; MOST_LISTED],
-    many: usize,
+    list: &[u64],
     base: &[u32; DISK_BLOCKS],
     stores: &[u64; MOST_INITIAL],
     n: usize,
-    checks: [Check; MOST_CHECKS],
-    m: usize,
+    checks: &[Check],
 ) -> Option<u64>
-    requires { ((many ≤ most_listed) × (n ≤ most_main)) × (m ≤ most_checks) }
-    ensures { StopsAt (leaves_inconsistent base.now (held_from stores.now 0 n) (take m checks)) list.now many result }
+    requires { n ≤ most_main }
+    ensures { StopsAt (leaves_inconsistent base.now (held_from stores.now 0 n) checks.now) list.now (length list.now) result }
 {
     let mut disk = *base;
-    'search: for k in 0..many {
+    'search: for (k, rank) in list.iter().enumerate() {
         if is_repeated(list, k) {
             continue 'search;
         }
-        let s = list[k] % relation::SMALL_SETS;
+        let s = *rank % relation::SMALL_SETS;
         judge_disks::apply(&mut disk, stores, 0, n, s);
-        'checks: for i in 0..m {
-            let c = checks[i];
-            if !judge_checks::check_holds(&disk, c) {
-                return Some(s);
-            }
+        if !is_consistent(&disk, checks) {
+            return Some(s);
         }
         judge_disks::restore(&mut disk, base, stores, 0, n);
     }
@@ -59,16 +61,16 @@ fn search_by(
 // The table of rows is turned into one of what each write brings.
 pub fn smallest_bad(
     rows: &mut [u64; 64],
-    base: [u32; DISK_BLOCKS],
+    base: &[u32; DISK_BLOCKS],
     stores: &[u64; MOST_INITIAL],
     n: usize,
     checks: [Check; MOST_CHECKS],
     m: usize,
 ) -> Option<u64>
     requires { (n ≤ most_main) × ((m ≤ most_checks) × Narrow rows.old n) }
-    ensures { result ≡ verdict_below (bad_rows rows.old n base (held_from stores.now 0 n) (take m checks)) (2 ^ n) }
+    ensures { result ≡ verdict_below (bad_rows rows.old n base.now (held_from stores.now 0 n) (take m checks)) (2 ^ n) }
 {
     let mut list = [0u64; MOST_LISTED];
     let many = judge_suspects::suspects(&mut list, rows, stores, n, checks, m);
-    search_by(&list, many, &base, stores, n, checks, m)
+    search_by(&list[..many], base, stores, n, &checks[..m])
 }

@@ -1,9 +1,6 @@
--- `judge_search::search_by` meets its contract. The invariants: no schedule before place k of the list leaves an inconsistent disk, and the disk is the base again; the checks below i hold of the schedule's disk.
-use mathlib.Core.Path.{refl, ap, ◌∙◌}
-use mathlib.Core.Bool.{not}
+-- `judge_search::search_by` meets its contract: each schedule is applied to the base, asked, and taken back.
+use mathlib.Core.Path.{refl, ◌∙◌}
 use native.Mathlib.Omega.{arith}
-use Rattle.model.specs.declared.Check.TheVariants.{Range}
-use Rattle.judge_checks.proofs.CheckSteps.{checks-start, checks-more, checks_stop}
 use Rattle.judge_disks.proofs.RestoreLaws.{restored-run, ran}
 use Rattle.judge_search.proofs.SearchLaws.{searching, clear_pass, stops_here}
 use Rattle.judge_search.proofs.search_by.Goals as goal
@@ -11,38 +8,18 @@ use Rattle.judge_search.proofs.search_by.Goals as goal
 pub search-preserved-then-is_repeated : goal.search-preserved-then-is_repeated
 search-preserved-then-is_repeated c = search searching
 
-pub checks-init : goal.checks-init
-checks-init c = search (searching, ran, checks-start)
-
-pub checks-preserved : goal.checks-preserved
-checks-preserved c =
-    let l = c.checks in
-    let a = c.args in (
-      omega arith,
-      l.invariant.1,
-      checks-more c.apply.new.disk a.checks (Range 0) a.m l.i c.check_holds.result (omega arith) c.requires.1 c.search.invariant.1 l.invariant.2 c.check_holds.ensures (ap not c.if-not-check_holds.false),
-    )
-
 pub search-preserved : goal.search-preserved
 search-preserved c =
-    let l = c.checks in
     let o = c.search in
     let a = c.args in
-    let disk = c.apply.new.disk in (
-      omega arith,
-      o.invariant.1,
-      c.restore.ensures ∙ restored-run a.stores.now a.base.now 0 a.n _ disk (search searching) l.invariant.1,
-      clear_pass _ _ _ _ o.k a.m l.i _ disk refl l.invariant.1 o.invariant.3 (omega arith) (omega arith) l.invariant.2,
+    let r = ran _ _ _ o.disk _ o.invariant.0 c.apply.ensures in (
+      c.restore.ensures ∙ restored-run a.stores.now a.base.now 0 a.n _ c.apply.new.disk (search searching) r,
+      clear_pass _ _ _ _ o.k _ c.apply.new.disk _ refl r c.is_consistent.ensures o.invariant.1 c.if-not-is_consistent.false,
     )
+
+pub returns-then-not-is_consistent : goal.returns-then-not-is_consistent
+returns-then-not-is_consistent c =
+    stops_here _ _ _ _ c.search.k _ c.apply.new.disk _ refl (ran _ _ _ c.search.disk _ c.search.invariant.0 c.apply.ensures) c.is_consistent.ensures _ c.search.invariant.1 (omega arith) c.if-not-is_consistent.true
 
 pub returns : goal.returns
 returns c = search searching
-
-pub returns-then-not-check_holds : goal.returns-then-not-check_holds
-returns-then-not-check_holds c =
-    let l = c.checks in
-    let o = c.search in
-    let a = c.args in
-    let disk = c.apply.new.disk in
-    stops_here _ _ _ _ o.k a.m l.i _ disk refl l.invariant.1 a.many o.invariant.3 (omega arith)
-    (checks_stop disk a.checks (Range 0) a.m l.i c.check_holds.result (omega arith) c.requires.1 o.invariant.1 c.check_holds.ensures (ap not c.if-not-check_holds.true))
