@@ -72,14 +72,14 @@ fn search_by(
 // The smallest bad schedule of the first n writes of a table of stores, by a table of rows, if there is one.
 // The table of rows is turned into one of what each write brings.
 pub fn smallest_bad(
-    rows: &mut [u64],
+    rows: &mut [u64; 64],
     base: [u32; DISK_BLOCKS],
     stores: &[u64; MOST_INITIAL],
     n: usize,
     checks: [Check; MOST_CHECKS],
     m: usize,
 ) -> Verdict
-    requires { ((length rows.old ≡ 64) × (n ≤ most_main)) × ((m ≤ most_checks) × Narrow rows.old n) }
+    requires { (n ≤ most_main) × ((m ≤ most_checks) × Narrow rows.old n) }
     ensures { result ≡ verdict_below (bad_rows rows.old n base (held_from stores.now 0 n) (take m checks)) (2 ^ n) }
 {
     let mut list = [0u64; MOST_LISTED];

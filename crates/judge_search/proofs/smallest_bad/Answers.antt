@@ -2,17 +2,11 @@
 use Rattle.judge_search.proofs.SearchLaws.{deciding}
 use Rattle.judge_search.proofs.smallest_bad.Goals as goal
 
-pub slice_bounds-suspects-end : goal.slice_bounds-suspects-end
-slice_bounds-suspects-end c = search deciding
-
 pub suspects-many-requires : goal.suspects-many-requires
 suspects-many-requires c = search deciding
 
 pub search_by-requires : goal.search_by-requires
 search_by-requires c = search deciding
-
-pub shape_of-rows : goal.shape_of-rows
-shape_of-rows c = search deciding
 
 pub returns : goal.returns
 returns c = search deciding
