@@ -182,22 +182,31 @@ pub fn has_member(source: &str, antt: bool, outer: &str, member: &str) -> bool {
     }
 }
 
-/// The public functions of a crate, exported ones included.
-pub fn public_functions(name: &str) -> Vec<String> {
-    let path = root().join("crates").join(name).join("src/lib.rt");
-    if !path.exists() {
-        return Vec::new();
+/// The public functions and methods of a library, exported ones included, each with its file.
+pub fn public_functions(name: &str) -> Vec<(String, String)> {
+    let mut found = Vec::new();
+    for path in entries(&root().join("crates").join(name).join("src")) {
+        let file = path
+            .file_name()
+            .expect("a name")
+            .to_string_lossy()
+            .into_owned();
+        if file.ends_with(".rt") && file != "main.rt" {
+            let of = format!("{}/src/{}", name, file);
+            let all = public_in(&text(&path)).into_iter();
+            found.extend(all.map(|function| (of.clone(), function)));
+        }
     }
-    public_in(&text(&path))
+    found
 }
 
-/// The public functions of code.
+/// The public functions and methods of code.
 pub fn public_in(source: &str) -> Vec<String> {
-    source
-        .lines()
-        .filter(|line| line.starts_with("pub fn ") || line.starts_with("pub extern \"C\" fn "))
-        .filter_map(code_name)
-        .collect()
+    let is = |line: &&str| {
+        let line = line.strip_prefix("    ").unwrap_or(line);
+        line.starts_with("pub fn ") || line.starts_with("pub extern \"C\" fn ")
+    };
+    source.lines().filter(is).filter_map(code_name).collect()
 }
 
 /// Applies an edit as `rt` does, and says what is wrong with it.

@@ -324,10 +324,10 @@ fn public_routines_have_a_row() {
     let promises = text(&root().join("docs/PROMISES.md"));
     let mut faults = Vec::new();
     for name in crates() {
-        for function in public_functions(&name) {
-            let start = format!("| `{}/src/lib.rt: {}` |", name, function);
+        for (path, function) in public_functions(&name) {
+            let start = format!("| `{}: {}` |", path, function);
             if rows(&promises, &start).next().is_none() {
-                faults.push(format!("{}::{}", name, function));
+                faults.push(format!("{}: {}", path, function));
             }
         }
     }
