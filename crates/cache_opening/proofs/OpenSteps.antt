@@ -10,19 +10,19 @@ use lib.Seq.{sets, take-suc, take-suc-set, take_all, length-take-le}
 use borrow.Author.Rules.{rules}
 use borrow.Author.Tests.{eq-eqb, ne_eqb, lt-ltb, le-ltb}
 use Rattle.model.specs.declared.Rule.{Rule}
+use Rattle.std.specs.Prelude.{Result, Ok, Err}
 use Rattle.model.specs.declared.Refusal.{Refusal}
+use Rattle.model.specs.declared.Cause.TheVariants.{Not1024Bytes, FileHasTests}
 use Rattle.model.specs.Rules.{Known}
 use Rattle.model.specs.Limits.{words, most_rules}
-use Rattle.model.specs.Answer.{answer, refused, refusal, coded}
+use Rattle.model.specs.Answer.{answer, refused, refusal, coded, outcome, at_zero}
 use Rattle.model.specs.Cyclic.{cyclic}
-use Rattle.file_format.specs.declared.Extent.{Extent}
-use Rattle.file_format.specs.declared.Scan.{Scan}
-use Rattle.file_format.specs.declared.Scan.TheVariants.{Accepted, Refused}
+use Rattle.file_format.specs.declared.Contents.{Contents}
 use Rattle.file_format.specs.Bytes.{bytes2, wide_rule_bytes}
 use Rattle.file_format.specs.File.{is_rule, wide_rule_length}
 use Rattle.file_format.specs.Scan.{rules_at, scan_of}
-use Rattle.file_format.specs.Held.{Fields, ScansTo}
-use Rattle.file_reader.proofs.CallerLaws.{refused-read, refused-most, accepted-rules, accepted_fields, accepted-read, accepted-at, accepted_placed, accepted-file, holding-limits}
+use Rattle.file_format.specs.Held.{Fields, Finds, Scans}
+use Rattle.file_reader.proofs.CallerLaws.{accepted, refused-read, refused-most, accepted-rules, accepted_fields, accepted-read, accepted-at, accepted_placed, accepted-file, holding-limits}
 use Rattle.rule_match.specs.declared.Rules.{Rules}
 use Rattle.rule_match.specs.Held.{rules_of}
 use Rattle.rule_match.proofs.MatchSteps.{length_mapped, known_at}
@@ -34,24 +34,6 @@ use Rattle.cache_model.specs.Calls.{left, open_with, open_of}
 use Rattle.cache_steps.specs.Given.{call_leaves_state, coded_kept, opened_by}
 use Rattle.cache_stores.proofs.StoreSteps.{inside}
 use Rattle.cache_stores.proofs.AppendSteps.{sets-append}
-
--- ---- clear
-
-pub clear-begun : (l : List ℕ) → take 0 l ≡ replicate 0 0
-clear-begun l = refl
-
-pub clear-more : (l : List ℕ) (i : ℕ) → length l ≡ state_size → i < state_size → take i l ≡ replicate i 0 → take (i + 1) (set l i 0) ≡ replicate (i + 1) 0
-clear-more l i h b e =
-    let one : i + 1 ≡ suc i = omega arith in
-    let last : take (i + 1) (set l i 0) ≡ take i l ++ (0 ∷ []) = rw one (take-suc-set l i 0 (omega arith)) in
-    last ∙ ap (λ (x : List ℕ). x ++ (0 ∷ [])) e ∙ replicate-append-replicate {A = ℕ} i 1 0
-
-pub clear-done : (l : List ℕ) (i : ℕ) → length l ≡ state_size → i ≤ state_size → state_size ≤ i → take i l ≡ replicate i 0 → l ≡ replicate state_size 0
-clear-done l i h a b e =
-    let q : i ≡ state_size = omega arith in
-    sym (take_all state_size l (omega arith)) ∙ (rw q at e)
-
-pub ruleset clearing = (rules, clear-begun, clear-more, clear-done)
 
 -- ---- put_rule, put_rules
 
@@ -96,9 +78,9 @@ pub ruleset putting = (rules, length_mapped, known_at, inside, rule-put, rules-b
 -- ---- open_with
 
 module _ (rules : List Rule) (s : List ℕ) (b : Bool) (e : b ≡ cyclic rules) where
-  pub open_cyclic : (r : ℕ) → b ≡ true → r ≡ refusal 8 0 → call_leaves_state r s ≡ opened_by rules s
+  pub open_cyclic : b ≡ true → call_leaves_state (refusal 8 0) s ≡ opened_by rules s
   unfolding opened_by
-  open_cyclic r t q = rw (← e, t, q)
+  open_cyclic t = rw (← e, t)
 
   pub open_started : (s' : List ℕ) → b ≡ false → s' ≡ opened rules → call_leaves_state 0 s' ≡ opened_by rules s
   unfolding opened_by
@@ -108,50 +90,58 @@ pub ruleset beginning = (rules, open_cyclic, open_started)
 
 -- ---- pelzhondy_open
 
+-- what a result leaves of the state
+abbrev pub Opens : List ℕ → List ℕ → Result ℕ Refusal → List ℕ → Type 0
+Opens file s r s' = call_leaves_state (coded (outcome r)) s' ≡ coded_kept (open_of file s [])
+
 module _ (file s : List ℕ) where
-  pub open_short : (r : ℕ) → (length s ≡ state_size → ⊥) → r ≡ refusal 14 0 → call_leaves_state r s ≡ coded_kept (open_of file s [])
+  pub open_short : (length s ≡ state_size → ⊥) → Opens file s (Err (at_zero Not1024Bytes)) s
   unfolding open_of coded_kept coded
-  open_short r h q = rw (ne_eqb _ _ h, q)
+  open_short h = rw (ne_eqb _ _ h)
 
-  module _ (x : Scan) (ts : List Extent) (g : ScansTo (scan_of file) x ts) (hs : length s ≡ state_size) where
-    pub open_refused : (why : Refusal) (r : ℕ) → x ≡ Refused why → r ≡ refusal why.number why.place → call_leaves_state r s ≡ coded_kept (open_of file s [])
+  module _ (x : Result Contents Refusal) (g : Scans (scan_of file) x) (hs : length s ≡ state_size) where
+    pub open_refused : (why : Refusal) → x ≡ Err why → Opens file s (Err why) s
     unfolding open_of open_with coded_kept coded
-    open_refused why r e q = rw (eq-eqb _ _ hs, refused-read file x ts g why e, q)
+    open_refused why e = rw (eq-eqb _ _ hs, refused-read file x g why e)
 
-    module _ (rules tests : ℕ) (e : x ≡ Accepted rules tests) where
-      pub open_tests : (r : ℕ) → 0 < tests → r ≡ refusal 22 0 → call_leaves_state r s ≡ coded_kept (open_of file s [])
+    module _ (c : Contents) (e : x ≡ Ok c) where
+      found : Finds (scan_of file) c
+      found = accepted file x g c e
+
+      pub open_tests : 0 < c.count → Opens file s (Err (at_zero FileHasTests)) s
       unfolding open_of open_with coded_kept coded
-      open_tests r h q =
-          rw (eq-eqb _ _ hs, accepted-read file x ts g rules tests e, (accepted_placed file x ts g rules tests e).count, lt-ltb 0 tests h, q)
+      open_tests h = rw (eq-eqb _ _ hs, accepted-read file c found, (accepted_placed file c found).count, lt-ltb 0 c.count h)
 
-      pub open_made : (held : Rules) (r : ℕ) (s' : List ℕ) → tests ≤ 0 → rules_of held ≡ rules_at file rules → call_leaves_state r s' ≡ opened_by (rules_of held) s
+      pub open_made : (held : Rules) (r : ℕ) (s' : List ℕ) → c.count ≤ 0 → rules_of held ≡ rules_at file c.rules → call_leaves_state r s' ≡ opened_by (rules_of held) s
           → call_leaves_state r s' ≡ coded_kept (open_of file s [])
       unfolding open_of open_with coded_kept coded opened_by
       open_made held r s' h i q =
-          q ∙ rw (eq-eqb _ _ hs, accepted-read file x ts g rules tests e, (accepted_placed file x ts g rules tests e).count, le-ltb 0 tests h, accepted-at file x ts g rules tests e, i)
-          (go (cyclic (rules_at file rules)))
+          q ∙ rw (eq-eqb _ _ hs, accepted-read file c found, (accepted_placed file c found).count, le-ltb 0 c.count h, accepted-at file c found, i)
+          (go (cyclic (rules_at file c.rules)))
         where
-          go : (b : Bool) → cond b (call_leaves_state (refusal 8 0) s) (call_leaves_state 0 (opened (rules_at file rules)))
-              ≡ coded_kept (cond b (left (refused 8 0) s []) (left (answer 0) (opened (rules_at file rules)) []))
+          go : (b : Bool) → cond b (call_leaves_state (refusal 8 0) s) (call_leaves_state 0 (opened (rules_at file c.rules)))
+              ≡ coded_kept (cond b (left (refused 8 0) s []) (left (answer 0) (opened (rules_at file c.rules)) []))
           go true = refl
           go false = refl
 
 -- what the callees ask
-module _ (file : List ℕ) (x : Scan) (ts : List Extent) (g : ScansTo (scan_of file) x ts) where
-  pub refusal-fits : (why : Refusal) → x ≡ Refused why → why.place < words
-  refusal-fits why e = let b = (refused-most file x ts g why e).1 in omega arith
+module _ (file : List ℕ) (x : Result Contents Refusal) (g : Scans (scan_of file) x) where
+  pub refusal-fits : (why : Refusal) → x ≡ Err why → why.place < words
+  refusal-fits why e = let b = (refused-most file x g why e).1 in omega arith
 
-  module _ (rules tests : ℕ) (e : x ≡ Accepted rules tests) where
-    pub rules-few : rules ≤ most_rules
-    rules-few = accepted-rules file x ts g rules tests e
+  module _ (c : Contents) (e : x ≡ Ok c) where
+    pub rules-few : c.rules ≤ most_rules
+    rules-few = accepted-rules file c (accepted file x g c e)
 
-    pub rules_fields : Fields is_rule file 0 rules
-    rules_fields = accepted_fields file x ts g rules tests e
+    pub rules_fields : Fields is_rule file 0 c.rules
+    rules_fields = accepted_fields file c (accepted file x g c e)
 
-    pub held-known : (held : Rules) → rules_of held ≡ rules_at file rules → Known (rules_of held)
-    held-known held i = rw (i, ← accepted-at file x ts g rules tests e) (holding-limits file (accepted-file file x ts g rules tests e) (accepted-read file x ts g rules tests e)).0.known
+    pub held-known : (held : Rules) → rules_of held ≡ rules_at file c.rules → Known (rules_of held)
+    held-known held i =
+        let found = accepted file x g c e in
+        rw (i, ← accepted-at file c found) (holding-limits file (accepted-file file c found) (accepted-read file c found)).0.known
 
-    pub held-few : (held : Rules) → held.count ≡ rules → held.count ≤ most_rules
+    pub held-few : (held : Rules) → held.count ≡ c.rules → held.count ≤ most_rules
     held-few held k = let m = rules-few in omega arith
 
 pub ruleset opening = (rules, open_short, open_refused, open_tests, open_made, refusal-fits, rules-few, rules_fields, held-known, held-few)

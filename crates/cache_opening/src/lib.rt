@@ -9,9 +9,9 @@ ghost use Rattle.file_format.specs.Bytes.{wide_rule_bytes};
 ghost use Rattle.rule_match.specs.Held.{rules_of};
 ghost use Rattle.file_format.specs.File.{wide_rule_length};
 ghost use Rattle.cache_model.specs.State.{state_size, opened};
-ghost use Rattle.cache_steps.specs.Given.{call_leaves_state, opened_by};
+ghost use Rattle.cache_steps.specs.Given.{call_leaves_state, answer_by, opened_by};
 
-use model::Rule;
+use model::{Cause, Rule};
 use rule_match::Rules;
 
 // A rule's bytes: the body of its field with names of two bytes.
@@ -36,14 +36,14 @@ fn put_rules(state: &mut [u8], rules: Rules)
 }
 
 // A state with these rules and no writes, unless they are cyclic.
-pub fn open_with(state: &mut [u8], rules: Rules) -> u64
+pub fn open_with(state: &mut [u8], rules: Rules) -> Result<(), Cause>
     requires { (length state.old ≡ state_size) × ((rules.count ≤ most_rules) × Known (rules_of rules)) }
-    ensures { call_leaves_state result state.new ≡ opened_by (rules_of rules) state.old }
+    ensures { call_leaves_state (answer_by result) state.new ≡ opened_by (rules_of rules) state.old }
 {
     if rule_cycles::is_cyclic(rules) {
-        return model::refuse(8, 0);
+        return Err(Cause::CyclicRules);
     }
     state.fill(0);
     put_rules(state, rules);
-    0
+    Ok(())
 }

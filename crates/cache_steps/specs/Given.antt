@@ -1,10 +1,11 @@
 -- What the cache's routines give back: the answer in one number, the lent bytes afterwards, and the refusals of open, hand-in, step and drain as
 -- one number each.
-use Rattle.std.specs.Prelude.{ℕ, Bool, cond, not, List, [], ◌∷◌, ◌++◌, eqb, leb, length}
+use Rattle.std.specs.Prelude.{ℕ, Bool, cond, not, List, [], ◌∷◌, ◌++◌, eqb, leb, length, Result, Ok, Err}
 use Rattle.model.specs.Limits.{most_held}
 use Rattle.model.specs.declared.Rule.{Rule}
 use Rattle.model.specs.declared.Write.{Write}
-use Rattle.model.specs.Answer.{refusal, coded}
+use Rattle.model.specs.declared.Cause.{Cause}
+use Rattle.model.specs.Answer.{refusal, coded, number_of}
 use Rattle.model.specs.Cyclic.{cyclic}
 use Rattle.file_format.specs.Bytes.{disk_length}
 use Rattle.model.specs.Needs.{needs_ring, late}
@@ -34,6 +35,11 @@ call_leaves_state r s = record { answer = r; state = s }
 
 unfoldable pub coded_kept : Left → Kept
 coded_kept l = call_leaves_state (coded l.outcome) l.state
+
+-- what a call answers that is refused, or else answers 0
+abbrev pub answer_by : Result (Unit {0}) Cause → ℕ
+answer_by (Ok none) = 0
+answer_by (Err cause) = refusal (number_of cause) 0
 
 -- an opening with rules that were read
 unfoldable pub opened_by : List Rule → List ℕ → Kept
