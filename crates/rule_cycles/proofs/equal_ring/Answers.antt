@@ -1,4 +1,4 @@
--- `rule_cycles::equal_ring` meets its contract: the table of = rules has a ring where they have.
+-- `rule_cycles::equal_ring` meets its contract. By the table.
 use Rattle.rule_cycles.proofs.CycleSteps.{steps}
 use Rattle.rule_cycles.proofs.equal_ring.Goals as goal
 

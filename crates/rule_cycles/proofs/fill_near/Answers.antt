@@ -6,7 +6,7 @@ pub loop-i-init : goal.loop-i-init
 loop-i-init c = search steps
 
 pub loop-i-preserved : goal.loop-i-preserved
-loop-i-preserved c = (search steps, search steps, search steps)
+loop-i-preserved c = search steps
 
 pub returns : goal.returns
 returns c = search steps

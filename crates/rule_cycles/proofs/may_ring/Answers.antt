@@ -1,4 +1,4 @@
--- `rule_cycles::may_ring` meets its contract: without a set there is no ring; else the table has one where the relation has one.
+-- `rule_cycles::may_ring` meets its contract. By the table, which agrees with the relation below the count.
 use Rattle.rule_cycles.proofs.CycleSteps.{steps}
 use Rattle.rule_cycles.proofs.may_ring.Goals as goal
 

@@ -1,4 +1,4 @@
--- `rule_cycles::meets_at` meets its contract: one law for each of its returns.
+-- `rule_cycles::meets_at` meets its contract. By the tests.
 use Rattle.rule_cycles.proofs.CycleSteps.{steps}
 use Rattle.rule_cycles.proofs.meets_at.Goals as goal
 

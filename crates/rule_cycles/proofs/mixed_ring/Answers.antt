@@ -1,4 +1,4 @@
--- `rule_cycles::mixed_ring` meets its contract: where nothing leads round no two rules reach each other; else the closed table agrees with that of the definition below the count.
+-- `rule_cycles::mixed_ring` meets its contract. Where nothing leads round no two rules reach each other; else the closed table agrees with that of the definition below the count.
 use Rattle.rule_cycles.proofs.CycleSteps.{steps}
 use Rattle.rule_cycles.proofs.mixed_ring.Goals as goal
 

@@ -5,17 +5,17 @@ use Rattle.rule_cycles.proofs.rules_meet.Goals as goal
 pub greater-init : goal.greater-init
 greater-init c = search steps
 
-pub greater-preserved-then-rules-i-ne1 : goal.greater-preserved-then-rules-i-ne1
-greater-preserved-then-rules-i-ne1 c = search steps
+pub greater-preserved-then-rule-ne1 : goal.greater-preserved-then-rule-ne1
+greater-preserved-then-rule-ne1 c = search steps
 
 pub less-init : goal.less-init
 less-init c = search steps
 
-pub returns-then-meets_at : goal.returns-then-meets_at
-returns-then-meets_at c = search steps
-
 pub less-preserved : goal.less-preserved
 less-preserved c = search steps
+
+pub returns-then-meets_at : goal.returns-then-meets_at
+returns-then-meets_at c = search steps
 
 pub greater-preserved : goal.greater-preserved
 greater-preserved c = search steps

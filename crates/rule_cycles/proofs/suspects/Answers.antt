@@ -1,4 +1,4 @@
--- `rule_cycles::suspects` meets its contract: one law for each of its returns.
+-- `rule_cycles::suspects` meets its contract. One law for each of its returns.
 use Rattle.rule_cycles.proofs.CycleSteps.{steps}
 use Rattle.rule_cycles.proofs.suspects.Goals as goal
 
