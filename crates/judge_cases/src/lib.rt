@@ -56,14 +56,14 @@ pub fn judge_test(file: &[u8], rules: Rules, e: Extent) -> Judgement
     requires { Inside file.now e }
     ensures { (result ≡ judgement_of (case_at (rules_of rules) file.now e)) × FewNumbers result }
 {
-    let LoadedCase { test, checks, rows } = load_case(file, rules, e);
+    let case = load_case(file, rules, e);
     judge_counting::count_all(
-        &rows,
-        test.base,
-        &test.stores,
-        test.main,
-        checks,
-        test.checks,
+        &case.rows,
+        case.test.base,
+        &case.test.stores,
+        case.test.main,
+        case.checks,
+        case.test.checks,
     )
 }
 
@@ -72,18 +72,15 @@ fn decide_test(file: &[u8], rules: Rules, e: Extent) -> Option<u64>
     requires { Inside file.now e }
     ensures { result ≡ verdict_of (case_at (rules_of rules) file.now e) }
 {
-    let LoadedCase {
-        test,
-        checks,
-        mut rows,
-    } = load_case(file, rules, e);
+    let case = load_case(file, rules, e);
+    let mut rows = case.rows;
     judge_search::smallest_bad(
         &mut rows,
-        &test.base,
-        &test.stores,
-        test.main,
-        checks,
-        test.checks,
+        &case.test.base,
+        &case.test.stores,
+        case.test.main,
+        case.checks,
+        case.test.checks,
     )
 }
 
