@@ -189,10 +189,9 @@ fn mixed_ring(rows: &mut [u64; model::MOST_RULES], rules: &[Rule]) -> bool
 
 // Whether the rules are cyclic. Most sets are told by their names' lowest bits.
 pub fn is_cyclic(rules: Rules) -> bool
-    requires { rules.count ≤ most_rules }
     ensures { result ≡ cyclic (rules_of rules) }
 {
-    let held = &rules.items[..rules.count];
+    let held = rules.as_slice();
     let among = suspects(held);
     let mut rows = [0u64; model::MOST_RULES];
     if !may_ring(&mut rows, held, among) {
