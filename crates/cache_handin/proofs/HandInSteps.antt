@@ -23,7 +23,9 @@ use Rattle.relation.proofs.AddedLaws.{added_ring, closes_none}
 use Rattle.model.specs.Limits.{most_rules, most_held}
 use Rattle.model.specs.declared.Rule.{Rule}
 use Rattle.model.specs.declared.Write.{Write}
-use Rattle.model.specs.Answer.{refused, answer, refusal, coded}
+use Rattle.model.specs.declared.Cause.{Cause}
+use Rattle.model.specs.Answer.{refused, answer, refusal, coded, number_of}
+use Rattle.model.proofs.CauseLaws.{number_positive}
 use Rattle.model.specs.Rules.{label_of, depends_on}
 use Rattle.model.specs.Cyclic.{Cyclic, cyclic}
 use Rattle.model.specs.Schedule.{label_at}
@@ -258,11 +260,11 @@ module _ (w : Write) (s : List ℕ) (n : ℕ) (e : n ≡ hand_fault w s) where
       rw (h.size, h.good, h.room, h.timely, h.ringless, p, q)
 
 -- the same of the write of the five values
-module _ (v w : Write) (s : List ℕ) (n r : ℕ) (g : w ≡ v) (e : n ≡ hand_fault w s) where
-  pub given-refused : (n ≡ 0 → ⊥) → r ≡ refusal n 0 → call_leaves_state r s ≡ coded_kept (hand_in_of v s [])
-  given-refused z q = rw (← g) (hand_refused w s n e r z q)
+module _ (v w : Write) (s : List ℕ) (r : ℕ) (g : w ≡ v) where
+  pub given-refused : (cause : Cause) → number_of cause ≡ hand_fault w s → r ≡ refusal (number_of cause) 0 → call_leaves_state r s ≡ coded_kept (hand_in_of v s [])
+  given-refused cause e q = rw (← g) (hand_refused w s (number_of cause) e r (λ z. let p = number_positive cause in absurd (omega (arith, p, z))) q)
 
-  pub given-taken : (s' : List ℕ) → n ≡ 0 → r ≡ accepted_count s + 1 → s' ≡ handed s w → call_leaves_state r s' ≡ coded_kept (hand_in_of v s [])
-  given-taken s' z p q = rw (← g) (hand_taken w s n e r s' z p q)
+  pub given-taken : (s' : List ℕ) → 0 ≡ hand_fault w s → r ≡ accepted_count s + 1 → s' ≡ handed s w → call_leaves_state r s' ≡ coded_kept (hand_in_of v s [])
+  given-taken s' e p q = rw (← g) (hand_taken w s 0 e r s' refl p q)
 
 pub ruleset handing = (rules, given-refused, given-taken)

@@ -10,12 +10,13 @@ use lib.Seq.{sets, take-suc, take-suc-set, take_all, length-take-le}
 use borrow.Author.Rules.{rules}
 use borrow.Author.Tests.{eq-eqb, ne_eqb, lt-ltb, le-ltb}
 use Rattle.model.specs.declared.Rule.{Rule}
-use Rattle.std.specs.Prelude.{Result, Ok, Err}
+use Rattle.std.specs.Prelude.{Result, Ok, Err, IfErr}
 use Rattle.model.specs.declared.Refusal.{Refusal}
+use Rattle.model.specs.declared.Cause.{Cause}
 use Rattle.model.specs.declared.Cause.TheVariants.{Not1024Bytes, FileHasTests}
 use Rattle.model.specs.Rules.{Known}
 use Rattle.model.specs.Limits.{words, most_rules}
-use Rattle.model.specs.Answer.{answer, refused, refusal, coded, outcome, at_zero}
+use Rattle.model.specs.Answer.{answer, refused, refusal, coded, outcome, at_zero, number_of}
 use Rattle.model.specs.Cyclic.{cyclic}
 use Rattle.file_format.specs.declared.Contents.{Contents}
 use Rattle.file_format.specs.Bytes.{bytes2, wide_rule_bytes}
@@ -31,7 +32,7 @@ use Rattle.cache_model.specs.State.{state_size, rule_base, bytes_each, rules_byt
 use Rattle.cache_statelaws.proofs.EachLaws.{each_append}
 use Rattle.cache_statelaws.proofs.LayoutLaws.{rule-size, length-rules}
 use Rattle.cache_model.specs.Calls.{left, open_with, open_of}
-use Rattle.cache_steps.specs.Given.{call_leaves_state, coded_kept, opened_by}
+use Rattle.cache_steps.specs.Given.{call_leaves_state, coded_kept, answer_by, opened_by, Opens}
 use Rattle.cache_stores.proofs.StoreSteps.{inside}
 use Rattle.cache_stores.proofs.AppendSteps.{sets-append}
 
@@ -90,27 +91,23 @@ pub ruleset beginning = (rules, open_cyclic, open_started)
 
 -- ---- pelzhondy_open
 
--- what a result leaves of the state
-abbrev pub Opens : List ℕ → List ℕ → Result ℕ Refusal → List ℕ → Type 0
-Opens file s r s' = call_leaves_state (coded (outcome r)) s' ≡ coded_kept (open_of file s [])
-
 module _ (file s : List ℕ) where
   pub open_short : (length s ≡ state_size → ⊥) → Opens file s (Err (at_zero Not1024Bytes)) s
   unfolding open_of coded_kept coded
   open_short h = rw (ne_eqb _ _ h)
 
   module _ (x : Result Contents Refusal) (g : Scans (scan_of file) x) (hs : length s ≡ state_size) where
-    pub open_refused : (why : Refusal) → x ≡ Err why → Opens file s (Err why) s
+    pub open_refused : (why : Refusal) → x ≡ Err why → (r : Result ℕ Refusal) (y : Refusal) → r ≡ Err y → y ≡ why → Opens file s r s
     unfolding open_of open_with coded_kept coded
-    open_refused why e = rw (eq-eqb _ _ hs, refused-read file x g why e)
+    open_refused why e r y p q = rw (p, q, eq-eqb _ _ hs, refused-read file x g why e)
 
     module _ (c : Contents) (e : x ≡ Ok c) where
       found : Finds (scan_of file) c
       found = accepted file x g c e
 
-      pub open_tests : 0 < c.count → Opens file s (Err (at_zero FileHasTests)) s
+      pub open_tests : (y : Refusal) → 0 < c.count → y ≡ at_zero FileHasTests → Opens file s (Err y) s
       unfolding open_of open_with coded_kept coded
-      open_tests h = rw (eq-eqb _ _ hs, accepted-read file c found, (accepted_placed file c found).count, lt-ltb 0 c.count h)
+      open_tests y h q = rw (q, eq-eqb _ _ hs, accepted-read file c found, (accepted_placed file c found).count, lt-ltb 0 c.count h)
 
       pub open_made : (held : Rules) (r : ℕ) (s' : List ℕ) → c.count ≤ 0 → rules_of held ≡ rules_at file c.rules → call_leaves_state r s' ≡ opened_by (rules_of held) s
           → call_leaves_state r s' ≡ coded_kept (open_of file s [])
@@ -124,10 +121,21 @@ module _ (file s : List ℕ) where
           go true = refl
           go false = refl
 
+      -- by the opening's result
+      module _ (held : Rules) (o : Result (Unit {0}) Cause) (s' : List ℕ) (h : c.count ≤ 0) (i : rules_of held ≡ rules_at file c.rules)
+          (m : call_leaves_state (answer_by o) s' ≡ opened_by (rules_of held) s) where
+        pub open_failed : (cause : Cause) → o ≡ Err cause → (r : Result ℕ Refusal) (y : Refusal) → r ≡ Err y → y ≡ at_zero cause → Opens file s r s'
+        unfolding coded
+        open_failed cause q r y p t = rw (p, t) (open_made held (refusal (number_of cause) 0) s' h i (rw q at m))
+
+        pub open_done : (u : Unit {0}) → o ≡ Ok u → Opens file s (Ok 0) s'
+        unfolding coded
+        open_done u q = open_made held 0 s' h i (rw q at m)
+
 -- what the callees ask
 module _ (file : List ℕ) (x : Result Contents Refusal) (g : Scans (scan_of file) x) where
-  pub refusal-fits : (why : Refusal) → x ≡ Err why → why.place < words
-  refusal-fits why e = let b = (refused-most file x g why e).1 in omega arith
+  pub refusal-fits : (why : Refusal) → x ≡ Err why → (r : Result ℕ Refusal) (y : Refusal) → r ≡ Err y → y ≡ why → IfErr r (λ d. d.place < words)
+  refusal-fits why e r y p q = rw (p, q) (let b = (refused-most file x g why e).1 in omega arith)
 
   module _ (c : Contents) (e : x ≡ Ok c) where
     pub rules-few : c.rules ≤ most_rules

@@ -22,7 +22,9 @@ use Rattle.relation.proofs.SetLaws.{without-below, bit-without, without_member}
 use Rattle.relation.proofs.MaskLaws.{mask_with}
 use Rattle.model.specs.Limits.{most_held}
 use Rattle.model.specs.declared.Write.{Write}
-use Rattle.model.specs.Answer.{refused, refusal, coded}
+use Rattle.model.specs.declared.Cause.{Cause}
+use Rattle.model.specs.Answer.{refused, refusal, coded, number_of}
+use Rattle.model.proofs.CauseLaws.{number_positive}
 use Rattle.file_format.specs.Bytes.{disk_length}
 use Rattle.model.specs.Needs.{ready_from, ready}
 use Rattle.cache_model.specs.State.{state_size, accepted_count, stored_count, rules_in, writes_in, write_in, stored_in, marked, stored_on}
@@ -228,22 +230,22 @@ module _ (s d : List ℕ) where
       → (length d ≡ disk_length) × ((sound s ≡ true) × (Tabled s rows × (stored ≡ mask_of (stored_in s) (accepted_count s))))
   cleared stored rows z t m = let c = clean (call_fault s d) refl z in (c.1.0, (c.1.1, (t, m)))
 
-  module _ (call : List ℕ → List ℕ → Left) (n : ℕ) (e : n ≡ call_fault s d) where
-    pub call-refused : (r : ℕ) → (n ≡ 0 → ⊥) → r ≡ refusal n 0 → call_leaves r s d ≡ coded_left (checked call s d)
+  module _ (call : List ℕ → List ℕ → Left) where
+    pub call-refused : (cause : Cause) → number_of cause ≡ call_fault s d → call_leaves (refusal (number_of cause) 0) s d ≡ coded_left (checked call s d)
     unfolding call_fault fault_by checked coded_left coded
-    call-refused r z q = go (eqb (length s) state_size) (eqb (length d) disk_length) (sound s) e
+    call-refused cause e = go (eqb (length s) state_size) (eqb (length d) disk_length) (sound s) e
       where
-        go : (a b c : Bool) → n ≡ fault_by a b c
-            → call_leaves r s d ≡ coded_left (cond (not a) (left (refused 14 0) s d) (cond (not b) (left (refused 14 0) s d) (cond (not c) (left (refused 15 0) s d) (call s d))))
-        go true true true e = absurd (z e)
-        go true true false e = rw (q, e)
-        go true false c e = rw (q, e)
-        go false b c e = rw (q, e)
+        go : (a b c : Bool) → number_of cause ≡ fault_by a b c
+            → call_leaves (refusal (number_of cause) 0) s d ≡ coded_left (cond (not a) (left (refused 14 0) s d) (cond (not b) (left (refused 14 0) s d) (cond (not c) (left (refused 15 0) s d) (call s d))))
+        go true true true e = let p = number_positive cause in absurd (omega (arith, p))
+        go true true false e = rw e
+        go true false c e = rw e
+        go false b c e = rw e
 
-    pub call_made : (r : ℕ) (s' d' : List ℕ) → n ≡ 0 → call_leaves r s' d' ≡ coded_left (call s d) → call_leaves r s' d' ≡ coded_left (checked call s d)
+    pub call_made : (r : ℕ) (s' d' : List ℕ) → call_fault s d ≡ 0 → call_leaves r s' d' ≡ coded_left (call s d) → call_leaves r s' d' ≡ coded_left (checked call s d)
     unfolding checked
     call_made r s' d' z q =
-        let c = clean n e z in
+        let c = clean (call_fault s d) refl z in
         rw (eq-eqb _ _ c.0, eq-eqb _ _ c.1.0, c.1.1) q
 
 pub ruleset calling = (rules, call-refused, call_made)

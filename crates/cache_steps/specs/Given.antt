@@ -1,17 +1,18 @@
 -- What the cache's routines give back: the answer in one number, the lent bytes afterwards, and the refusals of open, hand-in, step and drain as
 -- one number each.
-use Rattle.std.specs.Prelude.{ℕ, Bool, cond, not, List, [], ◌∷◌, ◌++◌, eqb, leb, length, Result, Ok, Err}
+use Rattle.std.specs.Prelude.{ℕ, Bool, ◌≡◌, cond, not, List, [], ◌∷◌, ◌++◌, eqb, leb, length, Result, Ok, Err}
 use Rattle.model.specs.Limits.{most_held}
 use Rattle.model.specs.declared.Rule.{Rule}
 use Rattle.model.specs.declared.Write.{Write}
 use Rattle.model.specs.declared.Cause.{Cause}
-use Rattle.model.specs.Answer.{refusal, coded, number_of}
+use Rattle.model.specs.declared.Refusal.{Refusal}
+use Rattle.model.specs.Answer.{refusal, coded, number_of, outcome}
 use Rattle.model.specs.Cyclic.{cyclic}
 use Rattle.file_format.specs.Bytes.{disk_length}
 use Rattle.model.specs.Needs.{needs_ring, late}
 use Rattle.cache_model.specs.State.{state_size, accepted_count, rules_in, writes_in, stored_in, opened}
 use Rattle.cache_model.specs.Sound.{sound}
-use Rattle.cache_model.specs.Calls.{Left}
+use Rattle.cache_model.specs.Calls.{Left, open_of}
 
 -- of a routine that is lent a state and a disk
 pub record Given : Type 0 where
@@ -44,6 +45,10 @@ answer_by (Err cause) = refusal (number_of cause) 0
 -- an opening with rules that were read
 unfoldable pub opened_by : List Rule → List ℕ → Kept
 opened_by rules s = cond (cyclic rules) (call_leaves_state (refusal 8 0) s) (call_leaves_state 0 (opened rules))
+
+-- the opening of a state with a file, by its result and the state that it leaves
+abbrev pub Opens : List ℕ → List ℕ → Result ℕ Refusal → List ℕ → Type 0
+Opens file s r s' = call_leaves_state (coded (outcome r)) s' ≡ coded_kept (open_of file s [])
 
 -- the number of the refusal that a step or a drain meets, by what it finds of state and disk; 0: none
 unfoldable pub fault_by : Bool → Bool → Bool → ℕ

@@ -2,23 +2,23 @@
 // bytes. Every refusal is `refusal number place` and leaves all bytes.
 #![tactic(auto)]
 
-ghost use Rattle.std.specs.Prelude.{[], ◌≡◌};
+ghost use Rattle.std.specs.Prelude.{[], ◌≡◌, ◌<◌, IfErr};
+ghost use Rattle.model.specs.Limits.{words};
 ghost use Rattle.cache_model.specs.Calls.{open_of, hand_in_of, given, step_of, drain_of};
 ghost use Rattle.log_get.specs.Get.{get_answer};
-ghost use Rattle.cache_steps.specs.Given.{call_leaves, coded_left, call_leaves_state, coded_kept};
+ghost use Rattle.cache_steps.specs.Given.{call_leaves, coded_left, call_leaves_state, coded_kept, Opens};
 
-use file_format::Scan;
+use model::{Cause, Refusal};
 
 // Stores the earliest waiting write whose needs are all stored, and answers its place from 1; or 0.
 pub fn pelzhondy_step(state: &mut [u8], disk: &mut [u8]) -> u64
     ensures { call_leaves result state.new disk.new ≡ coded_left (step_of state.old disk.old) }
 {
     let mut rows = [0u64; model::MOST_HELD];
-    let looked = cache_steps::look(&mut rows, state, disk);
-    if looked.number != 0 {
-        return model::refuse(looked.number, 0);
+    match cache_steps::look(&mut rows, state, disk) {
+        Ok(stored) => cache_steps::place(cache_steps::step_sound(state, disk, &rows, stored)),
+        Err(cause) => model::code_of(Refusal::from(cause)),
     }
-    cache_steps::step_sound(state, disk, &rows, looked.stored)
 }
 
 // As many steps as there are waiting writes, and how many.
@@ -26,11 +26,10 @@ pub fn pelzhondy_drain(state: &mut [u8], disk: &mut [u8]) -> u64
     ensures { call_leaves result state.new disk.new ≡ coded_left (drain_of state.old disk.old) }
 {
     let mut rows = [0u64; model::MOST_HELD];
-    let looked = cache_steps::look(&mut rows, state, disk);
-    if looked.number != 0 {
-        return model::refuse(looked.number, 0);
+    match cache_steps::look(&mut rows, state, disk) {
+        Ok(stored) => cache_steps::drain_sound(state, disk, &rows, stored),
+        Err(cause) => model::code_of(Refusal::from(cause)),
     }
-    cache_steps::drain_sound(state, disk, &rows, looked.stored)
 }
 
 // Takes a write in, and answers its place from 1.
@@ -45,9 +44,8 @@ pub fn pelzhondy_hand_in(
     ensures { call_leaves_state result state.new ≡ coded_kept (hand_in_of (given address name epoch first second) state.old []) }
 {
     let w = cache_stores::given(address, name, epoch, first, second);
-    let number = cache_handin::hand_fault(state, w);
-    if number != 0 {
-        return model::refuse(number, 0);
+    if let Err(cause) = cache_handin::hand_fault(state, w) {
+        return model::code_of(Refusal::from(cause));
     }
     cache_stores::append(state, w)
 }
@@ -56,20 +54,23 @@ pub fn pelzhondy_hand_in(
 pub fn pelzhondy_open(state: &mut [u8], file: &[u8]) -> u64
     ensures { call_leaves_state result state.new ≡ coded_kept (open_of file.now state.old []) }
 {
+    model::coded(open_from(state, file))
+}
+
+// The same, by its result.
+fn open_from(state: &mut [u8], file: &[u8]) -> Result<u64, Refusal>
+    ensures opens { Opens file.now state.old result state.new }
+    ensures fits { IfErr result (λ why. why.place < words) }
+{
     if state.len() != cache_model::STATE_SIZE {
-        return model::refuse(14, 0);
+        return Err(Refusal::from(Cause::Not1024Bytes));
     }
-    let read = file_reader::read(file);
-    let scan = read.scan;
-    match scan {
-        Scan::Accepted { rules, tests } => {
-            if 0 < tests {
-                return model::refuse(22, 0);
-            }
-            cache_opening::open_with(state, file_loading::file_rules(file, rules))
-        }
-        Scan::Refused(why) => model::code_of(why),
+    let found = file_reader::read(file)?;
+    if 0 < found.count {
+        return Err(Refusal::from(Cause::FileHasTests));
     }
+    cache_opening::open_with(state, file_loading::file_rules(file, found.rules))?;
+    Ok(0)
 }
 
 // The value at the highest address from head to tail - 1 of a disk of 1,024 bytes whose block is
