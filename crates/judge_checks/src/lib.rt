@@ -53,23 +53,20 @@ pub fn second_of(b: u32) -> usize
 fn range_at(disk: &[u32; model::DISK_BLOCKS], a: u8) -> bool
     ensures { result ≡ holds disk.now (Check.Range a) }
 {
-    let b = disk[a as usize];
+    let b = disk[usize::from(a)];
     range_holds(disk, first_of(b), second_of(b))
 }
 
 fn pair_holds(disk: &[u32; model::DISK_BLOCKS], a: u8, v: u32, b: u8, w: u32) -> bool
     ensures { result ≡ holds disk.now (Check.Pair a v b w) }
 {
-    if disk[a as usize] == v {
-        return disk[b as usize] == w;
-    }
-    true
+    disk[usize::from(a)] != v || disk[usize::from(b)] == w
 }
 
 fn pointer_holds(disk: &[u32; model::DISK_BLOCKS], a: u8) -> bool
     ensures { result ≡ holds disk.now (Check.Pointer a) }
 {
-    let b = disk[a as usize];
+    let b = disk[usize::from(a)];
     if b == 0 {
         return true;
     }

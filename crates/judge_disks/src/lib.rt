@@ -19,7 +19,7 @@ pub fn pack_store(w: Write) -> u64
     w.address as u64 * model::WORDS + w.block as u64
 }
 
-// A write's label as one number.
+// A write's label as one number. (Casts: by u64::from the proof lacks that the name fits in 16 bits.)
 pub fn pack_label(w: Write) -> u64
     ensures { labelled result ≡ label_of w }
 {

@@ -25,8 +25,14 @@ pub struct Loaded {
 }
 
 // The n writes whose fields stand from `from` on, as two columns, and where they end.
-fn load_writes(stores: &mut [u64], labels: &mut [u64], file: &[u8], from: usize, n: usize) -> usize
-    requires { (length stores.old ≡ most_initial) × ((length labels.old ≡ most_initial) × ((n ≤ most_initial) × Fields is_write file.now from n)) }
+fn load_writes(
+    stores: &mut [u64; model::MOST_INITIAL],
+    labels: &mut [u64; model::MOST_INITIAL],
+    file: &[u8],
+    from: usize,
+    n: usize,
+) -> usize
+    requires { (n ≤ most_initial) × Fields is_write file.now from n }
     ensures { (result ≡ field_place file.now from n) × (Stores (writes_at file.now from n) stores.new × Labels (writes_at file.now from n) labels.new) }
 {
     let mut at = from;

@@ -44,14 +44,14 @@ fn rule_row(rule: Rule, labels: &[u64; model::MOST_INITIAL], n: usize, one: u64)
 
 // The dependencies of the first n labels of a column, computed once. (The loop over rules stands here, and in no
 // function of its own, so that the rules are not copied for each label.)
-pub fn fill(rows: &mut [u64], rules: Rules, labels: &[u64; model::MOST_INITIAL], n: usize)
-    requires { (length rows.old ≡ 64) × ((rules.count ≤ most_rules) × (n ≤ 64)) }
+pub fn fill(rows: &mut [u64; 64], rules: Rules, labels: &[u64; model::MOST_INITIAL], n: usize)
+    requires { (rules.count ≤ most_rules) × (n ≤ 64) }
     ensures { take n rows.new ≡ rows_from (rules_of rules) labels.now n n }
 {
     'labels: for i in 0..n {
         let mut mask: u64 = 0;
         'rules: for k in 0..rules.count {
-            mask = mask | rule_row(rules.items[k], labels, n, labels[i]);
+            mask |= rule_row(rules.items[k], labels, n, labels[i]);
         }
         rows[i] = mask;
     }

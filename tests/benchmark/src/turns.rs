@@ -56,7 +56,7 @@ fn with_rows(rows: &Rows, _n: usize, s: u64) -> u64 {
     let mut left = s;
     while left != 0 {
         let i = relation::highest(left);
-        set = set | rows[i];
+        set |= rows[i];
         left = relation::without(left, 1 << i);
     }
     set
@@ -78,10 +78,8 @@ fn bring(
 
 /// `judge_schedules::complete`, in the same way.
 fn complete(rows: &mut Rows, n: usize, mut bring: impl FnMut(&Rows, usize, usize) -> u64) {
-    let mut i: usize = 0;
-    while i < n {
+    for i in 0..n {
         rows[i] = bring(rows, n, i);
-        i += 1;
     }
 }
 

@@ -623,7 +623,7 @@ const ASKED: [(&str, &str, &str, &str); 3] = [
         "judge_schedules",
         "complete",
         "bring",
-        "while i < n { rows[i] = bring(rows, n, i); i += 1; }",
+        "for i in 0..n { rows[i] = bring(rows, n, i); }",
     ),
     (
         "judge_suspects",
@@ -704,8 +704,8 @@ fn other_turns_are_noticed() {
         ),
         (
             "judge_schedules",
-            "set = set | rows[i];",
-            "set = set | (1 << i);",
+            "set |= rows[i];",
+            "set |= 1 << i;",
         ),
         (
             "judge_schedules",
@@ -999,8 +999,8 @@ fn decoding_again_is_noticed() {
         ),
         (
             "judge_suspects/src/lib.rt",
-            "now = list_row(",
-            "judge_schedules::complete(rows, n);\n        now = list_row(",
+            "now = self.list_row(",
+            "judge_schedules::complete(rows, n);\n            now = self.list_row(",
         ),
         (
             "judge_cases/src/lib.rt",

@@ -1,12 +1,17 @@
 -- `judge_checks::pair_holds` meets its contract, by the cases of its definition.
+use Rattle.std.proofs.Common.{◌≡◌}
 use Rattle.model.specs.Check.{holds}
 use Rattle.relation.proofs.Cases.{cases}
 use Rattle.judge_checks.proofs.pair_holds.Goals as goal
 
-pub returns-then-disk-a : goal.returns-then-disk-a
+pub returns-then-disk-from : goal.returns-then-disk-from
 unfolding holds
-returns-then-disk-a c = search cases
+returns-then-disk-from c =
+    let first : c.from.result ≡ c.args.a = c.from.ensures in
+    search cases
 
-pub returns : goal.returns
+pub returns-else-disk-from : goal.returns-else-disk-from
 unfolding holds
-returns c = search cases
+returns-else-disk-from c =
+    let first : c.from.result ≡ c.args.a = c.from.ensures in
+    search cases

@@ -1,5 +1,5 @@
 -- `judge_checks::range_holds` meets its contract. The invariant: the blocks from head up to k are not empty.
-use Prim.Native.Nat.{◌-◌, ◌≤◌, ◌<◌}
+use Prim.Native.Nat.{◌≤◌, ◌<◌}
 use Rattle.model.specs.Limits.{disk_blocks}
 use Rattle.judge_checks.proofs.CheckSteps.{Full}
 use Rattle.judge_checks.proofs.range_holds.Given as goal

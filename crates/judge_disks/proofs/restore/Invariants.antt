@@ -1,5 +1,5 @@
 -- `judge_disks::restore` meets its contract. The invariant: the addresses of the first i writes are put back, the others are as they were.
-use Prim.Native.Nat.{◌-◌, ◌≤◌}
+use Prim.Native.Nat.{◌≤◌}
 use Rattle.judge_disks.proofs.RestoreLaws.{Restoring}
 use Rattle.judge_disks.proofs.restore.Given as goal
 

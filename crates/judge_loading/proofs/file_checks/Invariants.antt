@@ -1,5 +1,5 @@
 -- `judge_loading::file_checks` meets its contract. The invariant: the first i checks are loaded, and the next field's place is known.
-use Prim.Native.Nat.{◌-◌, ◌≤◌}
+use Prim.Native.Nat.{◌≤◌}
 use mathlib.Core.Path.{◌≡◌}
 use lib.ListN.{length, take}
 use Rattle.model.specs.Limits.{most_checks}

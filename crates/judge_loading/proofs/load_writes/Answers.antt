@@ -6,7 +6,7 @@ pub loop-i-init : goal.loop-i-init
 loop-i-init c = search columns
 
 pub loop-i-preserved : goal.loop-i-preserved
-loop-i-preserved c = (search columns, search columns, search columns, search columns, search columns, search columns)
+loop-i-preserved c = (search columns, search columns, search columns, search columns)
 
 pub returns : goal.returns
 returns c = search columns

@@ -1,11 +1,9 @@
 -- `judge_loading::load_writes` meets its contract. The invariant: the first i writes are in the columns, and the next field's place is known.
-use Prim.Native.Nat.{◌-◌, ◌≤◌}
+use Prim.Native.Nat.{◌≤◌}
 use mathlib.Core.Path.{◌≡◌}
-use lib.ListN.{length}
-use Rattle.model.specs.Limits.{most_initial}
 use Rattle.file_format.specs.Scan.{field_place}
 use Rattle.judge_loading.proofs.TestLaws.{Stored, Named}
 use Rattle.judge_loading.proofs.load_writes.Given as goal
 
 abbrev pub invariant-loop-i : goal.invariant-loop-i
-invariant-loop-i l = (l.i ≤ l.n) × (length l.stores ≡ most_initial) × (length l.labels ≡ most_initial) × (l.at ≡ field_place l.file l.from l.i) × Stored l.file l.from l.i l.stores × Named l.file l.from l.i l.labels
+invariant-loop-i l = (l.i ≤ l.n) × (l.at ≡ field_place l.file l.from l.i) × Stored l.file l.from l.i l.stores × Named l.file l.from l.i l.labels

@@ -1,5 +1,5 @@
 -- `judge_loading::pass_writes` meets its contract. The invariant: the next field's place is known.
-use Prim.Native.Nat.{◌-◌, ◌≤◌}
+use Prim.Native.Nat.{◌≤◌}
 use mathlib.Core.Path.{◌≡◌}
 use Rattle.file_format.specs.Scan.{field_place}
 use Rattle.judge_loading.proofs.pass_writes.Given as goal

@@ -1,5 +1,5 @@
 -- `judge_rows::rule_row` meets its contract. The invariant: the mask has what the rule pairs among the first j labels.
-use Prim.Native.Nat.{◌-◌, ◌≤◌}
+use Prim.Native.Nat.{◌≤◌}
 use mathlib.Core.Path.{◌≡◌}
 use Rattle.judge_disks.specs.Packed.{labelled}
 use Rattle.judge_rows.specs.Rows.{rule_row}
