@@ -5,7 +5,8 @@ use mathlib.Core.List.{List}
 use Prim.Native.Nat.{ℕ, zero, suc, ◌+◌, ◌≤◌, ◌<◌}
 use native.Mathlib.Numerals.{add-one}
 use native.Mathlib.Omega.{arith}
-use lib.ListN.{length}
+use lib.ListN.{length, take, get_or}
+use Rattle.std.proofs.Common.{get_or-take, length-take}
 use borrow.Author.Rules.{rules}
 use Rattle.std.specs.Prelude.{Result, Ok, Err}
 use Rattle.model.specs.declared.Rule.{Rule}
@@ -17,7 +18,7 @@ use Rattle.model.specs.Test.{File, valid_count, bad_count}
 use Rattle.file_format.specs.declared.Extent.{Extent}
 use Rattle.file_format.specs.File.{read_of}
 use Rattle.file_format.specs.Scan.{test_at}
-use Rattle.file_format.specs.Held.{test_of, extent_of, AllInside}
+use Rattle.file_format.specs.Held.{test_of, extent_of, no_extent, Inside, AllInside}
 use Rattle.rule_match.specs.Held.{rules_of}
 use Rattle.judge_counting.specs.declared.Judgement.{Judgement}
 use Rattle.judge_cases.specs.declared.Opened.{Opened}
@@ -48,6 +49,13 @@ pub test-digits : (i n : ℕ) → i < n → n ≤ most_tests → Digits test_dig
 unfolding Digits
 test-digits i n h l = (omega arith, omega arith)
 
+-- an extent that is walked over is one of the first n
+pub walked_few : (tests : List Extent) (n i : ℕ) → i < length (take n tests) → i < n
+walked_few tests n i h = omega (arith, h, length-take n tests)
+
+pub walked-inside : (s : List ℕ) (tests : List Extent) (n i : ℕ) → AllInside s tests n → i < length (take n tests) → Inside s (get_or (take n tests) i no_extent)
+walked-inside s tests n i a h = rw (get_or-take n tests i no_extent (walked_few tests n i h)) (a i (walked_few tests n i h))
+
 module _ (rules : List Rule) (s : List ℕ) (tests : List Extent) (l : List ℕ) where
   pub cases_none : Wrote l 0 (case_lines rules s tests 0) l 0
   unfolding case_lines lines
@@ -59,6 +67,12 @@ module _ (rules : List Rule) (s : List ℕ) (tests : List Extent) (l : List ℕ)
   unfolding case_lines lines
   cases_more i at r l₁ l₂ w v =
       rw (add-one i) (wrote_then l 0 (case_lines rules s tests i) l₁ at (test_line (suc i) (valid_count rules (test_at s (extent_of tests i))) (bad_count rules (test_at s (extent_of tests i)))) l₂ r w (rw (add-one i) at v))
+
+  -- where the first n are walked
+  pub cases_next : (n i at r : ℕ) (l₁ l₂ : List ℕ) → i < length (take n tests) → Wrote l 0 (case_lines rules s tests i) l₁ at
+      → Wrote l₁ at (test_line (i + 1) (valid_count rules (test_at s (get_or (take n tests) i no_extent))) (bad_count rules (test_at s (get_or (take n tests) i no_extent)))) l₂ r
+      → Wrote l 0 (case_lines rules s tests (i + 1)) l₂ r
+  cases_next n i at r l₁ l₂ h w v = cases_more i at r l₁ l₂ w (rw (get_or-take n tests i no_extent (walked_few tests n i h)) at v)
 
   pub cases_all : (i n at : ℕ) (l₁ : List ℕ) → i ≤ n → n ≤ i → Wrote l 0 (case_lines rules s tests i) l₁ at → Wrote l 0 (case_lines rules s tests n) l₁ at
   cases_all i n at l₁ h k w = let z : i ≡ n = omega arith in rw z at w
@@ -135,4 +149,4 @@ module _ (s : List ℕ) (x : Result Opened Refusal) (o : OpensFile s x) where
         = lines_ext _ _ y.count (λ i h. rw (found.2, found.4.each i h)) in
         rw (text_judged (read_of s) f found.1, found.4.count, ← same) w
 
-pub ruleset texts = (rules, case_line, few-valid, few-bad, cases_none, test-digits, cases_more, cases_all, text_refused, number-few, place-few, tests-few, rules-few, tests-inside, text_tests)
+pub ruleset texts = (rules, case_line, few-valid, few-bad, cases_none, test-digits, walked_few, walked-inside, cases_next, cases_all, text_refused, number-few, place-few, tests-few, rules-few, tests-inside, text_tests)

@@ -1,14 +1,12 @@
--- The digits of a number, and a text.
-use mathlib.Core.Path.{◌≡◌, refl, sym, ap, ◌∙◌}
+-- The digits of a number.
+use mathlib.Core.Path.{◌≡◌, refl, ap, ◌∙◌}
 use mathlib.Core.Bool.{Bool, true, false, cond}
-use mathlib.Core.List.{List, [], ◌∷◌, ◌++◌, append_assoc}
-use Prim.Native.Nat.{ℕ, zero, suc, ◌+◌, ◌-◌, ◌/◌, ◌%◌, ◌^◌, ◌≤◌, ◌<◌}
+use mathlib.Core.List.{List, [], ◌∷◌, ◌++◌}
+use Prim.Native.Nat.{ℕ, zero, suc, ◌+◌, ◌/◌, ◌%◌, ◌^◌, ◌≤◌, ◌<◌}
 use native.Mathlib.Nat.{pow-suc}
 use native.Mathlib.Omega.{arith}
 use lib.Dec.{ltb}
-use lib.ListN.{length, take, drop, length-append}
-use lib.Seq.{sets, sets-eq, length-sets}
-use borrow.Rule.Slice.PartMut.{put_mid, Post-is}
+use lib.ListN.{length, length-append}
 use borrow.Author.Rules.{rules}
 use borrow.Author.Tests.{lt-ltb, le-ltb, ltb-false, ltb-true}
 use Rattle.judge_text.specs.Decimal.{decimal_with, decimal}
@@ -75,12 +73,4 @@ module _ (n at : ℕ) (l l₁ : List ℕ) (r : ℕ) where
   pub wrote-more : (l₂ : List ℕ) (r₂ : ℕ) → 10 ≤ n → Wrote l at (decimal (n / 10)) l₁ r → Wrote l₁ r ((48 + n % 10) ∷ []) l₂ r₂ → Wrote l at (decimal n) l₂ r₂
   wrote-more l₂ r₂ h w v = rw (decimal-more n h) (wrote_then l at (decimal (n / 10)) l₁ r ((48 + n % 10) ∷ []) l₂ r₂ w v)
 
--- ---- a text, in place of as many bytes
-
-pub text-wrote : (l text new : List ℕ) (at : ℕ) → at + length text ≤ length l → new ≡ text → Wrote l at text (put_mid at (at + length text - at) l new) (at + length text)
-text-wrote l text new at h e =
-    let same : put_mid at (at + length text - at) l new ≡ sets l at text
-    = rw (e, Post-is at (at + length text) l (omega arith)) (sym (append_assoc (take at l) text (drop (at + length text) l)) ∙ sym (sets-eq text l at h)) in
-    record { buffer = same; place = refl; size = ap length same ∙ length-sets l at text }
-
-pub ruleset writes = (rules, room-digit, room-front, room-last, wrote-digit, wrote-more, text-wrote)
+pub ruleset writes = (rules, room-digit, room-front, room-last, wrote-digit, wrote-more)

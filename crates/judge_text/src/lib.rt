@@ -41,19 +41,10 @@ fn put_decimal(out: &mut [u8], at: usize, n: u64) -> usize
     file_writing::put(out, next, b'0' + (n % 10) as u8)
 }
 
-fn put_text(out: &mut [u8], at: usize, text: &[u8]) -> usize
-    requires { at + length text.now ≤ length out.old }
-    ensures { Wrote out.old at text.now out.new result }
-{
-    let end = at + text.len();
-    out[at..end].copy_from_slice(text);
-    end
-}
-
-// A number of a line, which has so many digits at most: that is for the contract, nothing is padded.
-fn put_number(out: &mut [u8], at: usize, n: u64, digits: usize) -> usize
-    requires { Digits digits n × (at + digits ≤ length out.old) }
-    ensures { Wrote out.old at (decimal n) out.new result × (result ≤ at + digits) }
+// A number of a line, which has so many digits at most; nothing is padded.
+fn put_number<const DIGITS: usize>(out: &mut [u8], at: usize, n: u64) -> usize
+    requires { Digits DIGITS n × (at + DIGITS ≤ length out.old) }
+    ensures { Wrote out.old at (decimal n) out.new result × (result ≤ at + DIGITS) }
 {
     put_decimal(out, at, n)
 }
@@ -63,11 +54,10 @@ fn put_refused(out: &mut [u8], at: usize, why: Refusal) -> usize
     requires { (at + refused_length ≤ length out.old) × (Digits refusal_digits (number_of why.cause) × Digits place_digits why.place) }
     ensures { Wrote out.old at (refused_line (number_of why.cause) why.place) out.new result × (result ≤ at + refused_length) }
 {
-    let at = put_text(out, at, b"refused");
+    let at = file_writing::put_bytes(out, at, b"refused ");
+    let at = put_number::<REFUSAL_DIGITS>(out, at, u64::from(why.cause.number()));
     let at = file_writing::put(out, at, b' ');
-    let at = put_number(out, at, u64::from(why.cause.number()), REFUSAL_DIGITS);
-    let at = file_writing::put(out, at, b' ');
-    let at = put_number(out, at, why.place as u64, PLACE_DIGITS);
+    let at = put_number::<PLACE_DIGITS>(out, at, why.place as u64);
     file_writing::put(out, at, b'\n')
 }
 
@@ -76,9 +66,9 @@ fn put_verdict(out: &mut [u8], at: usize, bad: u64) -> usize
     ensures { Wrote out.old at (cond (eqb bad 0) holds_text fails_text) out.new result × (result ≡ at + verdict_length) }
 {
     if bad == 0 {
-        return put_text(out, at, b"holds");
+        return file_writing::put_bytes(out, at, b"holds");
     }
-    put_text(out, at, b"fails")
+    file_writing::put_bytes(out, at, b"fails")
 }
 
 // Number, valid, bad, holds or fails.
@@ -86,11 +76,11 @@ fn put_line(out: &mut [u8], at: usize, k: u64, valid: u64, bad: u64) -> usize
     requires { (at + test_length ≤ length out.old) × (Digits test_digits k × (Digits count_digits valid × Digits count_digits bad)) }
     ensures { Wrote out.old at (test_line k valid bad) out.new result × (result ≤ at + test_length) }
 {
-    let at = put_number(out, at, k, TEST_DIGITS);
+    let at = put_number::<TEST_DIGITS>(out, at, k);
     let at = file_writing::put(out, at, b' ');
-    let at = put_number(out, at, valid, COUNT_DIGITS);
+    let at = put_number::<COUNT_DIGITS>(out, at, valid);
     let at = file_writing::put(out, at, b' ');
-    let at = put_number(out, at, bad, COUNT_DIGITS);
+    let at = put_number::<COUNT_DIGITS>(out, at, bad);
     let at = file_writing::put(out, at, b' ');
     let at = put_verdict(out, at, bad);
     file_writing::put(out, at, b'\n')
@@ -111,8 +101,8 @@ fn put_cases(out: &mut [u8], file: &[u8], opened: &Opened) -> usize
     ensures { Wrote out.old 0 (case_lines (rules_of opened.now.rules) file.now opened.now.tests opened.now.count) out.new result × (result ≤ text_length) }
 {
     let mut at: usize = 0;
-    for i in 0..opened.count {
-        at = put_case(out, at, file, opened.rules, opened.tests[i], i as u64 + 1);
+    for (i, test) in opened.tests[..opened.count].iter().enumerate() {
+        at = put_case(out, at, file, opened.rules, *test, i as u64 + 1);
     }
     at
 }

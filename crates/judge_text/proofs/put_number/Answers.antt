@@ -3,7 +3,7 @@ use Rattle.judge_text.proofs.LineLaws.{line_steps}
 use Rattle.judge_text.proofs.put_number.Goals as goal
 
 pub put_decimal-requires : goal.put_decimal-requires
-put_decimal-requires c = search line_steps
+put_decimal-requires g c = search line_steps
 
 pub returns : goal.returns
-returns c = search line_steps
+returns g c = search line_steps

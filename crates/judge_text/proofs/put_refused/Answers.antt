@@ -9,18 +9,16 @@ use Rattle.judge_text.proofs.put_refused.Goals as goal
 pub returns : goal.returns
 returns c =
     let w =
-    refused-wrote _ _ _ _ _ _ _ _ _ _ _ _ _ _ _ _
-    c.put_text-at.ensures
-    c.put-at.ensures
+    refused-wrote _ _ _ _ _ _ _ _ _ _ _ _ _ _
+    c.put_bytes-at.ensures
     c.put_number-at.ensures.0
-    c.put-at-2.ensures
+    c.put-at.ensures
     c.put_number-at-2.ensures.0
     c.put.ensures in
-    let f0 = c.put_text-at.ensures.place in
-    let f1 = c.put-at.ensures.place in
-    let f2 = c.put_number-at.ensures.1 in
-    let f3 = c.put-at-2.ensures.place in
-    let f4 = c.put_number-at-2.ensures.1 in
-    let f5 = c.put.ensures.place in
+    let f0 = c.put_bytes-at.ensures.place in
+    let f1 = c.put_number-at.ensures.1 in
+    let f2 = c.put-at.ensures.place in
+    let f3 = c.put_number-at-2.ensures.1 in
+    let f4 = c.put.ensures.place in
     let n : c.from.result ≡ number_of c.args.why.cause = search rules in
     (rw n at w, omega arith)
