@@ -1,21 +1,28 @@
 // Traces of puts: one whole test of the reading log, written into a lent buffer.
 #![tactic(auto)]
 
-ghost use Rattle.std.specs.Prelude.{◌≡◌, ◌*◌, ◌≤◌, length};
+ghost use Rattle.std.specs.Prelude.{◌≡◌, ◌/◌, ◌≤◌, length};
 ghost use Rattle.model.specs.Limits.{most_initial_puts, most_main_puts};
 ghost use Rattle.model.specs.Answer.{fault_number};
 ghost use Rattle.file_format.specs.Bytes.{block_length};
 ghost use Rattle.file_writing.specs.Writing.{Wrote};
 ghost use Rattle.log_trace.specs.Traced.{empty_below, size_of, test_fields, trace_fault, trace_out, trace_answer};
 
+use file_format::Kind;
 use model::Cause;
 
-// Whether one of the first n puts of a program is (0, 0).
-fn has_empty(program: &[u8], n: usize) -> bool
-    requires { block_length * n ≤ length program.now }
-    ensures { result ≡ empty_below program.now n }
+// How many puts a program has.
+fn puts_in(program: &[u8]) -> usize
+    ensures { result ≡ length program.now / block_length }
 {
-    for i in 0..n {
+    program.len() / file_format::BLOCK_LENGTH
+}
+
+// Whether one of a program's puts is (0, 0).
+fn has_empty(program: &[u8]) -> bool
+    ensures { result ≡ empty_below program.now (length program.now / block_length) }
+{
+    for i in 0..puts_in(program) {
         if file_format::word_at(program, file_format::BLOCK_LENGTH * i) == 0 {
             return true;
         }
@@ -33,18 +40,18 @@ fn trace_fault(initial: &[u8], main: &[u8], room: usize) -> Result<(), Cause>
     if main.len() % file_format::BLOCK_LENGTH != 0 {
         return Err(Cause::NotWholePuts);
     }
-    let n = initial.len() / file_format::BLOCK_LENGTH;
-    let m = main.len() / file_format::BLOCK_LENGTH;
+    let n = puts_in(initial);
+    let m = puts_in(main);
     if model::MOST_INITIAL_PUTS < n {
         return Err(Cause::OverLimit);
     }
     if model::MOST_MAIN_PUTS < m {
         return Err(Cause::OverLimit);
     }
-    if has_empty(initial, n) {
+    if has_empty(initial) {
         return Err(Cause::EmptyPut);
     }
-    if has_empty(main, m) {
+    if has_empty(main) {
         return Err(Cause::EmptyPut);
     }
     if room < file_format::PUT_LENGTH * (n + m) + file_format::END_LENGTH {
@@ -53,13 +60,14 @@ fn trace_fault(initial: &[u8], main: &[u8], room: usize) -> Result<(), Cause>
     Ok(())
 }
 
-// The test of two programs, of n and m puts.
-fn put_test(out: &mut [u8], initial: &[u8], main: &[u8], n: usize, m: usize) -> usize
-    requires { (block_length * n ≤ length initial.now) × ((block_length * m ≤ length main.now) × ((n ≤ most_initial_puts) × ((m ≤ most_main_puts) × (size_of n m ≤ length out.old)))) }
-    ensures { Wrote out.old 0 (test_fields initial.now main.now n m) out.new result × (result ≡ size_of n m) }
+// The test of two programs: main goes on where initial ended.
+fn put_test(out: &mut [u8], initial: &[u8], main: &[u8]) -> usize
+    requires { (length initial.now / block_length ≤ most_initial_puts) × ((length main.now / block_length ≤ most_main_puts) × (size_of (length initial.now / block_length) (length main.now / block_length) ≤ length out.old)) }
+    ensures { Wrote out.old 0 (test_fields initial.now main.now (length initial.now / block_length) (length main.now / block_length)) out.new result × (result ≡ size_of (length initial.now / block_length) (length main.now / block_length)) }
 {
-    let next = log_puts::put_program(out, 0, 1, initial, n, 1, 0);
-    let end = log_puts::put_program(out, next, 2, main, m, 1 + (n as u8), n as u32);
+    let n = puts_in(initial);
+    let next = log_puts::put_program(out, 0, Kind::Initial, initial, 1, 0);
+    let end = log_puts::put_program(out, next, Kind::Main, main, 1 + (n as u8), n as u32);
     log_puts::put_end(out, end)
 }
 
@@ -72,7 +80,5 @@ pub fn trace(initial: &[u8], main: &[u8], buffer: &mut [u8]) -> u64
     if let Err(cause) = trace_fault(initial, main, buffer.len()) {
         return model::code_of(cause.into());
     }
-    let n = initial.len() / file_format::BLOCK_LENGTH;
-    let m = main.len() / file_format::BLOCK_LENGTH;
-    put_test(buffer, initial, main, n, m) as u64
+    put_test(buffer, initial, main) as u64
 }

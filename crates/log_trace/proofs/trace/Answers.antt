@@ -6,7 +6,7 @@ pub returns-in-Err : goal.returns-in-Err
 returns-in-Err c = search faults
 
 pub put_test-requires : goal.put_test-requires
-put_test-requires c = (search faults, (search faults, (search faults, (search faults, search faults))))
+put_test-requires c = (search faults, (search faults, search faults))
 
 pub returns : goal.returns
 returns c = search faults
