@@ -185,7 +185,8 @@ impl Brought<'_> {
 }
 
 // The suspects of a test: the ranks of its schedules among which the smallest bad one is, in rising order, and
-// how many. The table of rows is turned into one of what each write brings.
+// how many (there is no heap: the list has room for all that there may be). The table of rows is turned into one
+// of what each write brings.
 pub fn suspects(
     list: &mut [u64; MOST_LISTED],
     rows: &mut [u64; 64],

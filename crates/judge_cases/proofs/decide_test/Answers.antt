@@ -8,14 +8,8 @@ load_test-test-requires c = search loops
 pub load_checks-checks-requires : goal.load_checks-checks-requires
 load_checks-checks-requires c = search loops
 
-pub slice_bounds-fill-end : goal.slice_bounds-fill-end
-slice_bounds-fill-end c = search loops
-
 pub fill-requires : goal.fill-requires
 fill-requires c = search loops
-
-pub slice_bounds-smallest_bad-end : goal.slice_bounds-smallest_bad-end
-slice_bounds-smallest_bad-end c = search loops
 
 pub smallest_bad-requires : goal.smallest_bad-requires
 smallest_bad-requires c = search loops

@@ -8,9 +8,6 @@ load_test-test-requires c = search loops
 pub load_checks-checks-requires : goal.load_checks-checks-requires
 load_checks-checks-requires c = search loops
 
-pub slice_bounds-fill-end : goal.slice_bounds-fill-end
-slice_bounds-fill-end c = search loops
-
 pub fill-requires : goal.fill-requires
 fill-requires c = search loops
 
