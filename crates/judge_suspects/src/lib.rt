@@ -113,13 +113,16 @@ fn mask_if(on: bool, mask: u64) -> u64
     if on { mask } else { 0 }
 }
 
-// The writes that write h can be suspected with: it is the one that a check begins with and they are the other
-// one, or the other way round.
-fn mates(own: u64, other: u64, h: usize) -> u64
-    requires { h < 64 }
-    ensures { result ≡ mates_of own other h }
-{
-    mask_if(relation::has_bit(own, h), other) | mask_if(relation::has_bit(other, h), own)
+impl Marks {
+    // The writes that write h can be suspected with: it is the one that a check begins with and they are the other
+    // one, or the other way round.
+    fn mates(self, h: usize) -> u64
+        requires { h < 64 }
+        ensures { result ≡ mates_of self.own self.other h }
+    {
+        mask_if(relation::has_bit(self.own, h), self.other)
+            | mask_if(relation::has_bit(self.other, h), self.own)
+    }
 }
 
 // What each of n writes brings.
@@ -178,7 +181,7 @@ impl Brought<'_> {
     {
         let mut now = many;
         for h in 0..self.n {
-            now = self.list_row(list, now, h, mates(marks.own, marks.other, h));
+            now = self.list_row(list, now, h, marks.mates(h));
         }
         now
     }
