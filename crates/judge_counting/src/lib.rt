@@ -62,7 +62,8 @@ impl Tally {
     }
 }
 
-// What is asked of the schedules: how their writes are tied, what they leave, and the checks of it.
+// What is asked of the schedules: how their writes are tied, what they leave, and the checks of it. (A lifetime
+// for each part: where all share one, the borrow checker does not cover the place that makes a test.)
 #[derive(Clone, Copy)]
 struct Test<'a, 'b, 'c> {
     ties: Ties<'a>,

@@ -62,7 +62,8 @@ fn store_if(disk: &mut [u32; model::DISK_BLOCKS], on: bool, write: u64)
 }
 
 // The disk of a schedule, in place: of the `left` writes from place i of a table on, the first if its
-// flag is set, then the remaining ones.
+// flag is set, then the remaining ones. (A table and a place, no slice: by a thin pointer the recursion becomes
+// a loop, docs/PROVING.md, "Fast code that stays provable".)
 pub fn apply(
     disk: &mut [u32; model::DISK_BLOCKS],
     table: &[u64; model::MOST_INITIAL],

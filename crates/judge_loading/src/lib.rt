@@ -65,7 +65,8 @@ pub fn load_test(file: &[u8], e: Extent) -> Loaded
     }
 }
 
-// Where the n fields from `from` on, which are writes, end.
+// Where the n fields from `from` on, which are writes, end. (load_writes walks them too: a walk for both would
+// take a closure that fills the columns, and of what that changes a proof learns nothing.)
 fn pass_writes(file: &[u8], from: usize, n: usize) -> usize
     requires { Fields is_write file.now from n }
     ensures { result ≡ field_place file.now from n }

@@ -60,10 +60,9 @@ fn mark_for(stores: &[u64; MOST_INITIAL], n: usize, c: Check) -> Marks
 {
     let mut own: u64 = 0;
     let mut other: u64 = 0;
-    for i in 0..n {
-        let write = stores[i];
-        own = relation::with_if(own, i, can_open(c, write));
-        other = relation::with_if(other, i, can_spoil(c, write));
+    for (i, write) in stores[..n].iter().enumerate() {
+        own = relation::with_if(own, i, can_open(c, *write));
+        other = relation::with_if(other, i, can_spoil(c, *write));
     }
     Marks { own, other }
 }
@@ -114,13 +113,16 @@ fn mask_if(on: bool, mask: u64) -> u64
     if on { mask } else { 0 }
 }
 
-// The writes that write h can be suspected with: it is the one that a check begins with and they are the other
-// one, or the other way round.
-fn mates(own: u64, other: u64, h: usize) -> u64
-    requires { h < 64 }
-    ensures { result ≡ mates_of own other h }
-{
-    mask_if(relation::has_bit(own, h), other) | mask_if(relation::has_bit(other, h), own)
+impl Marks {
+    // The writes that write h can be suspected with: it is the one that a check begins with and they are the other
+    // one, or the other way round.
+    fn mates(self, h: usize) -> u64
+        requires { h < 64 }
+        ensures { result ≡ mates_of self.own self.other h }
+    {
+        mask_if(relation::has_bit(self.own, h), self.other)
+            | mask_if(relation::has_bit(self.other, h), self.own)
+    }
 }
 
 // What each of n writes brings.
@@ -179,14 +181,15 @@ impl Brought<'_> {
     {
         let mut now = many;
         for h in 0..self.n {
-            now = self.list_row(list, now, h, mates(marks.own, marks.other, h));
+            now = self.list_row(list, now, h, marks.mates(h));
         }
         now
     }
 }
 
 // The suspects of a test: the ranks of its schedules among which the smallest bad one is, in rising order, and
-// how many. The table of rows is turned into one of what each write brings.
+// how many (there is no heap: the list has room for all that there may be). The table of rows is turned into one
+// of what each write brings.
 pub fn suspects(
     list: &mut [u64; MOST_LISTED],
     rows: &mut [u64; 64],
