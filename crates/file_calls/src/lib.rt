@@ -1,22 +1,21 @@
 // Questions about a file as a whole: how much it holds, where a test stands, whether its rules are
-// cyclic. Every refusal is `refusal number place`.
+// cyclic. Each answers as C is given it, in one number; every refusal is `refusal number place`.
 #![tactic(auto)]
 
 ghost use Rattle.std.specs.Prelude.{◌≡◌};
 ghost use Rattle.model.specs.Answer.{coded};
 ghost use Rattle.file_calls.specs.File.{read_answer, packed_extent, locate_answer, cyclic_answer, Packed};
 
-use file_format::{Extent, Scan};
+use file_format::Extent;
+use model::Cause;
 
 // How many rules, and 256 times how many tests, a file holds.
 pub fn read_counts(file: &[u8]) -> u64
     ensures { result ≡ coded (read_answer file.now) }
 {
-    let read = file_reader::read(file);
-    let scan = read.scan;
-    match scan {
-        Scan::Accepted { rules, tests } => rules as u64 + 256 * (tests as u64),
-        Scan::Refused(why) => model::code_of(why),
+    match file_reader::read(file) {
+        Ok(contents) => contents.rules as u64 + 256 * (contents.count as u64),
+        Err(why) => model::code_of(why),
     }
 }
 
@@ -36,17 +35,14 @@ fn pack(e: Extent) -> u64
 pub fn locate_test(file: &[u8], test: u64) -> u64
     ensures { result ≡ coded (locate_answer file.now test) }
 {
-    let read = file_reader::read(file);
-    let places = read.tests;
-    let scan = read.scan;
-    match scan {
-        Scan::Accepted { rules: _, tests } => {
-            if !file_reader::has_test(tests, test) {
-                return model::refuse(9, 0);
+    match file_reader::read(file) {
+        Ok(contents) => {
+            if !file_reader::has_test(contents.count, test) {
+                return model::code_of(Cause::NoSuchTest.into());
             }
-            pack(places[file_reader::from_zero(test)])
+            pack(contents.tests[file_reader::from_zero(test)])
         }
-        Scan::Refused(why) => model::code_of(why),
+        Err(why) => model::code_of(why),
     }
 }
 
@@ -54,15 +50,11 @@ pub fn locate_test(file: &[u8], test: u64) -> u64
 pub fn cyclic_rules(file: &[u8]) -> u64
     ensures { result ≡ coded (cyclic_answer file.now) }
 {
-    let read = file_reader::read(file);
-    let scan = read.scan;
-    match scan {
-        Scan::Accepted { rules, tests: _ } => {
-            if rule_cycles::is_cyclic(file_loading::file_rules(file, rules)) {
-                return 1;
-            }
-            0
+    match file_reader::read(file) {
+        Ok(contents) => {
+            let rules = file_loading::file_rules(file, contents.rules);
+            u64::from(rule_cycles::is_cyclic(rules))
         }
-        Scan::Refused(why) => model::code_of(why),
+        Err(why) => model::code_of(why),
     }
 }

@@ -1,77 +1,43 @@
 // What is wrong with a field: unknown tags, order, limits, lengths, predicates.
 #![tactic(auto)]
 
-ghost use Rattle.std.specs.Prelude.{◌≡◌, ◌<◌, length};
+ghost use Rattle.std.specs.Prelude.{◌≡◌, ◌<◌, length, IfOk};
 ghost use Rattle.model.specs.Answer.{fault_number};
-ghost use Rattle.file_format.specs.File.{is_tag, is_rule, is_check, body_length, out_of_order, over_limit, over_test, rule_fault, body_fault, fault_of};
+ghost use Rattle.file_format.specs.Bytes.{byte};
+ghost use Rattle.file_format.specs.File.{kind_of, kind_number, body_length, out_of_order, over_limit, over_test, rule_fault, body_fault, fault_of};
 
-use file_format::Counts;
+use file_format::{Counts, Kind};
 use model::{Cause, Rule};
 
-fn is_tag(tag: u8) -> bool
-    ensures { result ≡ is_tag tag }
+#[tactic(auto, unfolding(file_format::specs::File::out_of_order))]
+fn out_of_order(kind: Kind, c: Counts) -> bool
+    ensures { result ≡ out_of_order (kind_number kind) c }
 {
-    if tag < 1 {
-        return false;
+    match kind {
+        Kind::Rule => c.begun || 0 < c.tests,
+        Kind::Initial => 0 < c.main || 0 < c.checks,
+        Kind::Main => 0 < c.checks,
+        _ => false,
     }
-    tag <= file_format::LAST_TAG
 }
 
-fn is_rule(tag: u8) -> bool
-    ensures { result ≡ is_rule tag }
+#[tactic(auto, unfolding(file_format::specs::File::over_test, file_format::specs::File::is_check))]
+fn over_test(kind: Kind, c: Counts) -> bool
+    ensures { result ≡ over_test (kind_number kind) c }
 {
-    file_format::kind_of(tag) == 3
+    match kind {
+        Kind::Initial => model::MOST_INITIAL <= c.initial,
+        Kind::Main => model::MOST_MAIN <= c.main,
+        Kind::Range | Kind::Pair | Kind::Pointer => model::MOST_CHECKS <= c.checks,
+        Kind::Rule | Kind::End => false,
+    }
 }
 
-fn is_check(tag: u8) -> bool
-    ensures { result ≡ is_check tag }
+#[tactic(auto, unfolding(file_format::specs::File::over_limit))]
+fn over_limit(kind: Kind, c: Counts) -> bool
+    ensures { result ≡ over_limit (kind_number kind) c }
 {
-    if tag < 4 {
-        return false;
-    }
-    tag <= 6
-}
-
-fn out_of_order(kind: u8, c: Counts) -> bool
-    ensures { result ≡ out_of_order kind c }
-{
-    if kind == 3 {
-        if c.begun {
-            return true;
-        }
-        return 0 < c.tests;
-    }
-    if kind == 1 {
-        if 0 < c.main {
-            return true;
-        }
-        return 0 < c.checks;
-    }
-    if kind == 2 {
-        return 0 < c.checks;
-    }
-    false
-}
-
-fn over_test(kind: u8, c: Counts) -> bool
-    ensures { result ≡ over_test kind c }
-{
-    if kind == 1 {
-        return model::MOST_INITIAL <= c.initial;
-    }
-    if kind == 2 {
-        return model::MOST_MAIN <= c.main;
-    }
-    if is_check(kind) {
-        return model::MOST_CHECKS <= c.checks;
-    }
-    false
-}
-
-fn over_limit(kind: u8, c: Counts) -> bool
-    ensures { result ≡ over_limit kind c }
-{
-    if kind == 3 {
+    if kind == Kind::Rule {
         return model::MOST_RULES <= c.rules;
     }
     if c.begun {
@@ -81,6 +47,7 @@ fn over_limit(kind: u8, c: Counts) -> bool
 }
 
 // The refusal of an unknown predicate.
+#[tactic(auto, unfolding(file_format::specs::File::rule_fault))]
 fn rule_fault(rule: Rule) -> Result<(), Cause>
     ensures { fault_number result ≡ rule_fault rule }
 {
@@ -90,30 +57,31 @@ fn rule_fault(rule: Rule) -> Result<(), Cause>
     Ok(())
 }
 
-fn body_fault(tag: u8, body: &[u8]) -> Result<(), Cause>
-    requires { length body.now ≡ body_length tag }
+#[tactic(auto, unfolding(file_format::specs::File::body_fault, file_format::specs::File::is_rule))]
+fn body_fault(kind: Kind, tag: u8, body: &[u8]) -> Result<(), Cause>
+    requires { (kind_number kind ≡ kind_of tag) × (length body.now ≡ body_length tag) }
     ensures { fault_number result ≡ body_fault tag body.now }
 {
-    if is_rule(tag) {
+    if kind == Kind::Rule {
         return rule_fault(file_fields::read_rule(tag, body));
     }
     Ok(())
 }
 
-// Whether the field at `at` can be read on, or the refusal that it meets.
-pub fn fault(s: &[u8], at: usize, c: Counts) -> Result<(), Cause>
+// The kind of the field at `at`, or the refusal that it meets.
+pub fn fault(s: &[u8], at: usize, c: Counts) -> Result<Kind, Cause>
     requires { at < length s.now }
-    ensures { fault_number result ≡ fault_of s.now at c }
+    ensures refused { fault_number result ≡ fault_of s.now at c }
+    ensures kind { IfOk result (λ kind. kind_number kind ≡ kind_of (byte s.now at)) }
 {
     let left = s.len() - at;
     if left < file_format::HEAD_LENGTH {
         return Err(Cause::Cut);
     }
     let tag = s[at];
-    if !is_tag(tag) {
+    let Some(kind) = file_format::kind_of(tag) else {
         return Err(Cause::UnknownTag);
-    }
-    let kind = file_format::kind_of(tag);
+    };
     if out_of_order(kind, c) {
         return Err(Cause::OutOfOrder);
     }
@@ -121,13 +89,12 @@ pub fn fault(s: &[u8], at: usize, c: Counts) -> Result<(), Cause>
         return Err(Cause::OverLimit);
     }
     let n = file_format::body_length(tag);
-    if file_format::half_at(s, at + 1) != n {
+    if usize::from(file_format::half_at(s, at + 1)) != n {
         return Err(Cause::WrongLength);
     }
-    let b = at + file_format::HEAD_LENGTH;
-    if s.len() - b < n {
+    if left - file_format::HEAD_LENGTH < n {
         return Err(Cause::Cut);
     }
-    let e = b + n;
-    body_fault(tag, &s[b..e])
+    body_fault(kind, tag, file_format::body_at(s, at))?;
+    Ok(kind)
 }

@@ -1,12 +1,11 @@
 -- Fields by their places: a reader that is handed the middle part of a file reads the field there.
-use mathlib.Core.Path.{◌≡◌, refl, sym, ap, ◌∙◌}
+use mathlib.Core.Path.{◌≡◌, refl, sym, ◌∙◌}
 use mathlib.Core.Bool.{Bool, true, false, ◌&&◌, false≢true}
 use mathlib.Core.List.{List}
-use Prim.Native.Nat.{ℕ, ◌+◌, ◌-◌, ◌≤◌, ◌<◌}
+use Prim.Native.Nat.{ℕ, ◌-◌, ◌≤◌, ◌<◌}
 use native.Mathlib.Decide.{dec_lt}
 use native.Mathlib.Omega.{arith}
-use lib.ListN.{length, take, drop, length-drop}
-use lib.Seq.{length-take-le}
+use lib.ListN.{length}
 use lib.Dec.{leb}
 use borrow.Author.Rules.{rules}
 use borrow.Author.Tests.{eqb-true, ltb-true, ltb-false, leb-true}
@@ -14,57 +13,12 @@ use Rattle.model.specs.declared.Rule.{Rule}
 use Rattle.model.specs.declared.Write.{Write}
 use Rattle.model.specs.declared.Check.{Check}
 use Rattle.model.specs.declared.Check.TheVariants.{Range, Pointer}
-use Rattle.file_format.specs.Bytes.{byte, half, word}
-use Rattle.file_format.specs.File.{end_tag, is_wide, kind_of, is_rule, is_write, is_check, head_length, narrow_rule_length, wide_rule_length, narrow_write_length, wide_write_length, body_length, body_at, field_end, narrow_rule, wide_rule, rule_of, narrow_write, wide_write, write_of, check_of, pair_length}
-use Rattle.file_format.specs.Scan.{rule_field, write_field, check_field}
+use Rattle.file_format.specs.Bytes.{byte}
+use Rattle.file_format.specs.File.{end_tag, is_wide, kind_of, is_rule, is_write, is_check, narrow_rule_length, wide_rule_length, narrow_write_length, wide_write_length, body_length, narrow_rule, wide_rule, rule_of, narrow_write, wide_write, write_of, check_of, pair_length}
 
 and_both : (a b : Bool) → a && b ≡ true → (a ≡ true) × (b ≡ true)
 and_both true b e = (refl, e)
 and_both false b e = absurd (false≢true e)
-
-module _ (s : List ℕ) (at n : ℕ) (q : n ≡ body_length (byte s at)) where
-  -- the part that is lent is the body
-  lent : take (at + head_length + n - (at + head_length)) (drop (at + head_length) s) ≡ body_at s at
-  lent = let z : at + head_length + n - (at + head_length) ≡ body_length (byte s at) = omega arith in rw z
-
-  pub rule-part : (r : Rule) → r ≡ rule_of (byte s at) (take (at + head_length + n - (at + head_length)) (drop (at + head_length) s)) → r ≡ rule_field s at
-  unfolding rule_field
-  rule-part r e = e ∙ ap (rule_of (byte s at)) lent
-
-  pub write-part : (r : Write) → r ≡ write_of (byte s at) (take (at + head_length + n - (at + head_length)) (drop (at + head_length) s)) → r ≡ write_field s at
-  unfolding write_field
-  write-part r e = e ∙ ap (write_of (byte s at)) lent
-
-  pub check_part : (r : Check) → r ≡ check_of (byte s at) (take (at + head_length + n - (at + head_length)) (drop (at + head_length) s)) → r ≡ check_field s at
-  unfolding check_field
-  check_part r e = e ∙ ap (check_of (byte s at)) lent
-
-  module _ (fits : field_end s at ≤ length s) where
-    -- it is as long as the body
-    pub lent_long : length (take (at + head_length + n - (at + head_length)) (drop (at + head_length) s)) ≡ body_length (byte s at)
-    lent_long =
-        let d = length-drop (at + head_length) s in
-        length-take-le (at + head_length + n - (at + head_length)) (drop (at + head_length) s) (omega (arith, d)) ∙ omega arith
-
--- ---- bodies
-
--- read part by part
-module _ (b : List ℕ) where
-  pub narrow_rule_made : (x p y : ℕ) → x ≡ byte b 0 → p ≡ byte b 1 → y ≡ byte b 2 → record { first = x; predicate = p; second = y } ≡ narrow_rule b
-  unfolding narrow_rule
-  narrow_rule_made x p y e q f = rw (e, q, f)
-
-  pub wide-rule_made : (x p y : ℕ) → x ≡ half b 0 → p ≡ byte b 2 → y ≡ half b 3 → record { first = x; predicate = p; second = y } ≡ wide_rule b
-  unfolding wide_rule
-  wide-rule_made x p y e q f = rw (e, q, f)
-
-  pub narrow_write_made : (x y z : ℕ) → x ≡ byte b 1 → y ≡ word b 2 → z ≡ word b 6 → record { address = byte b 0; name = x; epoch = y; block = z } ≡ narrow_write b
-  unfolding narrow_write
-  narrow_write_made x y z e f g = rw (e, f, g)
-
-  pub wide-write_made : (x y z : ℕ) → x ≡ half b 1 → y ≡ word b 3 → z ≡ word b 7 → record { address = byte b 0; name = x; epoch = y; block = z } ≡ wide_write b
-  unfolding wide_write
-  wide-write_made x y z e f g = rw (e, f, g)
 
 -- as long as the tag's names make them
 module _ (tag : ℕ) (b : List ℕ) (w : Bool) (q : w ≡ is_wide tag) where
@@ -172,4 +126,4 @@ module _ (tag : ℕ) (b : List ℕ) where
   unfolding check_of
   pointer_read h p q = rw (is_pointer h p q)
 
-pub ruleset fields = (rules, narrow_rule_made, wide-rule_made, narrow_write_made, wide-write_made, rule-part, write-part, check_part, lent_long, wide-rule-long, narrow_rule-long, wide-write-long, narrow_write-long, wide-rule-read, narrow_rule-read, wide-write-read, narrow_write-read, one-byte-range, pair_bytes, one-byte_pointer, range-read, pair_read, pointer_read)
+pub ruleset fields = (rules, wide-rule-long, narrow_rule-long, wide-write-long, narrow_write-long, wide-rule-read, narrow_rule-read, wide-write-read, narrow_write-read, one-byte-range, pair_bytes, one-byte_pointer, range-read, pair_read, pointer_read)

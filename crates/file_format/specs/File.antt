@@ -7,6 +7,8 @@ use Rattle.model.specs.declared.Check.TheVariants.{Range, Pair, Pointer}
 use Rattle.model.specs.Answer.{Outcome, answer, refused}
 use Rattle.model.specs.Limits.{most_rules, most_tests, most_initial, most_main, most_checks}
 use Rattle.model.specs.Test.{Test, test, File, file}
+use Rattle.file_format.specs.declared.Kind.{Kind}
+use Rattle.file_format.specs.declared.Kind.TheVariants as kind
 use Rattle.file_format.specs.declared.Counts.{Counts}
 use Rattle.file_format.specs.Bytes.{byte, half, word}
 
@@ -31,6 +33,16 @@ is_wide tag = ltb end_tag tag
 -- together
 unfoldable pub kind_of : ℕ → ℕ
 kind_of tag = cond (is_wide tag) (tag - end_tag) tag
+
+-- the kinds by their names in the code
+abbrev pub kind_number : Kind → ℕ
+kind_number kind.Initial = 1
+kind_number kind.Main = 2
+kind_number kind.Rule = 3
+kind_number kind.Range = 4
+kind_number kind.Pair = 5
+kind_number kind.Pointer = 6
+kind_number kind.End = 7
 
 -- a field that holds a write, a rule, a check
 unfoldable pub is_write : ℕ → Bool

@@ -2,9 +2,9 @@
 // bytes, a field's length, and what a scan of a file keeps and gives.
 #![tactic(auto)]
 
-ghost use Rattle.std.specs.Prelude.{◌≡◌, ◌+◌, ◌<◌, ◌≤◌, length};
+ghost use Rattle.std.specs.Prelude.{◌≡◌, ◌+◌, ◌<◌, ◌≤◌, true, false, length, IfSome, IfNone};
 ghost use Rattle.file_format.specs.Bytes.{half, word};
-ghost use Rattle.file_format.specs.File.{end_tag, wide_write_length, kind_of, is_wide, body_length, field_end};
+ghost use Rattle.file_format.specs.File.{wide_write_length, is_tag, kind_of, kind_number, is_wide, body_length, body_at, field_end};
 
 // The last tag of document 01, and the last of all: 8, 9 and 10 are 1, 2 and 3 with names of two bytes.
 pub const END_TAG: u8 = 7;
@@ -44,9 +44,21 @@ pub const BLOCK_LENGTH: usize = 4;
 
 pub const DISK_LENGTH: usize = model::DISK_BLOCKS * BLOCK_LENGTH;
 
+// What a field holds. Its number is the tag of document 01 for it.
+#[derive(Clone, Copy, PartialEq, Eq)]
+pub enum Kind {
+    Initial = 1,
+    Main = 2,
+    Rule = 3,
+    Range = 4,
+    Pair = 5,
+    Pointer = 6,
+    End = 7,
+}
+
 // How much of a file has been read: its rules, its finished tests, whether a test has begun,
 // and that test's fields.
-#[derive(Clone, Copy)]
+#[derive(Clone, Copy, Default)]
 pub struct Counts {
     pub rules: usize,
     pub tests: usize,
@@ -57,7 +69,7 @@ pub struct Counts {
 }
 
 // Where a test stands: the offset of its first field, and how many fields of each kind it has.
-#[derive(Clone, Copy)]
+#[derive(Clone, Copy, Default)]
 pub struct Extent {
     pub at: usize,
     pub initial: usize,
@@ -66,14 +78,14 @@ pub struct Extent {
 }
 
 // A scan in progress: the counts, and where the test in hand begins.
-#[derive(Clone, Copy)]
+#[derive(Clone, Copy, Default)]
 pub struct ScanState {
     pub counts: Counts,
     pub from: usize,
 }
 
 // What a file holds: how many rules, how many tests, and where the tests stand, the first ones of an
-// array.
+// array. (The project has no heap, so the count stands beside it.)
 #[derive(Clone, Copy)]
 pub struct Contents {
     pub rules: usize,
@@ -81,74 +93,64 @@ pub struct Contents {
     pub tests: [Extent; model::MOST_TESTS],
 }
 
-fn wide(x: u8) -> usize
-    ensures { (result ≡ x) × (result < 256) }
+// Two bytes, big-endian.
+#[tactic(auto, unfolding(crate::specs::Bytes::half))]
+pub fn half_at(s: &[u8], i: usize) -> u16
+    requires { i + 1 < length s.now }
+    ensures { result ≡ half s.now i }
 {
-    x as usize
+    u16::from_be_bytes([s[i], s[i + 1]])
 }
 
-// Two bytes, big-endian.
-pub fn half_at(s: &[u8], i: usize) -> usize
-    requires { i + 1 < length s.now }
-    ensures { (result ≡ half s.now i) × (result < 65536) }
+// Four bytes, big-endian.
+#[tactic(auto, unfolding(crate::specs::Bytes::half, crate::specs::Bytes::word))]
+pub fn word_at(s: &[u8], i: usize) -> u32
+    requires { i + 3 < length s.now }
+    ensures { result ≡ word s.now i }
 {
-    wide(s[i]) * 256 + wide(s[i + 1])
+    u32::from_be_bytes([s[i], s[i + 1], s[i + 2], s[i + 3]])
 }
 
 // Whether the names of a field with this tag are of two bytes.
+#[tactic(auto, unfolding(crate::specs::File::is_wide))]
 pub fn is_wide(tag: u8) -> bool
     ensures { result ≡ is_wide tag }
 {
     END_TAG < tag
 }
 
-// Its kind: the tag with names of one byte that holds the same.
-pub fn kind_of(tag: u8) -> u8
-    ensures { result ≡ kind_of tag }
+// The kind of a field with this tag, with names of one byte or of two; none for what is no tag.
+#[tactic(auto, unfolding(crate::specs::File::kind_of, crate::specs::File::is_wide, crate::specs::File::is_tag))]
+pub fn kind_of(tag: u8) -> Option<Kind>
+    ensures some { IfSome result (λ kind. (is_tag tag ≡ true) × (kind_number kind ≡ kind_of tag)) }
+    ensures none { IfNone result (is_tag tag ≡ false) }
 {
-    if END_TAG < tag {
-        return tag - END_TAG;
+    match tag {
+        1 | 8 => Some(Kind::Initial),
+        2 | 9 => Some(Kind::Main),
+        3 | 10 => Some(Kind::Rule),
+        4 => Some(Kind::Range),
+        5 => Some(Kind::Pair),
+        6 => Some(Kind::Pointer),
+        7 => Some(Kind::End),
+        _ => None,
     }
-    tag
 }
 
 // How long its body is.
+#[tactic(auto, unfolding(crate::specs::File::body_length))]
 pub fn body_length(tag: u8) -> usize
     ensures { (result ≡ body_length tag) × (result ≤ wide_write_length) }
 {
-    if tag == 3 {
-        return NARROW_RULE_LENGTH;
+    match tag {
+        3 => NARROW_RULE_LENGTH,
+        5 => PAIR_LENGTH,
+        4 | 6 => ADDRESS_LENGTH,
+        7 => 0,
+        8 | 9 => WIDE_WRITE_LENGTH,
+        10 => WIDE_RULE_LENGTH,
+        _ => NARROW_WRITE_LENGTH,
     }
-    if tag == 4 {
-        return ADDRESS_LENGTH;
-    }
-    if tag == 5 {
-        return PAIR_LENGTH;
-    }
-    if tag == 6 {
-        return ADDRESS_LENGTH;
-    }
-    if tag == 7 {
-        return 0;
-    }
-    if tag == 8 {
-        return WIDE_WRITE_LENGTH;
-    }
-    if tag == 9 {
-        return WIDE_WRITE_LENGTH;
-    }
-    if tag == 10 {
-        return WIDE_RULE_LENGTH;
-    }
-    NARROW_WRITE_LENGTH
-}
-
-// Four bytes, big-endian.
-pub fn word_at(s: &[u8], i: usize) -> u32
-    requires { i + 3 < length s.now }
-    ensures { result ≡ word s.now i }
-{
-    (half_at(s, i) * 65536 + half_at(s, i + 2)) as u32
 }
 
 // Where the field at `at` ends.
@@ -157,4 +159,12 @@ pub fn end_of(s: &[u8], at: usize) -> usize
     ensures { result ≡ field_end s.now at }
 {
     at + HEAD_LENGTH + body_length(s[at])
+}
+
+// Its body, a part of the file.
+pub fn body_at(s: &[u8], at: usize) -> &[u8]
+    requires { (at < length s.now) × (field_end s.now at ≤ length s.now) }
+    ensures { result.now ≡ body_at s.now at }
+{
+    &s[at + HEAD_LENGTH..end_of(s, at)]
 }

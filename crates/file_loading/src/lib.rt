@@ -18,11 +18,9 @@ pub fn file_rules(file: &[u8], n: usize) -> Rules
     let mut out = rule_match::none();
     out.count = n;
     let mut at = 0;
-    let mut i: usize = 0;
-    while i < n {
+    for i in 0..n {
         out.items[i] = file_fields::rule_at(file, at);
         at = file_format::end_of(file, at);
-        i += 1;
     }
     out
 }

@@ -1,5 +1,5 @@
 -- The loop over the fields: from each place on the scan gives what it gives from the start.
-use mathlib.Core.Path.{◌≡◌, refl, sym, ◌∙◌}
+use mathlib.Core.Path.{◌≡◌, refl, sym, subst, ◌∙◌}
 use mathlib.Core.Bool.{true, false}
 use mathlib.Core.List.{List}
 use Prim.Native.Nat.{ℕ, zero, suc, ◌+◌, ◌≤◌, ◌<◌}
@@ -16,11 +16,12 @@ use Rattle.model.specs.declared.Cause.TheVariants.{TestNotEnded}
 use Rattle.model.specs.declared.Refusal.{Refusal}
 use Rattle.model.specs.Answer.{refused, number_of, fault_number}
 use Rattle.model.proofs.CauseLaws.{number_positive}
+use Rattle.file_format.specs.declared.Kind.{Kind}
 use Rattle.file_format.specs.declared.Extent.{Extent}
 use Rattle.file_format.specs.declared.ScanState.{ScanState}
 use Rattle.file_format.specs.declared.Contents.{Contents}
 use Rattle.file_format.specs.Bytes.{byte, half}
-use Rattle.file_format.specs.File.{head_length, is_tag, kind_of, fault_of, field_end}
+use Rattle.file_format.specs.File.{head_length, is_tag, kind_of, kind_number, fault_of, field_end}
 use Rattle.file_format.specs.Scan.{in_hand, counted, found, advanced, ended, scan_from, started, scan_of}
 use Rattle.file_format.specs.Held.{Scans}
 use Rattle.file_reader.specs.Limits.{Within}
@@ -51,6 +52,15 @@ start s tests l = (
   (length s, omega arith, refl),
 )
 
+-- the counts that the code begins with
+pub start_fresh : (s : List ℕ) (tests : List Extent) (st : ScanState)
+    → ((st.counts.rules ≡ 0) × ((st.counts.tests ≡ 0) × ((st.counts.begun ≡ false) × ((st.counts.initial ≡ 0) × ((st.counts.main ≡ 0) × (st.counts.checks ≡ 0)))))) × (st.from ≡ 0)
+    → length tests ≡ most_tests → Going s 0 st tests
+unfolding started
+start_fresh s tests st e l =
+    let p : st ≡ started = rw (e.0.0, e.0.1.0, e.0.1.1.0, e.0.1.1.1.0, e.0.1.1.1.1.0, e.0.1.1.1.1.1, e.1) refl in
+    subst (λ (x : ScanState). Going s 0 x tests) (sym p) (start s tests l)
+
 -- the test in hand, put behind the finished ones, is one of these after its end, and no part of them otherwise
 found-put : (st : ScanState) (tests : List Extent) → st.counts.tests < length tests → (tag : ℕ) → is_tag tag ≡ true
     → take (counted (kind_of tag) st.counts).tests (set tests st.counts.tests (in_hand st)) ≡ found (kind_of tag) st (take st.counts.tests tests)
@@ -64,9 +74,9 @@ found-put st tests l =
     kept = take-set-le st.counts.tests tests st.counts.tests (in_hand st) (omega arith)
 
 module _ (s : List ℕ) (at : ℕ) (st : ScanState) (tests : List Extent) (going : Going s at st tests) (lt : at < length s) where
-  module _ (x : Result (Unit {0}) Cause) (e : fault_number x ≡ fault_of s at st.counts) where
+  module _ (x : Result Kind Cause) (e : fault_number x ≡ fault_of s at st.counts) where
     -- a field that is not refused ends inside the file, and its test has a place in the array
-    module _ (u : Unit {0}) (q : x ≡ Ok u) where
+    module _ (u : Kind) (q : x ≡ Ok u) where
       fault-free : fault_of s at st.counts ≡ 0
       fault-free = sym e ∙ rw q
 
@@ -85,10 +95,10 @@ module _ (s : List ℕ) (at : ℕ) (st : ScanState) (tests : List Extent) (going
           let k = clean s at st.counts fault-free in
           counted-room st.counts going.2 (byte s at) k.tag k.order k.limit
 
-      pub next : (r kind : ℕ) (st' : ScanState) (y : Extent) → r ≡ half s (at + 1) → y ≡ in_hand st → kind ≡ kind_of (byte s at)
-          → st' ≡ advanced kind (at + head_length + r) st → Going s (at + head_length + r) st' (set tests st.counts.tests y)
+      pub next : (r : ℕ) (st' : ScanState) (y : Extent) → r ≡ half s (at + 1) → y ≡ in_hand st → kind_number u ≡ kind_of (byte s at)
+          → st' ≡ advanced (kind_number u) (at + head_length + r) st → Going s (at + head_length + r) st' (set tests st.counts.tests y)
       unfolding scan_from advanced
-      next r kind st' y z i v f =
+      next r st' y z i v f =
           rw (f, v, z ∙ (clean s at st.counts fault-free).size, i)
           (let k = clean s at st.counts fault-free in
           let l : st.counts.tests < length tests = let m = room in let n = going.1 in omega arith in (
@@ -132,4 +142,4 @@ end s at st tests r going le g =
     let h : ended (length s) st (take st.counts.tests tests) ≡ scan_of s = rw (le-ltb _ _ le) at going.3.2 in
     rw (← h) g
 
-pub ruleset reads_on = (rules, start, whole, ahead, room, next, stop, end)
+pub ruleset reads_on = (rules, start_fresh, whole, ahead, room, next, stop, end)

@@ -2,78 +2,56 @@
 #![tactic(auto)]
 
 ghost use Rattle.std.specs.Prelude.{◌≡◌, ◌&&◌, ◌-◌, leb, take};
+ghost use Rattle.file_format.specs.File.{kind_number};
 ghost use Rattle.file_format.specs.Scan.{counted, test_from, in_hand, advanced, ended, scan_of};
 ghost use Rattle.file_format.specs.Held.{Scans};
 ghost use Rattle.file_reader.specs.Limits.{Within};
 
-use file_format::{Contents, Counts, Extent, ScanState};
+use file_format::{Contents, Counts, Extent, Kind, ScanState};
 use model::{Cause, Refusal};
 
 // The counts after one more field of a kind.
-fn count_field(kind: u8, c: Counts) -> Counts
+#[tactic(auto, unfolding(file_format::specs::Scan::counted))]
+fn count_field(kind: Kind, c: Counts) -> Counts
     requires { Within c }
-    ensures { result ≡ counted kind c }
+    ensures { result ≡ counted (kind_number kind) c }
 {
-    if kind == 3 {
-        return Counts {
+    match kind {
+        Kind::Rule => Counts {
             rules: c.rules + 1,
-            tests: c.tests,
-            begun: c.begun,
-            initial: c.initial,
-            main: c.main,
-            checks: c.checks,
-        };
-    }
-    if kind == 1 {
-        return Counts {
-            rules: c.rules,
-            tests: c.tests,
+            ..c
+        },
+        Kind::Initial => Counts {
             begun: true,
             initial: c.initial + 1,
-            main: c.main,
-            checks: c.checks,
-        };
-    }
-    if kind == 2 {
-        return Counts {
-            rules: c.rules,
-            tests: c.tests,
+            ..c
+        },
+        Kind::Main => Counts {
             begun: true,
-            initial: c.initial,
             main: c.main + 1,
-            checks: c.checks,
-        };
-    }
-    if kind == 7 {
-        return Counts {
+            ..c
+        },
+        Kind::Range | Kind::Pair | Kind::Pointer => Counts {
+            begun: true,
+            checks: c.checks + 1,
+            ..c
+        },
+        Kind::End => Counts {
             rules: c.rules,
             tests: c.tests + 1,
-            begun: false,
-            initial: 0,
-            main: 0,
-            checks: 0,
-        };
-    }
-    Counts {
-        rules: c.rules,
-        tests: c.tests,
-        begun: true,
-        initial: c.initial,
-        main: c.main,
-        checks: c.checks + 1,
+            ..Counts::default()
+        },
     }
 }
 
-fn begin_at(kind: u8, from: usize, next: usize) -> usize
-    ensures { result ≡ test_from kind from next }
+#[tactic(auto, unfolding(file_format::specs::Scan::test_from))]
+fn begin_at(kind: Kind, from: usize, next: usize) -> usize
+    ensures { result ≡ test_from (kind_number kind) from next }
 {
-    if kind == 3 {
-        return next;
+    match kind {
+        Kind::Rule | Kind::End => next,
+        _ => from,
     }
-    if kind == 7 {
-        return next;
-    }
-    from
 }
 
 // Where the test in hand stands.
@@ -89,13 +67,13 @@ fn in_hand(st: ScanState) -> Extent
     }
 }
 
-fn advance(kind: u8, next: usize, st: ScanState) -> ScanState
+#[tactic(auto, unfolding(file_format::specs::Scan::advanced))]
+fn advance(kind: Kind, next: usize, st: ScanState) -> ScanState
     requires { Within st.counts }
-    ensures { result ≡ advanced kind next st }
+    ensures { result ≡ advanced (kind_number kind) next st }
 {
-    let c = st.counts;
     ScanState {
-        counts: count_field(kind, c),
+        counts: count_field(kind, st.counts),
         from: begin_at(kind, st.from, next),
     }
 }
@@ -126,36 +104,19 @@ fn end_scan(
 pub fn read(s: &[u8]) -> Result<Contents, Refusal>
     ensures { Scans (scan_of s.now) result }
 {
-    let mut st = ScanState {
-        counts: Counts {
-            rules: 0,
-            tests: 0,
-            begun: false,
-            initial: 0,
-            main: 0,
-            checks: 0,
-        },
-        from: 0,
-    };
-    let mut tests = [Extent {
-        at: 0,
-        initial: 0,
-        main: 0,
-        checks: 0,
-    }; model::MOST_TESTS];
+    let mut st = ScanState::default();
+    let mut tests = [Extent::default(); model::MOST_TESTS];
     let mut at = 0;
     while at < s.len() {
-        let c = st.counts;
-        if let Err(cause) = file_faults::fault(s, at, c) {
-            return Err(Refusal { cause, place: at });
-        }
-        let tag = s[at];
+        let kind = match file_faults::fault(s, at, st.counts) {
+            Ok(kind) => kind,
+            Err(cause) => return Err(Refusal { cause, place: at }),
+        };
         // The field's length is its body's: another is refused.
-        let next = at + file_format::HEAD_LENGTH + file_format::half_at(s, at + 1);
+        let next = at + file_format::HEAD_LENGTH + usize::from(file_format::half_at(s, at + 1));
         // The test in hand has its place behind the finished ones; its end makes it one of these.
-        let t = c.tests;
-        tests[t] = in_hand(st);
-        st = advance(file_format::kind_of(tag), next, st);
+        tests[st.counts.tests] = in_hand(st);
+        st = advance(kind, next, st);
         at = next;
     }
     end_scan(s.len(), tests, st)
@@ -165,18 +126,12 @@ pub fn read(s: &[u8]) -> Result<Contents, Refusal>
 pub fn from_zero(test: u64) -> usize
     ensures { result ≡ test - 1 }
 {
-    if test < 1 {
-        return 0;
-    }
-    (test - 1) as usize
+    test.saturating_sub(1) as usize
 }
 
 // Whether there is a test of that number, counted from 1, among so many.
 pub fn has_test(tests: usize, test: u64) -> bool
     ensures { result ≡ leb 1 test && leb test tests }
 {
-    if test < 1 {
-        return false;
-    }
-    test <= tests as u64
+    1 <= test && test <= tests as u64
 }

@@ -14,22 +14,28 @@ pub fn put(out: &mut [u8], at: usize, b: u8) -> usize
     at + 1
 }
 
-// A number in two bytes, big-endian.
-pub fn put_half(out: &mut [u8], at: usize, n: u16) -> usize
-    requires { at + 2 ≤ length out.old }
-    ensures { Wrote out.old at (bytes2 n) out.new result }
+// Bytes from a place on; answers the next place.
+pub fn put_bytes(out: &mut [u8], at: usize, bytes: &[u8]) -> usize
+    requires { at + length bytes.now ≤ length out.old }
+    ensures { Wrote out.old at bytes.now out.new result }
 {
-    let a = put(out, at, (n / 256) as u8);
-    put(out, a, (n % 256) as u8)
+    let end = at + bytes.len();
+    out[at..end].copy_from_slice(bytes);
+    end
+}
+
+// A number in two bytes, big-endian.
+pub fn put_half(out: &mut [u8], at: usize, half: u16) -> usize
+    requires { at + 2 ≤ length out.old }
+    ensures { Wrote out.old at (bytes2 half) out.new result }
+{
+    put_bytes(out, at, &half.to_be_bytes())
 }
 
 // A number in four bytes, big-endian.
-pub fn put_word(out: &mut [u8], at: usize, n: u32) -> usize
+pub fn put_word(out: &mut [u8], at: usize, word: u32) -> usize
     requires { at + 4 ≤ length out.old }
-    ensures { Wrote out.old at (bytes4 n) out.new result }
+    ensures { Wrote out.old at (bytes4 word) out.new result }
 {
-    let a = put(out, at, (n / 16777216 % 256) as u8);
-    let b = put(out, a, (n / 65536 % 256) as u8);
-    let c = put(out, b, (n / 256 % 256) as u8);
-    put(out, c, (n % 256) as u8)
+    put_bytes(out, at, &word.to_be_bytes())
 }

@@ -1,5 +1,5 @@
 -- The steps of get, in the code's terms.
-use mathlib.Core.Path.{◌≡◌, refl, sym, ◌∙◌}
+use mathlib.Core.Path.{◌≡◌, refl, sym, ap, ◌∙◌}
 use mathlib.Core.Option.{Option, none, some}
 use mathlib.Core.Bool.{Bool, true, false}
 use mathlib.Core.List.{List}
@@ -46,13 +46,13 @@ module _ (d : List ℕ) (key head tail a : ℕ) where
   last h = omega arith
 
   pub seen_found : (x b v : ℕ) (t : Bool) (all : Option ℕ) → head < a → x ≡ a - 1 → get_from d key head (a - head) ≡ all → t ≡ keyed d key x → t ≡ true → b ≡ block_in d x → v ≡ second_of b
-      → v ≡ value_code all
-  unfolding get_from value_code
+      → some v ≡ all
+  unfolding get_from
   seen_found x b v t all h z g e q p s =
       let k : keyed d key (head + (a - 1 - head)) ≡ true = rw (last h, ← z) (sym e ∙ q) in
       let w : block_in d (head + (a - 1 - head)) ≡ b = rw (last h, ← z) (sym p) in
       let y : some (second_of b) ≡ all = rw (before h, k, w) at g in
-      rw (← y) s
+      ap some s ∙ y
 
   pub seen_next : (x : ℕ) (t : Bool) (all : Option ℕ) → head < a → x ≡ a - 1 → get_from d key head (a - head) ≡ all → t ≡ keyed d key x → t ≡ false → get_from d key head (x - head) ≡ all
   unfolding get_from
@@ -60,12 +60,11 @@ module _ (d : List ℕ) (key head tail a : ℕ) where
       let k : keyed d key (head + (a - 1 - head)) ≡ false = rw (last h, ← z) (sym e ∙ q) in
       rw z (rw (before h, k) at g)
 
-  pub seen_all : (all : Option ℕ) → a ≤ head → get_from d key head (a - head) ≡ all → 65536 ≡ value_code all
-  unfolding get_from value_code
+  pub seen_all : (all : Option ℕ) → a ≤ head → get_from d key head (a - head) ≡ all → none ≡ all
+  unfolding get_from
   seen_all all h g =
       let z : a - head ≡ 0 = omega arith in
-      let y : none ≡ all = rw z at g in
-      rw (← y)
+      rw z at g
 
 module _ (d : List ℕ) (key r : ℕ) where
   pub get-length : (length d ≡ disk_length → ⊥) → r ≡ refusal 14 0 → r ≡ get_answer d key
@@ -78,8 +77,16 @@ module _ (d : List ℕ) (key r : ℕ) where
       unfolding get_answer get_code get_of
       get-damaged h e = rw (eq-eqb (length d) disk_length size, ← eb, ← eh, ← et, ← ed, h) e
 
-      pub get-found : t ≡ false → r ≡ value_code (get_from d key head (tail - head)) → r ≡ get_answer d key
+      get-found : (v : Option ℕ) → t ≡ false → v ≡ get_from d key head (tail - head) → value_code v ≡ get_answer d key
       unfolding get_answer get_code get_of
-      get-found h e = rw (eq-eqb (length d) disk_length size, ← eb, ← eh, ← et, ← ed, h) e
+      get-found v h e = rw (eq-eqb (length d) disk_length size, ← eb, ← eh, ← et, ← ed, h) (ap value_code e)
 
-pub ruleset gets = (rules, block-word, key-empty, key-first, seen_start, undamaged_ordered, seen_inside, seen_found, seen_next, seen_all, get-length, get-damaged, get-found, told)
+      pub get-some : (v : ℕ) → t ≡ false → some v ≡ get_from d key head (tail - head) → v ≡ get_answer d key
+      unfolding value_code
+      get-some v h e = get-found (some v) h e
+
+      pub get-none : t ≡ false → none ≡ get_from d key head (tail - head) → 65536 ≡ get_answer d key
+      unfolding value_code
+      get-none h e = get-found none h e
+
+pub ruleset gets = (rules, block-word, key-empty, key-first, seen_start, undamaged_ordered, seen_inside, seen_found, seen_next, seen_all, get-length, get-damaged, get-some, get-none, told)

@@ -1,6 +1,7 @@
 -- Reading a value back from a disk of 1,024 bytes.
 use Rattle.std.specs.Prelude.{ℕ, zero, suc, ◌+◌, ◌-◌, ◌≤◌, ◌<◌, ◌≡◌, Bool, true, false, cond, not, ◌&&◌, List, eqb, length}
 use Rattle.std.proofs.Math.Option.{Option, none, some}
+use Rattle.std.specs.Prelude.{Option as Found, Some, None}
 use Rattle.model.specs.Answer.{Outcome, answer, refused, refusal}
 use Rattle.model.specs.Disk.{empty, first_of, second_of}
 use Rattle.model.specs.Check.{Damaged, damaged}
@@ -45,6 +46,11 @@ get_of disk key =
     cond (not (eqb (length disk) disk_length)) (refused 14 0)
     (cond (damaged head tail) (refused 21 0)
     (answer (get_from disk key head (tail - head))))
+
+-- the same, of what the code finds
+abbrev pub found_value : Found ℕ → Option ℕ
+found_value (Some v) = some v
+found_value None = none
 
 -- in one number: the value, or 65,536 for none
 unfoldable pub value_code : Option ℕ → ℕ

@@ -5,7 +5,12 @@ ghost use Rattle.std.specs.Prelude.{◌≡◌, ◌-◌, ◌<◌, length, false};
 ghost use Rattle.model.specs.Limits.{disk_blocks};
 ghost use Rattle.model.specs.Check.{damaged};
 ghost use Rattle.file_format.specs.Bytes.{disk_length, block_in};
-ghost use Rattle.log_get.specs.Get.{keyed, get_from, value_code, get_answer};
+ghost use Rattle.log_get.specs.Get.{keyed, get_from, get_answer, found_value};
+
+use model::Cause;
+
+// What get answers for a key without a value: its answer is one number, for C.
+const NO_VALUE: u64 = 65536;
 
 // The number of block a of a disk.
 fn block_at(disk: &[u8], a: usize) -> u32
@@ -24,22 +29,20 @@ fn has_key(disk: &[u8], key: u16, a: usize) -> bool
     if b == 0 {
         return false;
     }
-    judge_checks::first_of(b) == key as usize
+    judge_checks::first_of(b) == usize::from(key)
 }
 
-// The value of a key among the blocks from head to tail - 1, from the highest down; 65,536 for none.
-fn find_key(disk: &[u8], key: u16, head: usize, tail: usize) -> u64
+// The value of a key among the blocks from head to tail - 1, from the highest down.
+fn find_key(disk: &[u8], key: u16, head: usize, tail: usize) -> Option<usize>
     requires { (length disk.now ≡ disk_length) × (damaged head tail ≡ false) }
-    ensures { result ≡ value_code (get_from disk.now key head (tail - head)) }
+    ensures { found_value result ≡ get_from disk.now key head (tail - head) }
 {
-    let mut a = tail;
-    while head < a {
-        a -= 1;
+    for a in (head..tail).rev() {
         if has_key(disk, key, a) {
-            return judge_checks::second_of(block_at(disk, a)) as u64;
+            return Some(judge_checks::second_of(block_at(disk, a)));
         }
     }
-    65536
+    None
 }
 
 // The value at the highest address from head to tail - 1 whose block is non-empty with that key, or
@@ -48,13 +51,16 @@ pub fn get(disk: &[u8], key: u16) -> u64
     ensures { result ≡ get_answer disk.now key }
 {
     if disk.len() != file_format::DISK_LENGTH {
-        return model::refuse(14, 0);
+        return model::code_of(Cause::Not1024Bytes.into());
     }
     let b = block_at(disk, 0);
     let head = judge_checks::first_of(b);
     let tail = judge_checks::second_of(b);
     if judge_checks::is_damaged(head, tail) {
-        return model::refuse(21, 0);
+        return model::code_of(Cause::LogDamaged.into());
     }
-    find_key(disk, key, head, tail)
+    match find_key(disk, key, head, tail) {
+        Some(value) => value as u64,
+        None => NO_VALUE,
+    }
 }

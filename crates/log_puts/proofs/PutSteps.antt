@@ -11,14 +11,13 @@ use Rattle.file_format.specs.Bytes.{word, bytes4, block_length, narrow_write_byt
 use Rattle.file_format.specs.Encode.{field_bytes}
 use Rattle.file_writing.specs.Writing.{Wrote}
 use Rattle.file_writing.proofs.WroteLaws.{wrote_then, wrote_none}
-use Rattle.log_puts.specs.Fields.{put_field, put_fields, program_fields, end_fields}
+use Rattle.log_puts.specs.Fields.{put_field, put_fields, program_fields}
 
-pub write-wrote : (l : List ℕ) (at : ℕ) (l₁ l₂ l₃ l₄ l₅ l₆ l₇ : List ℕ) (r₁ r₂ r₃ r₄ r₅ r₆ r₇ tag : ℕ) (w : Write)
-    → Wrote l at (tag ∷ []) l₁ r₁ → Wrote l₁ r₁ (0 ∷ []) l₂ r₂ → Wrote l₂ r₂ (narrow_write_length ∷ []) l₃ r₃ → Wrote l₃ r₃ (w.address ∷ []) l₄ r₄ → Wrote l₄ r₄ (w.name ∷ []) l₅ r₅
-    → Wrote l₅ r₅ (bytes4 w.epoch) l₆ r₆ → Wrote l₆ r₆ (bytes4 w.block) l₇ r₇ → Wrote l at (field_bytes tag (narrow_write_bytes w)) l₇ r₇
+pub write-wrote : (l : List ℕ) (at : ℕ) (l₁ l₂ l₃ : List ℕ) (r₁ r₂ r₃ tag : ℕ) (w : Write)
+    → Wrote l at (tag ∷ 0 ∷ narrow_write_length ∷ w.address ∷ w.name ∷ []) l₁ r₁ → Wrote l₁ r₁ (bytes4 w.epoch) l₂ r₂ → Wrote l₂ r₂ (bytes4 w.block) l₃ r₃
+    → Wrote l at (field_bytes tag (narrow_write_bytes w)) l₃ r₃
 unfolding field_bytes narrow_write_bytes
-write-wrote l at l₁ l₂ l₃ l₄ l₅ l₆ l₇ r₁ r₂ r₃ r₄ r₅ r₆ r₇ tag w a b c d e f g =
-    wrote_then _ _ _ _ _ _ _ _ a (wrote_then _ _ _ _ _ _ _ _ b (wrote_then _ _ _ _ _ _ _ _ c (wrote_then _ _ _ _ _ _ _ _ d (wrote_then _ _ _ _ _ _ _ _ e (wrote_then _ _ _ _ _ _ _ _ f g)))))
+write-wrote l at l₁ l₂ l₃ r₁ r₂ r₃ tag w a b c = wrote_then _ _ _ _ _ _ _ _ a (wrote_then _ _ _ _ _ _ _ _ b c)
 
 pub put-wrote : (l : List ℕ) (at : ℕ) (l₁ l₂ : List ℕ) (r₁ r₂ tag tail epoch block : ℕ)
     → Wrote l at (put_field tag tail 1 epoch block) l₁ r₁ → Wrote l₁ r₁ (put_field tag 0 2 epoch (65537 + tail)) l₂ r₂
@@ -38,11 +37,5 @@ module _ (tag tail epoch : ℕ) (s l : List ℕ) (from : ℕ) where
 
   pub program_all : (i n at : ℕ) (l₁ : List ℕ) → i ≤ n → n ≤ i → Wrote l from (program_fields tag tail epoch s i) l₁ at → Wrote l from (program_fields tag tail epoch s n) l₁ at
   program_all i n at l₁ h k w = let z : i ≡ n = omega arith in rw z at w
-
-pub end_wrote : (l : List ℕ) (at : ℕ) (l₁ l₂ l₃ l₄ l₅ l₆ l₇ : List ℕ) (r₁ r₂ r₃ r₄ r₅ r₆ r₇ : ℕ)
-    → Wrote l at (4 ∷ []) l₁ r₁ → Wrote l₁ r₁ (0 ∷ []) l₂ r₂ → Wrote l₂ r₂ (1 ∷ []) l₃ r₃ → Wrote l₃ r₃ (0 ∷ []) l₄ r₄ → Wrote l₄ r₄ (7 ∷ []) l₅ r₅
-    → Wrote l₅ r₅ (0 ∷ []) l₆ r₆ → Wrote l₆ r₆ (0 ∷ []) l₇ r₇ → Wrote l at end_fields l₇ r₇
-end_wrote l at l₁ l₂ l₃ l₄ l₅ l₆ l₇ r₁ r₂ r₃ r₄ r₅ r₆ r₇ a b c d e f g =
-    wrote_then _ _ _ _ _ _ _ _ a (wrote_then _ _ _ _ _ _ _ _ b (wrote_then _ _ _ _ _ _ _ _ c (wrote_then _ _ _ _ _ _ _ _ d (wrote_then _ _ _ _ _ _ _ _ e (wrote_then _ _ _ _ _ _ _ _ f g)))))
 
 pub ruleset putting = (rules, put-wrote, program_none, program_more, program_all)

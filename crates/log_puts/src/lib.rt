@@ -21,13 +21,10 @@ fn put_write(
     requires { at + (head_length + narrow_write_length) ≤ length out.old }
     ensures { Wrote out.old at (put_field tag address name epoch block) out.new result × (result ≡ at + (head_length + narrow_write_length)) }
 {
-    let a = file_writing::put(out, at, tag);
-    let b = file_writing::put(out, a, 0);
-    let c = file_writing::put(out, b, file_format::NARROW_WRITE_LENGTH_BYTE);
-    let d = file_writing::put(out, c, address);
-    let e = file_writing::put(out, d, name);
-    let f = file_writing::put_word(out, e, epoch);
-    file_writing::put_word(out, f, block)
+    let head = [tag, 0, file_format::NARROW_WRITE_LENGTH_BYTE, address, name];
+    let next = file_writing::put_bytes(out, at, &head);
+    let next = file_writing::put_word(out, next, epoch);
+    file_writing::put_word(out, next, block)
 }
 
 // A put of a block at tail: the block, then the superblock.
@@ -36,7 +33,7 @@ fn put_put(out: &mut [u8], at: usize, tag: u8, tail: u8, epoch: u32, block: u32)
     ensures { Wrote out.old at (put_fields tag tail epoch block) out.new result × (result ≡ at + put_length) }
 {
     let next = put_write(out, at, tag, tail, 1, epoch, block);
-    put_write(out, next, tag, 0, 2, epoch, 65537 + (tail as u32))
+    put_write(out, next, tag, 0, 2, epoch, 65537 + u32::from(tail))
 }
 
 // The puts of a program, for a log with this tail and epoch.
@@ -53,11 +50,9 @@ pub fn put_program(
     ensures { Wrote out.old from (program_fields tag tail epoch program.now n) out.new result × (result ≡ from + put_length * n) }
 {
     let mut at = from;
-    let mut i: usize = 0;
-    while i < n {
+    for i in 0..n {
         let b = file_format::word_at(program, file_format::BLOCK_LENGTH * i);
         at = put_put(out, at, tag, tail + (i as u8), epoch + (i as u32), b);
-        i += 1;
     }
     at
 }
@@ -67,11 +62,5 @@ pub fn put_end(out: &mut [u8], at: usize) -> usize
     requires { at + end_length ≤ length out.old }
     ensures { Wrote out.old at end_fields out.new result × (result ≡ at + end_length) }
 {
-    let a = file_writing::put(out, at, 4);
-    let b = file_writing::put(out, a, 0);
-    let c = file_writing::put(out, b, 1);
-    let d = file_writing::put(out, c, 0);
-    let e = file_writing::put(out, d, 7);
-    let f = file_writing::put(out, e, 0);
-    file_writing::put(out, f, 0)
+    file_writing::put_bytes(out, at, &[4, 0, 1, 0, file_format::END_TAG, 0, 0])
 }

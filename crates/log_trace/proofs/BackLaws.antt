@@ -131,8 +131,8 @@ module _ (i m l : List ℕ) (p : Small i) (q : Small m) where
       let s : size_of n k ≡ size = ap size-of (sym (ap (λ (x : Traced). x.outcome) d) ∙ e) in
       rw (d, ← s, front i m l n k)
       (log-read (tabulate (put_at i) n) (tabulate (put_at m) k) (puts_fit i (bounded i p) n) (puts_fit m (bounded m q) k)
-      (rw (length-tabulate (put_at i) n) (fits-initial i m (length l) (trace_fault i m (length l)) refl f))
-      (rw (length-tabulate (put_at m) k) (fits-main i m (length l) (trace_fault i m (length l)) refl f)))
+      (rw (length-tabulate (put_at i) n) (fits-initial i m (length l) f))
+      (rw (length-tabulate (put_at m) k) (fits-main i m (length l) f)))
   written false z o d size e = absurd (false≢true (ap is-answer (sym (ap (λ (x : Traced). x.outcome) d) ∙ e)))
 
 pub read_back : ReadBack

@@ -12,13 +12,17 @@ use Rattle.relation.specs.Lists.{any, any_below, tabulate}
 use borrow.Author.Rules.{rules}
 use borrow.Author.Tests.{eqb-true, eq-eqb, ne_eqb, lt-ltb, le-ltb, ltb-false}
 use Rattle.relation.proofs.ListLaws.{any_append, length-tabulate, and_left, and_right, and_intro, bool_equal}
+use Rattle.std.specs.Prelude.{Result, Ok, Err}
+use Rattle.model.specs.declared.Cause.{Cause}
+use Rattle.model.specs.declared.Refusal.{Refusal}
+use Rattle.model.proofs.CauseLaws.{number_positive}
 use Rattle.model.specs.Limits.{most_initial_puts, most_main_puts}
 use Rattle.model.specs.declared.Write.{Write}
 use Rattle.model.specs.Disk.{block}
 use Rattle.file_format.specs.Bytes.{half, word, block_length}
 use Rattle.file_format.specs.Encode.{field_bytes, write_field_bytes, write_fields, check_field_bytes, check_fields, test_bytes}
 use Rattle.log_get.specs.Puts.{Put, Log, log, start, put_writes, after, after_all, writes_of, puts_of, empty_put, log_test, traced, trace_of}
-use Rattle.model.specs.Answer.{answer, refused, refusal, coded}
+use Rattle.model.specs.Answer.{answer, refused, refusal, coded, number_of, fault_number, at_zero}
 use Rattle.file_writing.specs.Writing.{Wrote}
 use Rattle.file_writing.proofs.WroteLaws.{wrote_then}
 use Rattle.log_puts.specs.Fields.{put_fields, program_fields, end_fields}
@@ -142,10 +146,6 @@ module _ (i m : List ℕ) (room : ℕ) (a : length i % block_length ≡ 0) (b : 
   pub fault-none : (e f : Bool) → e ≡ empty_below i (length i / block_length) → e ≡ false → f ≡ empty_below m (length m / block_length) → f ≡ false → size_of (length i / block_length) (length m / block_length) ≤ room → 0 ≡ trace_fault i m room
   fault-none e f p q r s l = sym (past ∙ rw (← p, q, ← r, s, le-ltb room (size_of (length i / block_length) (length m / block_length)) l) refl)
 
-small : (b : Bool) (x y : ℕ) → x < 256 → y < 256 → cond b x y < 256
-small true x y p q = p
-small false x y p q = q
-
 on : (b : Bool) (x y : ℕ) → (x ≡ 0 → ⊥) → cond b x y ≡ 0 → b ≡ false
 on true x y n e = absurd (n e)
 on false x y n e = refl
@@ -154,40 +154,28 @@ rest : (b : Bool) (x y : ℕ) → (x ≡ 0 → ⊥) → cond b x y ≡ 0 → y �
 rest true x y n e = absurd (n e)
 rest false x y n e = e
 
--- a fault's number is small, and without one all fits
-module _ (i m : List ℕ) (room f : ℕ) (e : f ≡ trace_fault i m room) where
-  pub fault-small : f < 256
+-- without a fault all fits
+module _ (i m : List ℕ) (room : ℕ) (none : trace_fault i m room ≡ 0) where
+  pub fits-initial : length i / block_length ≤ most_initial_puts
   unfolding trace_fault
-  fault-small =
-      rw e
-      (small (not (eqb (length i % block_length) 0)) 19 _ (omega arith)
-      (small (not (eqb (length m % block_length) 0)) 19 _ (omega arith)
-      (small (ltb most_initial_puts (length i / block_length)) 6 _ (omega arith)
-      (small (ltb most_main_puts (length m / block_length)) 6 _ (omega arith)
-      (small (empty_below i (length i / block_length)) 20 _ (omega arith)
-      (small (empty_below m (length m / block_length)) 20 _ (omega arith)
-      (small (ltb room (size_of (length i / block_length) (length m / block_length))) 12 0 (omega arith) (omega arith))))))))
-
-  pub fits-initial : f ≡ 0 → length i / block_length ≤ most_initial_puts
-  unfolding trace_fault
-  fits-initial z =
+  fits-initial =
       ltb-false most_initial_puts (length i / block_length)
       (on (ltb most_initial_puts (length i / block_length)) 6 _ (λ (q : 6 ≡ 0). absurd (omega arith))
       (rest (not (eqb (length m % block_length) 0)) 19 _ (λ (q : 19 ≡ 0). absurd (omega arith))
-      (rest (not (eqb (length i % block_length) 0)) 19 _ (λ (q : 19 ≡ 0). absurd (omega arith)) (sym e ∙ z))))
+      (rest (not (eqb (length i % block_length) 0)) 19 _ (λ (q : 19 ≡ 0). absurd (omega arith)) none)))
 
-  pub fits-main : f ≡ 0 → length m / block_length ≤ most_main_puts
+  pub fits-main : length m / block_length ≤ most_main_puts
   unfolding trace_fault
-  fits-main z =
+  fits-main =
       ltb-false most_main_puts (length m / block_length)
       (on (ltb most_main_puts (length m / block_length)) 6 _ (λ (q : 6 ≡ 0). absurd (omega arith))
       (rest (ltb most_initial_puts (length i / block_length)) 6 _ (λ (q : 6 ≡ 0). absurd (omega arith))
       (rest (not (eqb (length m % block_length) 0)) 19 _ (λ (q : 19 ≡ 0). absurd (omega arith))
-      (rest (not (eqb (length i % block_length) 0)) 19 _ (λ (q : 19 ≡ 0). absurd (omega arith)) (sym e ∙ z)))))
+      (rest (not (eqb (length i % block_length) 0)) 19 _ (λ (q : 19 ≡ 0). absurd (omega arith)) none))))
 
-  pub fits-room : f ≡ 0 → size_of (length i / block_length) (length m / block_length) ≤ room
+  pub fits-room : size_of (length i / block_length) (length m / block_length) ≤ room
   unfolding trace_fault
-  fits-room z =
+  fits-room =
       ltb-false room (size_of (length i / block_length) (length m / block_length))
       (on (ltb room (size_of (length i / block_length) (length m / block_length))) 12 0 (λ (q : 12 ≡ 0). absurd (omega arith))
       (rest (empty_below m (length m / block_length)) 20 _ (λ (q : 20 ≡ 0). absurd (omega arith))
@@ -195,20 +183,37 @@ module _ (i m : List ℕ) (room f : ℕ) (e : f ≡ trace_fault i m room) where
       (rest (ltb most_main_puts (length m / block_length)) 6 _ (λ (q : 6 ≡ 0). absurd (omega arith))
       (rest (ltb most_initial_puts (length i / block_length)) 6 _ (λ (q : 6 ≡ 0). absurd (omega arith))
       (rest (not (eqb (length m % block_length) 0)) 19 _ (λ (q : 19 ≡ 0). absurd (omega arith))
-      (rest (not (eqb (length i % block_length) 0)) 19 _ (λ (q : 19 ≡ 0). absurd (omega arith)) (sym e ∙ z))))))))
+      (rest (not (eqb (length i % block_length) 0)) 19 _ (λ (q : 19 ≡ 0). absurd (omega arith)) none)))))))
 
-module _ (i m l : List ℕ) (f : ℕ) (e : f ≡ trace_fault i m (length l)) where
-  pub trace-refused : (r : ℕ) → (f ≡ 0 → ⊥) → r ≡ refusal f 0 → trace_out r l ≡ trace_answer i m l
+module _ (i m : List ℕ) (room : ℕ) (x : Result (Unit {0}) Cause) (u : Unit {0}) (e : fault_number x ≡ trace_fault i m room) (q : x ≡ Ok u) where
+  none : trace_fault i m room ≡ 0
+  none = sym e ∙ rw q
+
+  pub few-initial : length i / block_length ≤ most_initial_puts
+  few-initial = fits-initial i m room none
+
+  pub few-main : length m / block_length ≤ most_main_puts
+  few-main = fits-main i m room none
+
+  pub small-enough : size_of (length i / block_length) (length m / block_length) ≤ room
+  small-enough = fits-room i m room none
+
+module _ (i m l : List ℕ) (x : Result (Unit {0}) Cause) (e : fault_number x ≡ trace_fault i m (length l)) where
+  pub trace-refused : (cause : Cause) (why : Refusal) (r : ℕ) → x ≡ Err cause → why ≡ at_zero cause → r ≡ refusal (number_of why.cause) why.place → trace_out r l ≡ trace_answer i m l
   unfolding trace_answer coded
-  trace-refused r n q = rw (by-fault i m l, ← e, ne_eqb f 0 n, q) refl
+  trace-refused cause why r h k q =
+      let n = number_positive cause in
+      let f : number_of cause ≡ trace_fault i m (length l) = rw h at e in
+      rw (by-fault i m l, ← f, ne_eqb (number_of cause) 0 (λ (z : number_of cause ≡ 0). absurd (omega arith)), q, k) refl
 
-  pub trace-written : (out : List ℕ) (r : ℕ) → f ≡ 0 → Wrote l 0 (test_fields i m (length i / block_length) (length m / block_length)) out r → r ≡ size_of (length i / block_length) (length m / block_length) → trace_out r out ≡ trace_answer i m l
+  pub trace-written : (out : List ℕ) (r : ℕ) (u : Unit {0}) → x ≡ Ok u → Wrote l 0 (test_fields i m (length i / block_length) (length m / block_length)) out r → r ≡ size_of (length i / block_length) (length m / block_length) → trace_out r out ≡ trace_answer i m l
   unfolding trace_answer coded puts_of
-  trace-written out r z w s =
+  trace-written out r u h w s =
+      let f : 0 ≡ trace_fault i m (length l) = rw h at e in
       let t = test_fields i m (length i / block_length) (length m / block_length) in
       let k : length t ≡ size_of (length i / block_length) (length m / block_length) = omega (arith, w.place, s) in
-      let b : out ≡ t ++ drop (size_of (length i / block_length) (length m / block_length)) l = w.buffer ∙ sets-eq t l 0 (omega (arith, k, fits-room i m (length l) f e z)) ∙ rw (k, zero-add (size_of (length i / block_length) (length m / block_length))) refl in
-      rw (by-fault i m l, ← e, z, b, s, test-bytes i m (length i / block_length) (length m / block_length)) refl
+      let b : out ≡ t ++ drop (size_of (length i / block_length) (length m / block_length)) l = w.buffer ∙ sets-eq t l 0 (omega (arith, k, fits-room i m (length l) (sym f))) ∙ rw (k, zero-add (size_of (length i / block_length) (length m / block_length))) refl in
+      rw (by-fault i m l, ← f, b, s, test-bytes i m (length i / block_length) (length m / block_length)) refl
 
 -- the three parts of a test
 pub test-wrote : (i m : List ℕ) (n k : ℕ) (l l₁ l₂ l₃ : List ℕ) (r₁ r₂ r₃ : ℕ)
@@ -216,4 +221,4 @@ pub test-wrote : (i m : List ℕ) (n k : ℕ) (l l₁ l₂ l₃ : List ℕ) (r�
 unfolding test_fields
 test-wrote i m n k l l₁ l₂ l₃ r₁ r₂ r₃ a b c = wrote_then _ _ _ _ _ _ _ _ a (wrote_then _ _ _ _ _ _ _ _ b c)
 
-pub ruleset faults = (rules, fault-initial, fault-main, fault-room, fault-none, fault-small, fits-initial, fits-main, fits-room, trace-refused, trace-written, test-wrote)
+pub ruleset faults = (rules, fault-initial, fault-main, fault-room, fault-none, few-initial, few-main, small-enough, trace-refused, trace-written, test-wrote)

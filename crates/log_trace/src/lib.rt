@@ -3,53 +3,54 @@
 
 ghost use Rattle.std.specs.Prelude.{◌≡◌, ◌*◌, ◌≤◌, length};
 ghost use Rattle.model.specs.Limits.{most_initial_puts, most_main_puts};
+ghost use Rattle.model.specs.Answer.{fault_number};
 ghost use Rattle.file_format.specs.Bytes.{block_length};
 ghost use Rattle.file_writing.specs.Writing.{Wrote};
 ghost use Rattle.log_trace.specs.Traced.{empty_below, size_of, test_fields, trace_fault, trace_out, trace_answer};
+
+use model::Cause;
 
 // Whether one of the first n puts of a program is (0, 0).
 fn has_empty(program: &[u8], n: usize) -> bool
     requires { block_length * n ≤ length program.now }
     ensures { result ≡ empty_below program.now n }
 {
-    let mut i: usize = 0;
-    while i < n {
+    for i in 0..n {
         if file_format::word_at(program, file_format::BLOCK_LENGTH * i) == 0 {
             return true;
         }
-        i += 1;
     }
     false
 }
 
-// What is wrong with a call of trace, by its refusal's number; 0 for nothing.
-fn trace_fault(initial: &[u8], main: &[u8], room: usize) -> u64
-    ensures { result ≡ trace_fault initial.now main.now room }
+// Whether trace can be called so, or why not.
+fn trace_fault(initial: &[u8], main: &[u8], room: usize) -> Result<(), Cause>
+    ensures { fault_number result ≡ trace_fault initial.now main.now room }
 {
     if initial.len() % file_format::BLOCK_LENGTH != 0 {
-        return 19;
+        return Err(Cause::NotWholePuts);
     }
     if main.len() % file_format::BLOCK_LENGTH != 0 {
-        return 19;
+        return Err(Cause::NotWholePuts);
     }
     let n = initial.len() / file_format::BLOCK_LENGTH;
     let m = main.len() / file_format::BLOCK_LENGTH;
     if model::MOST_INITIAL_PUTS < n {
-        return 6;
+        return Err(Cause::OverLimit);
     }
     if model::MOST_MAIN_PUTS < m {
-        return 6;
+        return Err(Cause::OverLimit);
     }
     if has_empty(initial, n) {
-        return 20;
+        return Err(Cause::EmptyPut);
     }
     if has_empty(main, m) {
-        return 20;
+        return Err(Cause::EmptyPut);
     }
     if room < file_format::PUT_LENGTH * (n + m) + file_format::END_LENGTH {
-        return 12;
+        return Err(Cause::BufferTooShort);
     }
-    0
+    Ok(())
 }
 
 // The test of two programs, of n and m puts.
@@ -68,9 +69,8 @@ fn put_test(out: &mut [u8], initial: &[u8], main: &[u8], n: usize, m: usize) -> 
 pub fn trace(initial: &[u8], main: &[u8], buffer: &mut [u8]) -> u64
     ensures { trace_out result buffer.new ≡ trace_answer initial.now main.now buffer.old }
 {
-    let number = trace_fault(initial, main, buffer.len());
-    if number != 0 {
-        return model::refuse(number, 0);
+    if let Err(cause) = trace_fault(initial, main, buffer.len()) {
+        return model::code_of(cause.into());
     }
     let n = initial.len() / file_format::BLOCK_LENGTH;
     let m = main.len() / file_format::BLOCK_LENGTH;

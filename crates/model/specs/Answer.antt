@@ -56,6 +56,6 @@ outcome (Ok value) = answer value
 outcome (Err why) = refused (number_of why.cause) why.place
 
 -- the number of what a test found wrong, or 0
-abbrev pub fault_number : Result (Unit {0}) Cause → ℕ
-fault_number (Ok none) = 0
+abbrev pub fault_number : {A : Type 0} → Result A Cause → ℕ
+fault_number (Ok value) = 0
 fault_number (Err cause) = number_of cause

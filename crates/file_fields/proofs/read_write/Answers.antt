@@ -1,9 +1,6 @@
--- `file_fields::read_write` meets its contract: by the width of its names.
+-- `file_fields::read_write` meets its contract: the reader that the tag's names ask for.
 use Rattle.file_fields.proofs.FieldLaws.{fields}
 use Rattle.file_fields.proofs.read_write.Goals as goal
-
-pub is_wide-requires : goal.is_wide-requires
-is_wide-requires c = search fields
 
 pub read_wide_write-requires : goal.read_wide_write-requires
 read_wide_write-requires c = search fields

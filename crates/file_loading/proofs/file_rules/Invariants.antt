@@ -8,6 +8,3 @@ use Rattle.file_loading.proofs.file_rules.Given as goal
 
 abbrev pub invariant-loop-i : goal.invariant-loop-i
 invariant-loop-i l = (l.i ≤ l.n) × (length l.out.items ≡ most_rules) × (l.out.count ≡ l.n) × (l.at ≡ field_place l.file 0 l.i) × (take l.i l.out.items ≡ rules_at l.file l.i)
-
-abbrev pub decreases-loop-i : goal.decreases-loop-i
-decreases-loop-i l = l.n - l.i

@@ -5,23 +5,14 @@ use Rattle.log_get.proofs.find_key.Goals as goal
 pub loop-a-init : goal.loop-a-init
 loop-a-init c = search gets
 
-pub overflow_sub-a : goal.overflow_sub-a
-overflow_sub-a c = search gets
-
 pub has_key-requires : goal.has_key-requires
 has_key-requires c = search gets
 
 pub block_at-requires : goal.block_at-requires
 block_at-requires c = search gets
 
-pub second_of-requires : goal.second_of-requires
-second_of-requires c = search gets
-
 pub returns-then-has_key : goal.returns-then-has_key
 returns-then-has_key c = search gets
-
-pub loop-a-smaller : goal.loop-a-smaller
-loop-a-smaller c = search gets
 
 pub loop-a-preserved : goal.loop-a-preserved
 loop-a-preserved c = search gets

@@ -8,6 +8,3 @@ use Rattle.log_get.proofs.find_key.Given as goal
 
 abbrev pub invariant-loop-a : goal.invariant-loop-a
 invariant-loop-a l = (damaged l.head l.tail ≡ false) × (l.head ≤ l.a) × (l.a ≤ l.tail) × (get_from l.disk l.key l.head (l.a - l.head) ≡ get_from l.disk l.key l.head (l.tail - l.head))
-
-abbrev pub decreases-loop-a : goal.decreases-loop-a
-decreases-loop-a l = l.a

@@ -5,20 +5,8 @@ use Rattle.log_trace.proofs.has_empty.Goals as goal
 pub loop-i-init : goal.loop-i-init
 loop-i-init c = search traces
 
-pub overflow_mul-i : goal.overflow_mul-i
-overflow_mul-i c = search traces
-
-pub word_at-requires : goal.word_at-requires
-word_at-requires c = search traces
-
 pub returns-then-word_at-eq0 : goal.returns-then-word_at-eq0
 returns-then-word_at-eq0 c = search traces
-
-pub overflow_add-i : goal.overflow_add-i
-overflow_add-i c = search traces
-
-pub loop-i-smaller : goal.loop-i-smaller
-loop-i-smaller c = search traces
 
 pub loop-i-preserved : goal.loop-i-preserved
 loop-i-preserved c = search traces

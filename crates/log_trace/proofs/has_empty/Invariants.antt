@@ -1,5 +1,5 @@
 -- `log_trace::has_empty` meets its contract. The invariant: none of the first i puts is (0,0).
-use Prim.Native.Nat.{◌-◌, ◌≤◌}
+use Prim.Native.Nat.{◌≤◌}
 use mathlib.Core.Path.{◌≡◌}
 use mathlib.Core.Bool.{false}
 use Rattle.log_trace.specs.Traced.{empty_below}
@@ -7,6 +7,3 @@ use Rattle.log_trace.proofs.has_empty.Given as goal
 
 abbrev pub invariant-loop-i : goal.invariant-loop-i
 invariant-loop-i l = (l.i ≤ l.n) × (empty_below l.program l.i ≡ false)
-
-abbrev pub decreases-loop-i : goal.decreases-loop-i
-decreases-loop-i l = l.n - l.i

@@ -2,7 +2,6 @@
 use Rattle.log_trace.proofs.ProgramLaws.{faults}
 use Rattle.relation.proofs.Cases.{calls}
 use Rattle.log_trace.specs.Traced.{trace_fault}
-use borrow.Author.Rules.{rules}
 use Rattle.log_trace.proofs.trace_fault.Goals as goal
 
 pub returns-then-initial-ne0 : goal.returns-then-initial-ne0
@@ -21,26 +20,11 @@ pub returns-then-m-gt-MOST_MAIN_PUTS : goal.returns-then-m-gt-MOST_MAIN_PUTS
 unfolding trace_fault
 returns-then-m-gt-MOST_MAIN_PUTS c = search calls
 
-pub has_empty-requires : goal.has_empty-requires
-has_empty-requires c = search rules
-
 pub returns-then-has_empty : goal.returns-then-has_empty
 returns-then-has_empty c = search faults
 
-pub has_empty-requires-2 : goal.has_empty-requires-2
-has_empty-requires-2 c = search rules
-
 pub returns-then-has_empty-2 : goal.returns-then-has_empty-2
 returns-then-has_empty-2 c = search faults
-
-pub overflow_add-n : goal.overflow_add-n
-overflow_add-n c = search rules
-
-pub overflow_mul-n : goal.overflow_mul-n
-overflow_mul-n c = search rules
-
-pub overflow_add-n-2 : goal.overflow_add-n-2
-overflow_add-n-2 c = search rules
 
 pub returns-then-room-n : goal.returns-then-room-n
 returns-then-room-n c = search faults
