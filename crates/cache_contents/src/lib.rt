@@ -70,7 +70,7 @@ pub fn fill_columns(columns: &mut Columns, state: &[u8])
     for i in 0..n {
         let at = write_place(i);
         columns.addresses[i] = state[at];
-        columns.names[i] = file_format::half_at(state, at + 1) as u16;
+        columns.names[i] = file_format::half_at(state, at + 1);
         columns.epochs[i] = file_format::word_at(state, at + 3);
     }
 }

@@ -33,18 +33,15 @@ use Rattle.cache_statelaws.proofs.EachLaws.{each_append}
 use Rattle.cache_statelaws.proofs.LayoutLaws.{rule-size, length-rules}
 use Rattle.cache_model.specs.Calls.{left, open_with, open_of}
 use Rattle.cache_steps.specs.Given.{call_leaves_state, coded_kept, answer_by, opened_by, Opens}
-use Rattle.cache_stores.proofs.StoreSteps.{inside}
-use Rattle.cache_stores.proofs.AppendSteps.{sets-append}
+use Rattle.file_writing.specs.Writing.{Wrote}
+use Rattle.file_writing.proofs.WroteLaws.{sets-append, wrote_then}
 
 -- ---- put_rule, put_rules
 
-pub rule-put : (l l₁ l₂ l₃ : List ℕ) (at : ℕ) (r : Rule) → l₁ ≡ sets l at (bytes2 r.first) → l₂ ≡ sets l₁ (at + 2) (r.predicate ∷ [])
-    → l₃ ≡ sets l₂ (at + 3) (bytes2 r.second) → l₃ ≡ sets l at (wide_rule_bytes r)
+pub rule-put : (l l₁ l₂ l₃ : List ℕ) (at r₁ r₂ r₃ : ℕ) (r : Rule) → Wrote l at (bytes2 r.first) l₁ r₁ → Wrote l₁ r₁ (r.predicate ∷ []) l₂ r₂
+    → Wrote l₂ r₂ (bytes2 r.second) l₃ r₃ → l₃ ≡ sets l at (wide_rule_bytes r)
 unfolding wide_rule_bytes
-rule-put l l₁ l₂ l₃ at r a b c =
-    let two : at + 2 ≡ suc (suc at) = omega arith in
-    let three : at + 3 ≡ suc (suc (suc at)) = omega arith in
-    c ∙ rw (b, a, two, three)
+rule-put l l₁ l₂ l₃ at r₁ r₂ r₃ r a b c = (wrote_then _ _ _ _ _ _ _ _ a (wrote_then _ _ _ _ _ _ _ _ b c)).buffer
 
 -- a state with a count and the rules so far
 abbrev pub written : ℕ → List Rule → List ℕ
@@ -74,7 +71,7 @@ rules-done rules s i size few a b e =
 pub cleared_size : (s : List ℕ) → s ≡ replicate state_size 0 → length s ≡ state_size
 cleared_size s e = ap length e ∙ length-replicate {A = ℕ} state_size 0
 
-pub ruleset putting = (rules, length_mapped, known_at, inside, rule-put, rules-begun, rules-more, rules-done, cleared_size)
+pub ruleset putting = (rules, length_mapped, known_at, rule-put, rules-begun, rules-more, rules-done, cleared_size)
 
 -- ---- open_with
 

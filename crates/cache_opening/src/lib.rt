@@ -19,9 +19,9 @@ fn put_rule(state: &mut [u8], at: usize, rule: Rule)
     requires { (at + wide_rule_length ≤ length state.old) × (rule.predicate < 256) }
     ensures { state.new ≡ sets state.old at (wide_rule_bytes rule) }
 {
-    cache_stores::put_half(state, at, rule.first);
-    cache_stores::put_byte(state, at + 2, rule.predicate as u8);
-    cache_stores::put_half(state, at + 3, rule.second);
+    let predicate = file_writing::put_half(state, at, rule.first);
+    let second = file_writing::put(state, predicate, rule.predicate as u8);
+    file_writing::put_half(state, second, rule.second);
 }
 
 // The count of the rules, and the rules.

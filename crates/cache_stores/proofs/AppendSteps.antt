@@ -2,7 +2,7 @@
 use mathlib.Core.Path.{◌≡◌, refl, ap, ◌∙◌}
 use mathlib.Core.Bool.{false}
 use mathlib.Core.List.{List, [], ◌∷◌, ◌++◌}
-use Prim.Native.Nat.{ℕ, suc, ◌+◌, ◌*◌, ◌/◌, ◌%◌}
+use Prim.Native.Nat.{ℕ, ◌+◌, ◌≤◌, ◌<◌}
 use native.Mathlib.Omega.{arith}
 use lib.ListN.{length, set}
 use lib.Seq.{sets}
@@ -10,50 +10,35 @@ use borrow.Author.Rules.{rules}
 use Rattle.model.specs.declared.Write.{Write}
 use Rattle.model.specs.Disk.{block}
 use Rattle.file_format.specs.Bytes.{bytes2, bytes4, wide_write_bytes}
+use Rattle.file_writing.specs.Writing.{Wrote}
+use Rattle.file_writing.proofs.WroteLaws.{wrote_then}
 use Rattle.cache_model.specs.Entries.{entry}
-use Rattle.cache_model.specs.State.{flag_place, accepted_count, write_base, entry_bytes, handed}
+use Rattle.cache_model.specs.State.{entry_length, accepted_count, write_base, entry_bytes, handed}
 use Rattle.cache_model.specs.Calls.{given}
-use Rattle.cache_stores.proofs.StoreSteps.{inside}
-
--- ---- given
-
-pub value-given : (a n e f s : ℕ) → record { address = a; name = n; epoch = e; block = f * 65536 + s } ≡ given a n e f s
-unfolding block
-value-given a n e f s = refl
-
-pub ruleset giving = (rules, value-given)
 
 -- ---- append
 
--- a run of stores is one run after another
-pub sets-append : (l : List ℕ) (i : ℕ) (xs ys : List ℕ) → sets l i (xs ++ ys) ≡ sets (sets l i xs) (i + length xs) ys
-sets-append l i [] ys = let z : i + 0 ≡ i = omega arith in rw z
-sets-append l i (x ∷ xs) ys =
-    let z : suc i + length xs ≡ i + suc (length xs) = omega arith in
-    sets-append (set l i x) (suc i) xs ys ∙ ap (λ (k : ℕ). sets (sets (set l i x) (suc i) xs) k ys) z
-
-pub half-put : (l : List ℕ) (at n : ℕ) → set (set l at (n / 256)) (at + 1) (n % 256) ≡ sets l at (bytes2 n)
-half-put l at n = let z : at + 1 ≡ suc at = omega arith in rw z
-
-pub write-put : (l l₁ l₂ l₃ l₄ : List ℕ) (at : ℕ) (w : Write) → l₁ ≡ sets l at (w.address ∷ []) → l₂ ≡ sets l₁ (at + 1) (bytes2 w.name)
-    → l₃ ≡ sets l₂ (at + 3) (bytes4 w.epoch) → l₄ ≡ sets l₃ (at + 7) (bytes4 w.block) → l₄ ≡ sets l at (wide_write_bytes w)
+pub write-put : (l l₁ l₂ l₃ l₄ : List ℕ) (at r₁ r₂ r₃ r₄ : ℕ) (w : Write) → Wrote l at (w.address ∷ []) l₁ r₁ → Wrote l₁ r₁ (bytes2 w.name) l₂ r₂
+    → Wrote l₂ r₂ (bytes4 w.epoch) l₃ r₃ → Wrote l₃ r₃ (bytes4 w.block) l₄ r₄ → Wrote l at (wide_write_bytes w) l₄ r₄
 unfolding wide_write_bytes
-write-put l l₁ l₂ l₃ l₄ at w a b c d =
-    let one : at + 1 ≡ suc at = omega arith in
-    let three : at + 3 ≡ suc (suc (suc at)) = omega arith in
-    let seven : at + 7 ≡ suc (suc (suc (suc (suc (suc (suc at)))))) = omega arith in
-    d ∙ rw (c, b, a, one, three, seven)
+write-put l l₁ l₂ l₃ l₄ at r₁ r₂ r₃ r₄ w a b c d = wrote_then _ _ _ _ _ _ _ _ a (wrote_then _ _ _ _ _ _ _ _ b (wrote_then _ _ _ _ _ _ _ _ c d))
 
-pub entry-put : (l l₁ l₂ : List ℕ) (at : ℕ) (w : Write) → l₁ ≡ sets l at (wide_write_bytes w) → l₂ ≡ sets l₁ (at + flag_place) (0 ∷ [])
-    → l₂ ≡ sets l at (entry_bytes (entry w false))
-unfolding entry_bytes wide_write_bytes
-entry-put l l₁ l₂ at w a b =
-    let eleven : at + flag_place ≡ suc (suc (suc (suc (suc (suc (suc (suc (suc (suc (suc at)))))))))) = omega arith in
-    b ∙ rw (a, eleven)
+-- the flag's place is inside
+pub flag-inside : (l l₁ : List ℕ) (at r : ℕ) (w : Write) → at + entry_length ≤ length l → Wrote l at (wide_write_bytes w) l₁ r → r < length l₁
+unfolding wide_write_bytes
+flag-inside l l₁ at r w h p =
+    let z : length (wide_write_bytes w) ≡ 11 = refl in
+    let e = p.place in
+    let f = p.size in
+    omega (arith, z, e, f)
+
+pub entry-put : (l l₁ l₂ : List ℕ) (at r₁ r₂ : ℕ) (w : Write) → Wrote l at (wide_write_bytes w) l₁ r₁ → Wrote l₁ r₁ (0 ∷ []) l₂ r₂ → l₂ ≡ sets l at (entry_bytes (entry w false))
+unfolding entry_bytes
+entry-put l l₁ l₂ at r₁ r₂ w a b = (wrote_then _ _ _ _ _ _ _ _ a b).buffer
 
 pub appended : (s s' : List ℕ) (w : Write) (n at : ℕ) → n ≡ accepted_count s → at ≡ write_base n → s' ≡ sets s at (entry_bytes (entry w false))
     → set s' 1 (accepted_count s + 1) ≡ handed s w
 unfolding handed
 appended s s' w n at c p e = rw (e, p, c)
 
-pub ruleset appending = (rules, inside, half-put, write-put, entry-put, appended)
+pub ruleset appending = (rules, write-put, flag-inside, entry-put, appended)

@@ -11,7 +11,6 @@ bounds-state-2 c = search draining
 pub loop-n-init : goal.loop-n-init
 loop-n-init c = search draining
 
-
 pub loop-n-preserved : goal.loop-n-preserved
 loop-n-preserved c = (search draining, search draining, search draining, search draining, search draining, search draining, search draining, search draining)
 
