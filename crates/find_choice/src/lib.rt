@@ -57,9 +57,9 @@ fn rivals(best: Option<u64>, m: u64) -> bool
 
 // The set m in place of the best so far, if it is acyclic and sufficient and has no more rules. A
 // sufficient set with a spare candidate is cyclic or larger than the best so far.
-fn better_of(table: &[u64; SET_WORDS], cands: Rules, m: u64, best: Option<u64>) -> Option<u64>
-    requires { (cands.count ≤ most_candidates) × ((m < candidate_sets) × (best ≡ choice_code (chosen_below (passing table.now (rules_of cands)) m))) }
-    ensures { result ≡ better (passing table.now (rules_of cands)) m best }
+fn better_of(table: &[u64; SET_WORDS], cands: &Rules, m: u64, best: Option<u64>) -> Option<u64>
+    requires { (cands.now.count ≤ most_candidates) × ((m < candidate_sets) × (best ≡ choice_code (chosen_below (passing table.now (rules_of cands.now)) m))) }
+    ensures { result ≡ better (passing table.now (rules_of cands.now)) m best }
 {
     if !rivals(best, m) {
         return best;
@@ -70,7 +70,7 @@ fn better_of(table: &[u64; SET_WORDS], cands: Rules, m: u64, best: Option<u64>) 
     if has_spare(table, m, cands.count) {
         return best;
     }
-    if rule_cycles::is_cyclic(find_sets::pick(cands, m)) {
+    if rule_cycles::is_cyclic(find_sets::pick(*cands, m)) {
         return best;
     }
     Some(m)
@@ -79,13 +79,13 @@ fn better_of(table: &[u64; SET_WORDS], cands: Rules, m: u64, best: Option<u64>) 
 // The best of the sets below `end`, given the best of those below `from`.
 fn best_below(
     table: &[u64; SET_WORDS],
-    cands: Rules,
+    cands: &Rules,
     from: u64,
     end: u64,
     first: Option<u64>,
 ) -> Option<u64>
-    requires { (cands.count ≤ most_candidates) × (((from ≤ end) × (end ≤ candidate_sets)) × (first ≡ choice_code (chosen_below (passing table.now (rules_of cands)) from))) }
-    ensures { result ≡ choice_code (chosen_below (passing table.now (rules_of cands)) end) }
+    requires { (cands.now.count ≤ most_candidates) × (((from ≤ end) × (end ≤ candidate_sets)) × (first ≡ choice_code (chosen_below (passing table.now (rules_of cands.now)) from))) }
+    ensures { result ≡ choice_code (chosen_below (passing table.now (rules_of cands.now)) end) }
 {
     let mut best = first;
     for m in from..end {
@@ -119,7 +119,7 @@ pub fn choose(table: &[u64; SET_WORDS], cands: Rules) -> Option<u64>
             continue;
         }
         let from = word * 64;
-        best = best_below(table, cands, from, total.min(from + 64), best);
+        best = best_below(table, &cands, from, total.min(from + 64), best);
     }
     best
 }

@@ -5,7 +5,7 @@ ghost use Rattle.std.specs.Prelude.{◌≡◌, cond, ◌%◌, ◌^◌, ◌<◌, 
 ghost use Rattle.std.specs.Int.Bits.{bit_and};
 ghost use Rattle.relation.specs.Bits.{bit, mask_of, without};
 ghost use Rattle.relation.specs.Tables.{Blank};
-ghost use Rattle.relation.specs.Finite.{rows_of, closed, has_ring};
+ghost use Rattle.relation.specs.Finite.{related, rows_of, closed, has_ring};
 ghost use Rattle.model.specs.Limits.{most_rules};
 ghost use Rattle.model.specs.Cyclic.{leads, has, equal_leads, meets, cyclic};
 ghost use Rattle.rule_match.specs.Held.{rules_of};
@@ -66,7 +66,7 @@ fn fill(rows: &mut [u64; model::MOST_RULES], rules: &[Rule], among: u64)
 fn bucket(name: u16) -> usize
     ensures { (result ≡ name % 64) × (result < 64) }
 {
-    name as usize % 64
+    usize::from(name) % 64
 }
 
 // The rules by the lowest six bits of their first names.
@@ -165,13 +165,21 @@ fn suspects(rules: &[Rule]) -> u64
     ALL
 }
 
+// Whether rules of a set lead round, with the table of which leads to which.
+fn leads_round(rows: &mut [u64; model::MOST_RULES], rules: &[Rule], among: u64) -> bool
+    requires { length rules.now ≤ most_rules }
+    ensures { take (length rules.now) rows.new ≡ rows_of (linked among rules.now) (length rules.now) × (result ≡ has_ring (related rows.new) (length rules.now)) }
+{
+    fill(rows, rules, among);
+    relation::has_ring(rows, rules.len())
+}
+
 // Whether = rules lead round.
 fn equal_ring(rows: &mut [u64; model::MOST_RULES], rules: &[Rule]) -> bool
     requires { length rules.now ≤ most_rules }
     ensures { result ≡ has_ring (equal_leads rules.now) (length rules.now) }
 {
-    fill(rows, rules, having(rules, 0));
-    relation::has_ring(rows, rules.len())
+    leads_round(rows, rules, having(rules, 0))
 }
 
 // Whether rules lead round by way of a > and a < rule. Where nothing leads round, nothing is closed.
@@ -179,8 +187,7 @@ fn mixed_ring(rows: &mut [u64; model::MOST_RULES], rules: &[Rule]) -> bool
     requires { length rules.now ≤ most_rules }
     ensures { result ≡ meets rules.now (closed (length rules.now) (rows_of (leads rules.now) (length rules.now))) }
 {
-    fill(rows, rules, ALL);
-    if !relation::has_ring(rows, rules.len()) {
+    if !leads_round(rows, rules, ALL) {
         return false;
     }
     relation::close(rows, rules.len());

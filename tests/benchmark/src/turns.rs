@@ -17,7 +17,7 @@ use crate::measure::{medians, Call};
 /// the crate's, and those of the four copies below.
 mod relation {
     pub fn highest(mask: u64) -> usize {
-        63 - u64::leading_zeros(mask) as usize
+        63 - mask.leading_zeros() as usize
     }
 
     pub fn without(mask: u64, other: u64) -> u64 {

@@ -690,7 +690,7 @@ fn the_turns_counted_are_those_of_the_code() {
 fn other_turns_are_noticed() {
     let sources = Sources::load();
     for (name, old, new) in [
-        ("relation", "63 - u64::leading_zeros(mask)", "0 * mask"),
+        ("relation", "63 - mask.leading_zeros()", "0 * mask"),
         ("relation", "mask & !other", "mask & other"),
         (
             "judge_schedules",
@@ -750,14 +750,14 @@ fn other_turns_are_noticed() {
 
 /// What is done once for a file, or once for a test of it, or once for a state, and who does it: each of
 /// these is done once too, up to the routines that nothing of the kit calls.
-const DONE_ONCE: [(&str, &[&str]); 54] = [
+const DONE_ONCE: [(&str, &[&str]); 55] = [
     (
         "read",
         &[
             "file_calls::read_counts",
             "file_calls::locate_test",
             "file_calls::cyclic_rules",
-            "find_call::find",
+            "find_call::find_in",
             "judge_cases::open_file",
             "receiver::pelzhondy_open",
         ],
@@ -832,7 +832,8 @@ const DONE_ONCE: [(&str, &[&str]); 54] = [
     ("mark_test", &["find_table::mark_all"]),
     ("mark_all", &["find_call::choice"]),
     ("choice", &["find_call::find_among"]),
-    ("find_among", &["find_call::find"]),
+    ("find_among", &["find_call::find_in"]),
+    ("find_in", &["find_call::find"]),
     ("find", &["workbench::pelzhondy_find"]),
     ("read_counts", &["workbench::pelzhondy_read"]),
     ("locate_test", &["workbench::pelzhondy_locate"]),
@@ -881,7 +882,7 @@ const FROM_TEST_TO_TEST: [&str; 3] = [
 const OF_OTHER_RULES: [&str; 1] = ["find_choice::better_of"];
 
 /// Calls of others that have the name of one of these.
-const OF_OTHERS: [&str; 3] = ["input.read(", "cache_stores::mark(", "= suspects(rules)"];
+const OF_OTHERS: [&str; 3] = ["input.read(", "cache_stores::mark(", "= suspects(held)"];
 
 /// What is against it that a file is scanned, its rules loaded and asked for rings, a test loaded and
 /// prepared, and a state decoded once: a caller that is not known to, one that does it twice, or in a
@@ -964,13 +965,13 @@ fn decoding_again_is_noticed() {
         ),
         (
             "find_call/src/lib.rt",
-            "let best = choice(",
-            "let rules = file_loading::file_rules(file, 0);\n    let best = choice(",
+            "match choice(",
+            "let rules = file_loading::file_rules(file, 0);\n    match choice(",
         ),
         (
             "find_call/src/lib.rt",
-            "let best = choice(",
-            "let again = find_candidates::collect(file, tests, n);\n    let best = choice(",
+            "match choice(",
+            "let again = find_candidates::collect(file, tests, n);\n    match choice(",
         ),
         (
             "judge_text/src/lib.rt",

@@ -2,11 +2,5 @@
 use Rattle.find_table.proofs.TableSteps.{forbidding}
 use Rattle.find_table.proofs.face.Goals as goal
 
-pub loop-j-init : goal.loop-j-init
-loop-j-init c = search forbidding
-
 pub loop-j-preserved : goal.loop-j-preserved
 loop-j-preserved c = search forbidding
-
-pub returns : goal.returns
-returns c = search forbidding

@@ -16,6 +16,3 @@ pub loop-k-preserved : goal.loop-k-preserved
 loop-k-preserved c =
     let l = c.loop-k in
     forbids-more _ l.k _ _ _ _ l.table _ l.invariant c.face.ensures c.unite.ensures c.unite-in-loop-k.ensures c.widen.ensures
-
-pub returns : goal.returns
-returns c = search forbidding

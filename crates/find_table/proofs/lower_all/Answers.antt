@@ -9,6 +9,3 @@ loop-b-init c = (c.div_ceil-words.ensures ∙ words_are _ c.requires, search low
 
 pub loop-b-preserved : goal.loop-b-preserved
 loop-b-preserved c = search lowering
-
-pub returns : goal.returns
-returns c = search lowering

@@ -2,14 +2,8 @@
 use Rattle.find_table.proofs.TableSteps.{lowering}
 use Rattle.find_table.proofs.lower_within.Goals as goal
 
-pub loop-word-init : goal.loop-word-init
-loop-word-init c = search lowering
-
 pub overflow_shr-word : goal.overflow_shr-word
 overflow_shr-word c = search lowering
 
 pub loop-word-preserved : goal.loop-word-preserved
 loop-word-preserved c = search lowering
-
-pub returns : goal.returns
-returns c = search lowering

@@ -18,6 +18,3 @@ loop-t-preserved c =
     let l = c.loop-t in
     let p = c.requires in
     marking_more _ _ _ _ p.1.0 _ l.t l.table _ l.invariant (search rules) (omega arith) c.mark_test.ensures
-
-pub returns : goal.returns
-returns c = search marking

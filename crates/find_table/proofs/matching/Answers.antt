@@ -6,9 +6,6 @@ use Rattle.find_table.proofs.matching.Goals as goal
 pub loop-c-init : goal.loop-c-init
 loop-c-init c = search forbidding
 
-pub returns : goal.returns
-returns c = search forbidding
-
 pub loop-c-preserved : goal.loop-c-preserved
 loop-c-preserved c =
     let l = c.loop-c in

@@ -10,6 +10,3 @@ overflow_cast-buckets c = search steps
 
 pub loop-j-preserved : goal.loop-j-preserved
 loop-j-preserved c = search steps
-
-pub returns : goal.returns
-returns c = search steps

@@ -7,6 +7,3 @@ loop-i-init c = search steps
 
 pub loop-i-preserved : goal.loop-i-preserved
 loop-i-preserved c = search steps
-
-pub returns : goal.returns
-returns c = search steps

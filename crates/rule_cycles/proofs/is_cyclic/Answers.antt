@@ -2,9 +2,6 @@
 use Rattle.rule_cycles.proofs.CycleSteps.{steps}
 use Rattle.rule_cycles.proofs.is_cyclic.Goals as goal
 
-pub suspects-among-requires : goal.suspects-among-requires
-suspects-among-requires c = search steps
-
 pub returns-then-not-may_ring : goal.returns-then-not-may_ring
 returns-then-not-may_ring c = search steps
 

@@ -2,8 +2,8 @@
 use Rattle.rule_cycles.proofs.CycleSteps.{steps}
 use Rattle.rule_cycles.proofs.mixed_ring.Goals as goal
 
-pub returns-then-not-has_ring : goal.returns-then-not-has_ring
-returns-then-not-has_ring c = search steps
+pub returns-then-not-leads_round : goal.returns-then-not-leads_round
+returns-then-not-leads_round c = search steps
 
 pub returns : goal.returns
 returns c = search steps

@@ -7,6 +7,3 @@ loop-j-init c = search steps
 
 pub loop-j-preserved : goal.loop-j-preserved
 loop-j-preserved c = search steps
-
-pub returns : goal.returns
-returns c = search steps
