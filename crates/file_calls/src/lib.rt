@@ -1,5 +1,5 @@
 // Questions about a file as a whole: how much it holds, where a test stands, whether its rules are
-// cyclic. Every refusal is `refusal number place`.
+// cyclic. Each answers as C is given it, in one number; every refusal is `refusal number place`.
 #![tactic(auto)]
 
 ghost use Rattle.std.specs.Prelude.{◌≡◌};

@@ -8,7 +8,8 @@ ghost use Rattle.file_format.specs.File.{is_rule, is_write, is_check, narrow_rul
 
 use model::{Check, Rule, Write};
 
-// The readers of a rule's body, with names of one byte and of two.
+// The readers of a rule's body, with names of one byte and of two. (One over both would ask for each
+// part's place by the width: no plainer, and a state's rules and writes are read by the wide ones alone.)
 #[tactic(auto, unfolding(file_format::specs::File::narrow_rule))]
 fn read_narrow_rule(body: &[u8]) -> Rule
     requires { length body.now ≡ narrow_rule_length }
@@ -80,7 +81,8 @@ fn read_write(tag: u8, body: &[u8]) -> Write
     read_narrow_write(body)
 }
 
-// Those of a check's.
+// Those of a check's. (By the tags 4, 5 and 6 themselves, which are the kinds: with kind_of an arm stands
+// for the third and for no kind at all, and joins two proofs.)
 #[tactic(auto, unfolding(file_format::specs::File::check_of))]
 fn read_pair(body: &[u8]) -> Check
     requires { length body.now ≡ pair_length }

@@ -85,7 +85,7 @@ pub struct ScanState {
 }
 
 // What a file holds: how many rules, how many tests, and where the tests stand, the first ones of an
-// array.
+// array. (The project has no heap, so the count stands beside it.)
 #[derive(Clone, Copy)]
 pub struct Contents {
     pub rules: usize,

@@ -50,7 +50,8 @@ pub struct Write {
 }
 
 // A rule: writes named `first` depend on writes named `second` whose epochs are so related. (The predicate is
-// of one byte everywhere else. With three numbers of one width there is no gap, and rules are copied as a whole.)
+// of one byte everywhere else. With three numbers of one width there is no gap, and rules are copied as a whole.
+// It is a number, since the theorems speak of rules with any predicate: specs/Rules.antt, Known.)
 #[derive(Clone, Copy)]
 pub struct Rule {
     pub first: u16,
