@@ -36,8 +36,8 @@ fn rule_row(rule: Rule, labels: &[u64; model::MOST_INITIAL], n: usize, one: u64)
         return 0;
     }
     let mut mask: u64 = 0;
-    for j in 0..n {
-        mask = with_match(mask, j, rule, one, labels[j]);
+    for (j, other) in labels[..n].iter().enumerate() {
+        mask = with_match(mask, j, rule, one, *other);
     }
     mask
 }

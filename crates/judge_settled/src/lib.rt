@@ -47,8 +47,8 @@ pub fn fill_writers(writers: &mut [u64; DISK_BLOCKS], stores: &[u64; MOST_INITIA
     requires blank { Blank disk_blocks writers.old }
     ensures { Writers stores.now n writers.new }
 {
-    for i in 0..n {
-        let a = judge_disks::address_of(stores[i]);
+    for (i, store) in stores[..n].iter().enumerate() {
+        let a = judge_disks::address_of(*store);
         writers[a] = relation::with_bit(writers[a], i);
     }
 }
@@ -142,15 +142,6 @@ fn is_value(own: u32, v: u32) -> Answer
     if own == v { Answer::Yes } else { Answer::No }
 }
 
-// The address of the block that a check begins with.
-fn own_block(c: Check) -> usize
-    ensures { (result ≡ own_block c) × (result < disk_blocks) }
-{
-    match c {
-        Check::Range(a) | Check::Pair { a, .. } | Check::Pointer(a) => usize::from(a),
-    }
-}
-
 // A question about a schedule's disk that begins with one block.
 trait Question: Copy {
     ghost begins: { Self → ℕ };
@@ -207,7 +198,9 @@ impl Question for Check {
     ghost by_block = { λ q column base n own s e. check_known column base n q own s e };
 
     fn address(self) -> usize {
-        own_block(self)
+        match self {
+            Check::Range(a) | Check::Pair { a, .. } | Check::Pointer(a) => usize::from(a),
+        }
     }
 
     fn with(self, setting: &Setting<'_>, asked: Between, own: u32) -> Answer {

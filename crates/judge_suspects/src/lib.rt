@@ -60,10 +60,9 @@ fn mark_for(stores: &[u64; MOST_INITIAL], n: usize, c: Check) -> Marks
 {
     let mut own: u64 = 0;
     let mut other: u64 = 0;
-    for i in 0..n {
-        let write = stores[i];
-        own = relation::with_if(own, i, can_open(c, write));
-        other = relation::with_if(other, i, can_spoil(c, write));
+    for (i, write) in stores[..n].iter().enumerate() {
+        own = relation::with_if(own, i, can_open(c, *write));
+        other = relation::with_if(other, i, can_spoil(c, *write));
     }
     Marks { own, other }
 }
