@@ -1,8 +1,9 @@
 // Finding the smallest sufficient rule set. What is right is in specs/.
 #![tactic(auto)]
 
-ghost use Rattle.std.specs.Prelude.{◌≡◌, false, ◌&&◌, ◌+◌, ◌<◌, ◌≤◌, ltb, length};
-ghost use Rattle.model.specs.Limits.{narrow_names, most_tests, most_candidates};
+ghost use Rattle.std.specs.Prelude.{◌≡◌, false, ◌&&◌, ◌+◌, ◌<◌, ◌≤◌, ltb, length, IfErr};
+ghost use Rattle.model.specs.Limits.{narrow_names, words, most_tests, most_candidates};
+ghost use Rattle.model.specs.Answer.{outcome};
 ghost use Rattle.model.specs.Find.{chosen};
 ghost use Rattle.model.specs.Rules.{Known};
 ghost use Rattle.file_format.specs.Bytes.{narrow_rule_bytes, wide_rule_bytes};
@@ -13,10 +14,10 @@ ghost use Rattle.file_reader.specs.Limits.{longest_rule};
 ghost use Rattle.rule_match.specs.Held.{rules_of};
 ghost use Rattle.find_candidates.specs.Tests.{tests_in, too_long};
 ghost use Rattle.find_choice.specs.Choice.{choice_code};
-ghost use Rattle.find_call.specs.Finder.{found_length, long_below, over, find_leaves, found_coded, find_among, find_of};
+ghost use Rattle.find_call.specs.Finder.{found_length, long_below, found, over, find_leaves, found_coded, find_among, find_of};
 
-use file_format::{Extent, Scan};
-use model::Rule;
+use file_format::Extent;
+use model::{Cause, Refusal, Rule};
 use rule_match::Rules;
 
 // The most bytes of a rule's field, and those that a buffer has to have.
@@ -25,23 +26,20 @@ const FIELD_LENGTH: usize = file_format::HEAD_LENGTH + file_format::WIDE_RULE_LE
 const FOUND_LENGTH: usize = model::MOST_CANDIDATES * FIELD_LENGTH;
 
 // Whether one of the first n tests has more main writes than finding takes.
-fn too_long(tests: [Extent; model::MOST_TESTS], n: usize) -> bool
+fn too_long(tests: &[Extent; model::MOST_TESTS], n: usize) -> bool
     requires { n ≤ most_tests }
-    ensures { result ≡ long_below tests n }
+    ensures { result ≡ long_below tests.now n }
 {
-    let mut i: usize = 0;
-    while i < n {
-        let e = tests[i];
-        if model::MOST_FOUND < e.main {
+    for test in &tests[..n] {
+        if model::MOST_FOUND < test.main {
             return true;
         }
-        i += 1;
     }
     false
 }
 
 // The choice among the candidates of a file, none of whose tests is too long.
-fn choice(cands: Rules, file: &[u8], tests: [Extent; model::MOST_TESTS], n: usize) -> u64
+fn choice(cands: Rules, file: &[u8], tests: [Extent; model::MOST_TESTS], n: usize) -> Option<u64>
     requires { (cands.count ≤ most_candidates) × (Placed file.now (tests_in file.now) tests n × (too_long (tests_in file.now) ≡ false)) }
     ensures { result ≡ choice_code (chosen (tests_in file.now) (rules_of cands)) }
 {
@@ -55,10 +53,7 @@ fn choice(cands: Rules, file: &[u8], tests: [Extent; model::MOST_TESTS], n: usiz
 fn is_narrow(rule: Rule) -> bool
     ensures { result ≡ ltb rule.first narrow_names && ltb rule.second narrow_names }
 {
-    if model::NARROW_NAMES <= rule.first {
-        return false;
-    }
-    rule.second < model::NARROW_NAMES
+    rule.first < model::NARROW_NAMES && rule.second < model::NARROW_NAMES
 }
 
 // A rule's field at a place, with names of one byte; answers the next place.
@@ -66,12 +61,16 @@ fn put_narrow_rule(buffer: &mut [u8], at: usize, rule: Rule) -> usize
     requires { (at + longest_rule ≤ length buffer.old) × ((rule.predicate < 256) × ((rule.first < narrow_names) × (rule.second < narrow_names))) }
     ensures { Wrote buffer.old at (field_bytes 3 (narrow_rule_bytes rule)) buffer.new result }
 {
-    let a = file_writing::put(buffer, at, 3);
-    let b = file_writing::put(buffer, a, 0);
-    let c = file_writing::put(buffer, b, file_format::NARROW_RULE_LENGTH_BYTE);
-    let d = file_writing::put(buffer, c, rule.first as u8);
-    let e = file_writing::put(buffer, d, rule.predicate as u8);
-    file_writing::put(buffer, e, rule.second as u8)
+    let length = file_format::NARROW_RULE_LENGTH_BYTE;
+    let field = [
+        3,
+        0,
+        length,
+        rule.first as u8,
+        rule.predicate as u8,
+        rule.second as u8,
+    ];
+    file_writing::put_bytes(buffer, at, &field)
 }
 
 // .., with names of two.
@@ -79,12 +78,10 @@ fn put_wide_rule(buffer: &mut [u8], at: usize, rule: Rule) -> usize
     requires { (at + longest_rule ≤ length buffer.old) × (rule.predicate < 256) }
     ensures { Wrote buffer.old at (field_bytes 10 (wide_rule_bytes rule)) buffer.new result }
 {
-    let a = file_writing::put(buffer, at, 10);
-    let b = file_writing::put(buffer, a, 0);
-    let c = file_writing::put(buffer, b, file_format::WIDE_RULE_LENGTH_BYTE);
-    let d = file_writing::put_half(buffer, c, rule.first);
-    let e = file_writing::put(buffer, d, rule.predicate as u8);
-    file_writing::put_half(buffer, e, rule.second)
+    let a = file_writing::put_bytes(buffer, at, &[10, 0, file_format::WIDE_RULE_LENGTH_BYTE]);
+    let b = file_writing::put_half(buffer, a, rule.first);
+    let c = file_writing::put(buffer, b, rule.predicate as u8);
+    file_writing::put_half(buffer, c, rule.second)
 }
 
 // .., with names of two bytes only where one exceeds 255.
@@ -99,35 +96,58 @@ fn put_rule(buffer: &mut [u8], at: usize, rule: Rule) -> usize
 }
 
 // The rules' fields at the front of a buffer, one behind the other.
-fn put_rules(buffer: &mut [u8], set: Rules)
-    requires { (set.count ≤ most_candidates) × (Known (rules_of set) × (found_length ≤ length buffer.old)) }
-    ensures { buffer.new ≡ over (rule_fields (rules_of set)) buffer.old }
+fn put_rules(buffer: &mut [u8], set: &[Rule])
+    requires { (length set.now ≤ most_candidates) × (Known set.now × (found_length ≤ length buffer.old)) }
+    ensures { buffer.new ≡ over (rule_fields set.now) buffer.old }
 {
     let mut at: usize = 0;
-    let mut i: usize = 0;
-    while i < set.count {
-        at = put_rule(buffer, at, set.items[i]);
-        i += 1;
+    for rule in set {
+        at = put_rule(buffer, at, *rule);
     }
 }
 
-// Finds rules for the tests of a file without rules, none of which is too long: 11, 13, or how many
-// rules stand in the buffer.
-fn find_among(file: &[u8], tests: [Extent; model::MOST_TESTS], n: usize, buffer: &mut [u8]) -> u64
+// Finds rules for the tests of a file without rules, none of which is too long, and answers how many stand
+// in the buffer.
+fn find_among(
+    file: &[u8],
+    tests: [Extent; model::MOST_TESTS],
+    n: usize,
+    buffer: &mut [u8],
+) -> Result<u64, Refusal>
     requires { (Placed file.now (tests_in file.now) tests n × (too_long (tests_in file.now) ≡ false)) × (found_length ≤ length buffer.old) }
-    ensures { find_leaves result buffer.new ≡ found_coded (find_among (tests_in file.now) buffer.old) }
+    ensures leaves { found (outcome result) buffer.new ≡ find_among (tests_in file.now) buffer.old }
+    ensures place { IfErr result (λ why. why.place < words) }
 {
     let cands = find_candidates::collect(file, tests, n);
     if model::MOST_CANDIDATES < cands.count {
-        return model::refuse(11, 0);
+        return Err(Cause::TooManyCandidates.into());
     }
-    let best = choice(cands, file, tests, n);
-    if best == find_choice::NONE {
-        return model::refuse(13, 0);
+    match choice(cands, file, tests, n) {
+        Some(best) => {
+            let set = find_sets::pick(cands, best);
+            put_rules(buffer, &set.items[..set.count]);
+            Ok(set.count as u64)
+        }
+        None => Err(Cause::NoSetDoes.into()),
     }
-    let set = find_sets::pick(cands, best);
-    put_rules(buffer, set);
-    set.count as u64
+}
+
+// The same for a whole file.
+fn find_in(file: &[u8], buffer: &mut [u8]) -> Result<u64, Refusal>
+    ensures leaves { found (outcome result) buffer.new ≡ find_of file.now buffer.old }
+    ensures place { IfErr result (λ why. why.place < words) }
+{
+    let contents = file_reader::read(file)?;
+    if 0 < contents.rules {
+        return Err(Cause::FileHasRules.into());
+    }
+    if too_long(&contents.tests, contents.count) {
+        return Err(Cause::TestTooLong.into());
+    }
+    if buffer.len() < FOUND_LENGTH {
+        return Err(Cause::BufferTooShort.into());
+    }
+    find_among(file, contents.tests, contents.count, buffer)
 }
 
 // Finds the smallest rule set under which all tests of a file hold, writes its rules as fields to
@@ -135,22 +155,5 @@ fn find_among(file: &[u8], tests: [Extent; model::MOST_TESTS], n: usize, buffer:
 pub fn find(file: &[u8], buffer: &mut [u8]) -> u64
     ensures { find_leaves result buffer.new ≡ found_coded (find_of file.now buffer.old) }
 {
-    let read = file_reader::read(file);
-    let tests = read.tests;
-    let scan = read.scan;
-    match scan {
-        Scan::Accepted { rules, tests: n } => {
-            if 0 < rules {
-                return model::refuse(10, 0);
-            }
-            if too_long(tests, n) {
-                return model::refuse(24, 0);
-            }
-            if buffer.len() < FOUND_LENGTH {
-                return model::refuse(12, 0);
-            }
-            find_among(file, tests, n, buffer)
-        }
-        Scan::Refused(why) => model::code_of(why),
-    }
+    model::coded(find_in(file, buffer))
 }

@@ -1,6 +1,5 @@
 -- The code's steps: one law for each return and each turn of a loop, whose premises are what is known at that place.
 use mathlib.Core.Path.{◌≡◌, sym, ap, subst, ◌∙◌}
-use mathlib.Core.Bool.{Bool, true}
 use mathlib.Core.List.{List, [], ◌∷◌}
 use Prim.Native.Nat.{ℕ, suc, ◌+◌, ◌≤◌, ◌<◌}
 use native.Mathlib.Numerals.{add-one}
@@ -8,40 +7,25 @@ use native.Mathlib.Omega.{arith}
 use lib.ListN.{length, get_or, drop, drop_of_length-le}
 use lib.Seq.{drop-cons}
 use borrow.Author.Rules.{rules}
-use borrow.Author.Tests.{eq-eqb, ne_eqb, lt-ltb, le-ltb}
-use Rattle.model.specs.Limits.{most_rules, most_candidates}
+use borrow.Author.Tests.{eq-eqb, ne_eqb}
 use Rattle.model.specs.declared.Rule.{Rule}
 use Rattle.model.specs.Rules.{label}
 use Rattle.model.specs.Test.{Test}
-use Rattle.model.specs.Find.{before, pairing, inserted, from_write, from_trace, candidates_of}
+use Rattle.model.specs.Find.{pairing, inserted, from_write, from_trace, candidates_of}
 use Rattle.file_format.specs.declared.Extent.{Extent}
 use Rattle.file_format.specs.Scan.{test_at}
 use Rattle.file_format.specs.Held.{no_test, extent_of, Inside, Placed}
 use Rattle.rule_match.specs.declared.Rules.{Rules}
-use Rattle.rule_match.specs.Held.{item_at, rules_of}
+use Rattle.rule_match.specs.Held.{rules_of}
 use Rattle.rule_match.proofs.MatchSteps.{length_mapped}
 use Rattle.judge_disks.specs.Packed.{labelled, Labels}
 use Rattle.judge_loading.specs.declared.Loaded.{Loaded}
 use Rattle.judge_loading.specs.Loaded.{LoadsTest}
-use Rattle.find_sets.specs.Kept.{place_of, Keeps, Follows}
+use Rattle.find_sets.specs.Kept.{Keeps, Follows}
 use Rattle.find_sets.proofs.KeepLaws.{keeps-all}
-use Rattle.find_sets.proofs.RuleSteps.{place-begun, place-more, insert-held}
 use Rattle.find_candidates.specs.Tests.{paired, Pairs, Traces, tests_in}
 
--- ---- pairing, rule_of
-
-module _ (n t m u : ℕ) where
-  pub pairing-equal : t ≡ u → record { first = n; predicate = 0; second = m } ≡ pairing (label n t) (label m u)
-  unfolding pairing
-  pairing-equal e = rw (eq-eqb t u e)
-
-  pub pairing_greater : (t ≡ u → ⊥) → u < t → record { first = n; predicate = 1; second = m } ≡ pairing (label n t) (label m u)
-  unfolding pairing
-  pairing_greater d h = rw (ne_eqb t u d, lt-ltb u t h)
-
-  pub pairing_less : (t ≡ u → ⊥) → t ≤ u → record { first = n; predicate = 2; second = m } ≡ pairing (label n t) (label m u)
-  unfolding pairing
-  pairing_less d h = rw (ne_eqb t u d, le-ltb u t h)
+-- ---- rule_of
 
 -- the rule of two labels, by their parts
 pub rule_made : (one other : ℕ) (r : Rule) (n t m u : ℕ) → n ≡ (labelled one).name → t ≡ (labelled one).epoch → m ≡ (labelled other).name → u ≡ (labelled other).epoch
@@ -61,12 +45,6 @@ module _ (i j one other : ℕ) (c : Rules) where
 
 -- ---- from_write, from_trace
 
--- one more rule that comes before
-pub place-passed : (rule : Rule) (c : Rules) (k : ℕ) → length c.items ≡ most_rules → c.count ≤ most_candidates + 1
-    → k + place_of rule (drop k (rules_of c)) ≡ place_of rule (rules_of c) → (b : Bool) → k < c.count → b ≡ before (item_at c k) rule → b ≡ true
-    → k + 1 + place_of rule (drop (k + 1) (rules_of c)) ≡ place_of rule (rules_of c)
-place-passed rule c k all few inv b h e t = place-more rule c k all (omega arith) inv b h e (rw t)
-
 module _ (column : List ℕ) (n : ℕ) (c : Rules) where
   pub write-begun : (i : ℕ) → Pairs column n i 0 c c
   unfolding from_write
@@ -82,11 +60,6 @@ module _ (column : List ℕ) (n : ℕ) (c : Rules) where
               rw (add-one j, ← l i (omega arith), ← l j (omega arith)) (g.keeps _ ((f.follows ws z l).keeps x k));
         };
       }
-
-  -- the same behind a search that left j as it was
-  pub write_on : (i j k : ℕ) (d e : Rules) → k ≡ j → i < n → j < n → Pairs column n i j c d
-      → Follows (paired i j (labelled (get_or column i 0)) (labelled (get_or column j 0))) d e → Pairs column n i (k + 1) c e
-  write_on i j k d e q hi hj f g = rw q (write-more i j d e hi hj f g)
 
   pub write_done : (i j : ℕ) (d : Rules) → j ≤ n → n ≤ j → Pairs column n i j c d → Pairs column n i n c d
   write_done i j d h l f = let z : j ≡ n = omega arith in subst (λ (x : ℕ). Pairs column n i x c d) z f
@@ -134,4 +107,4 @@ module _ (s : List ℕ) (extents : List Extent) (many : ℕ) (placed : Placed s 
 pub collect-done : (s : List ℕ) (t : ℕ) (c : Rules) → t ≤ 0 → Gathered s t c → Keeps (candidates_of (tests_in s)) c
 collect-done s t c h k = let z : t ≡ 0 = omega arith in subst (λ (n : ℕ). Keeps (candidates_of (drop n (tests_in s))) c) z k.keeps
 
-pub ruleset steps = (rules, length_mapped, pairing-equal, pairing_greater, pairing_less, rule_made, paired_self, paired-other, place-begun, place-passed, insert-held, write-begun, write-more, write_done, trace-begun, trace-more, trace-done, collect-begun, test-inside, collect-more, collect-done)
+pub ruleset steps = (rules, length_mapped, rule_made, paired_self, paired-other, write-begun, write-more, write_done, trace-begun, trace-more, trace-done, collect-begun, test-inside, collect-more, collect-done)

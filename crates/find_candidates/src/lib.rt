@@ -13,28 +13,21 @@ ghost use Rattle.find_candidates.specs.Tests.{Pairs, Traces, tests_in};
 use file_format::Extent;
 use model::Rule;
 use rule_match::Rules;
+use std::cmp::Ordering;
 
 // The one rule that matches the labels (n, t) and (m, u).
+#[tactic(auto, unfolding(model::specs::Find::pairing))]
 fn pairing(n: u16, t: u32, m: u16, u: u32) -> Rule
     ensures { result ≡ pairing (label n t) (label m u) }
 {
-    if t == u {
-        return Rule {
-            first: n,
-            predicate: 0,
-            second: m,
-        };
-    }
-    if u < t {
-        return Rule {
-            first: n,
-            predicate: 1,
-            second: m,
-        };
-    }
+    let predicate = match t.cmp(&u) {
+        Ordering::Equal => 0,
+        Ordering::Greater => 1,
+        Ordering::Less => 2,
+    };
     Rule {
         first: n,
-        predicate: 2,
+        predicate,
         second: m,
     }
 }
@@ -50,51 +43,28 @@ fn rule_of(one: u64, other: u64) -> Rule
     pairing(n, t, m, u)
 }
 
-// The candidates from write i to the n writes with these labels. (Most rules are held already. The search for
-// them stands here, and in no function of its own, so that the rules are not copied for each two writes.)
-fn from_write(c: Rules, labels: &[u64; model::MOST_INITIAL], n: usize, i: usize) -> Rules
-    requires { (c.count ≤ most_candidates + 1) × ((n ≤ most_initial) × (i < n)) }
-    ensures { (result.count ≤ most_candidates + 1) × Pairs labels.now n i n c result }
+// The candidates from write i to the n writes with these labels.
+fn from_write(c: &mut Rules, labels: &[u64; model::MOST_INITIAL], n: usize, i: usize)
+    requires { (c.old.count ≤ most_candidates + 1) × ((n ≤ most_initial) × (i < n)) }
+    ensures { (c.new.count ≤ most_candidates + 1) × Pairs labels.now n i n c.old c.new }
 {
     let one = labels[i];
-    let mut out = c;
-    let mut j: usize = 0;
-    'writes: while j < n {
+    for j in 0..n {
         if i == j {
-            j += 1;
-            continue 'writes;
+            continue;
         }
-        let rule = rule_of(one, labels[j]);
-        let mut k: usize = 0;
-        'held: while k < out.count {
-            if find_sets::comes_before(out.items[k], rule) {
-                k += 1;
-                continue 'held;
-            }
-            if find_sets::comes_before(rule, out.items[k]) {
-                break 'held;
-            }
-            j += 1;
-            continue 'writes;
-        }
-        out = find_sets::insert(out, rule);
-        j += 1;
+        find_sets::insert(c, rule_of(one, labels[j]));
     }
-    out
 }
 
 // The candidates of the n writes with these labels.
-fn from_trace(c: Rules, labels: &[u64; model::MOST_INITIAL], n: usize) -> Rules
-    requires { (c.count ≤ most_candidates + 1) × (n ≤ most_initial) }
-    ensures { (result.count ≤ most_candidates + 1) × Traces labels.now n n c result }
+fn from_trace(c: &mut Rules, labels: &[u64; model::MOST_INITIAL], n: usize)
+    requires { (c.old.count ≤ most_candidates + 1) × (n ≤ most_initial) }
+    ensures { (c.new.count ≤ most_candidates + 1) × Traces labels.now n n c.old c.new }
 {
-    let mut out = c;
-    let mut i: usize = 0;
-    while i < n {
-        out = from_write(out, labels, n, i);
-        i += 1;
+    for i in 0..n {
+        from_write(c, labels, n, i);
     }
-    out
 }
 
 // The candidates of a file's tests; more than there may be, if there are more.
@@ -103,12 +73,9 @@ pub fn collect(file: &[u8], tests: [Extent; model::MOST_TESTS], n: usize) -> Rul
     ensures { Keeps (candidates_of (tests_in file.now)) result }
 {
     let mut out = rule_match::none();
-    let mut t: usize = n;
-    while 0 < t {
-        t -= 1;
+    for t in (0..n).rev() {
         let test = judge_loading::load_test(file, tests[t]);
-        let labels = test.labels;
-        out = from_trace(out, &labels, test.main);
+        from_trace(&mut out, &test.labels, test.main);
     }
     out
 }

@@ -2,8 +2,8 @@
 use borrow.Author.Rules.{rules}
 use Rattle.rule_match.proofs.MatchSteps.{length_mapped}
 use Rattle.find_table.proofs.ForbidLaws.{power, power_most}
-use Rattle.find_choice.proofs.ChoiceLaws.{marked-is, hopeless_more, hopeless_full, least_first, least-second, word_past, word_to, word-most, word-few, word_less, word_hopeless, better-more, better-marked, better-cyclic, better_yes, spare-not, spare-within, spare-is, spares_begun, spares_more, spares_found, spares_done, better-spare, chosen-begun, chosen_more, chosen_end, chosen-done, choice-is}
+use Rattle.find_choice.proofs.ChoiceLaws.{marked-is, hopeless_more, hopeless_full, word-from, word-most, word-fits, word-small, word-small_yet, word-start, word-done, word_hopeless, rivals-some, rivals-none, better-more, better-marked, better-cyclic, better_yes, spare-not, spare-within, spare-is, spares_begun, spares_more, spares_found, spares_done, better-spare, chosen-begun, chosen_more, chosen_end, chosen-done, choice-is}
 
-pub ruleset choosing = (rules, length_mapped, power, power_most, better-more, better-marked, better-spare, better-cyclic, better_yes, hopeless_more, hopeless_full, least_first, least-second, word_past, word_to, word-most, word-few, word_less, word_hopeless, chosen-begun, chosen_more, chosen_end, chosen-done, choice-is)
+pub ruleset choosing = (rules, length_mapped, power, power_most, better-more, better-marked, better-spare, better-cyclic, better_yes, hopeless_more, hopeless_full, word-from, word-most, word-fits, word-small, word-small_yet, word-start, word-done, word_hopeless, rivals-some, rivals-none, chosen-begun, chosen_more, chosen_end, chosen-done, choice-is)
 
 pub ruleset sparing = (rules, power, power_most, marked-is, spare-not, spare-within, spare-is, spares_begun, spares_more, spares_found, spares_done)

@@ -1,16 +1,19 @@
 -- The steps of rules held in order, in the terms of the code.
 use mathlib.Core.Path.{◌≡◌, refl, sym, ap, ◌∙◌}
-use mathlib.Core.Bool.{Bool, true, false, cond, not}
-use mathlib.Core.List.{List, [], ◌∷◌, ◌++◌, append-nil}
-use Prim.Native.Nat.{ℕ, suc, ◌+◌, ◌≤◌, ◌<◌}
+use mathlib.Core.Bool.{Bool, true, false, cond}
+use mathlib.Core.List.{List, [], ◌∷◌, ◌++◌, append-nil, append_assoc}
+use Prim.Native.Nat.{ℕ, suc, ◌+◌, ◌-◌, ◌≤◌, ◌<◌}
 use native.Mathlib.Nat.{add-zero}
 use native.Mathlib.Numerals.{add-one}
 use native.Mathlib.Omega.{arith}
-use lib.Dec.{leb}
-use lib.ListN.{length, get_or, take, drop, set, drop_of_length-le}
-use lib.Seq.{length-take-le, get_or-take, take-suc, take-set-le, take-suc-set, take-take, drop-cons, append_snoc}
+use lib.ListN.{length, length-append, get_or, take, drop, set, drop_of_length-le}
+use Rattle.std.specs.List.{prefix_len, take_while}
+use Rattle.std.proofs.lemmas.List.Folds.{length-prefix_len}
+use Rattle.std.proofs.Common.{length-drop}
+use Rattle.std.proofs.lemmas.List.{drop-take, drop-append-le, take_at, drop_at}
+use Rattle.std.specs.Int.{from_bool}
+use lib.Seq.{length-take-le, take_all, take-append-le, get_or-take, take-suc, take-set-le, take-suc-set, take-take, drop-cons}
 use borrow.Author.Rules.{rules}
-use borrow.Author.Tests.{leb-true, leb-false, not-true, not-false}
 use Rattle.relation.specs.Bits.{bit}
 use Rattle.model.specs.Limits.{most_rules, most_candidates}
 use Rattle.model.specs.declared.Rule.{Rule}
@@ -48,50 +51,53 @@ pushed l n rule all h = rw (add-one n) (take-suc-set l n rule (omega arith))
 
 -- ---- place
 
-module _ (rule : Rule) (c : Rules) where
-  pub place-begun : 0 + place_of rule (drop 0 (rules_of c)) ≡ place_of rule (rules_of c)
-  place-begun = omega arith
+place-is : (r : Rule) (l : List Rule) → prefix_len (λ q. before q r) l ≡ place_of r l
+unfolding place_of
+place-is r [] = refl
+place-is r (q ∷ qs) = go (before q r) (place-is r qs)
+  where
+    go : (b : Bool) → prefix_len (λ q. before q r) qs ≡ place_of r qs → cond b (1 + prefix_len (λ q. before q r) qs) 0 ≡ cond b (suc (place_of r qs)) 0
+    go true e = omega arith
+    go false e = refl
 
-  module _ (k : ℕ) (all : length c.items ≡ most_rules) (few : c.count ≤ most_rules) (inv : k + place_of rule (drop k (rules_of c)) ≡ place_of rule (rules_of c)) where
-    pub place_stop : (b : Bool) → k < c.count → b ≡ before (item_at c k) rule → not b ≡ true → k ≡ place_of rule (rules_of c)
-    unfolding place_of
-    place_stop b h e n =
-        let z : place_of rule (drop k (rules_of c)) ≡ 0 = rw (held-from c all few k h, ← e, not-true b n) in
-        omega arith
-
-    pub place-more : (b : Bool) → k < c.count → b ≡ before (item_at c k) rule → not b ≡ false
-        → k + 1 + place_of rule (drop (k + 1) (rules_of c)) ≡ place_of rule (rules_of c)
-    unfolding place_of
-    place-more b h e n =
-        let z : place_of rule (drop k (rules_of c)) ≡ suc (place_of rule (drop (suc k) (rules_of c))) = rw (held-from c all few k h, ← e, not-false b n) in
-        rw (add-one k) (omega arith)
-
-    pub place_end : c.count ≤ k → k ≡ place_of rule (rules_of c)
-    unfolding place_of
-    place_end h =
-        let z : place_of rule (drop k (rules_of c)) ≡ 0 = rw (held_end c all few k h) in
-        omega arith
+pub place-counted : (r : Rule) (l : List Rule) (k : ℕ) → k ≡ length (take_while (λ q. before q r) l) → k ≡ place_of r l
+place-counted r l k e = e ∙ length-prefix_len (λ q. before q r) l ∙ place-is r l
 
 -- ---- splice
 
 abbrev pub behind : Rules → ℕ → Rule → List Rule
 behind c k rule = take k (rules_of c) ++ (rule ∷ drop k (rules_of c))
 
--- from the array that the rule was put into on, what is written and the rules still to come stay the same
-module _ (c : Rules) (k : ℕ) (start : List Rule) where
-  module _ (items : List Rule) (i : ℕ) (all : length c.items ≡ most_rules) (few : c.count < most_rules)
-      (inv : take (i + 1) items ++ drop i (rules_of c) ≡ take (k + 1) start ++ drop k (rules_of c)) where
-    pub splice-more : length items ≡ most_rules → i < c.count
-        → take (i + 1 + 1) (set items (i + 1) (item_at c i)) ++ drop (i + 1) (rules_of c) ≡ take (k + 1) start ++ drop k (rules_of c)
-    splice-more long h =
-        rw (pushed items (i + 1) (item_at c i) long (omega arith))
-        (append_snoc (take (i + 1) items) (item_at c i) (drop (i + 1) (rules_of c))
-        ∙ ap (λ (l : List Rule). take (i + 1) items ++ l) (rw (add-one i) (sym (held-from c all (omega arith) i h))) ∙ inv)
+module _ (c : Rules) (k : ℕ) (rule : Rule) where
+  behind-length : length c.items ≡ most_rules → c.count < most_rules → k ≤ c.count → length (behind c k rule) ≡ c.count + 1
+  behind-length all few h =
+      let n = held-length c all (omega arith) in
+      let a = length-append (take k (rules_of c)) (rule ∷ drop k (rules_of c)) in
+      let t : length (take k (rules_of c)) ≡ k = length-take-le k (rules_of c) (omega arith) in
+      let d = length-drop k (rules_of c) in
+      omega arith
 
-    pub splice-done : (rule : Rule) → k ≤ c.count → c.count ≤ i → start ≡ set c.items k rule → take (i + 1) items ≡ behind c k rule
-    splice-done rule l h e =
-        sym (append-nil (take (i + 1) items)) ∙ ap (λ (l : List Rule). take (i + 1) items ++ l) (sym (held_end c all (omega arith) i h)) ∙ inv
-        ∙ rw (e, pushed c.items k rule all (omega arith), take-take k c.count c.items l) (append_snoc (take k c.items) rule (drop k (rules_of c)))
+  -- a rule put behind all, and turned round with those from place k on
+  pub spliced : (part turned rest : List Rule) → length c.items ≡ most_rules → c.count < most_rules → k ≤ c.count
+      → part ≡ take (c.count + 1 - k) (drop k (set c.items c.count rule)) → turned ≡ drop (length part - 1) part ++ take (length part - 1) part
+      → take (c.count + 1) (take k (set c.items c.count rule) ++ (turned ++ rest)) ≡ behind c k rule
+  spliced part turned rest all few h e q =
+      let held = rules_of c in
+      let n = behind-length all few h in
+      let size = held-length c all (omega arith) in
+      let tail = drop k held in
+      let z : k + (c.count + 1 - k) ≡ c.count + 1 = omega arith in
+      let part-is : part ≡ tail ++ (rule ∷ [])
+      = e ∙ sym (drop-take k (c.count + 1 - k) (set c.items c.count rule)) ∙ ap (λ (n : ℕ). drop k (take n (set c.items c.count rule))) z
+        ∙ ap (drop k) (pushed c.items c.count rule all few) ∙ drop-append-le k held (rule ∷ []) (omega arith) in
+      let last : length part - 1 ≡ length tail = rw part-is (omega (arith, length-append tail (rule ∷ []))) in
+      let turned-is : turned ≡ rule ∷ tail
+      = q ∙ rw (last, part-is, drop_at tail (rule ∷ []) (length tail) refl, take_at tail (rule ∷ []) (length tail) refl) in
+      let front : take k (set c.items c.count rule) ≡ take k held
+      = take-set-le k c.items c.count rule h ∙ sym (take-take k c.count c.items h) in
+      let whole : take k (set c.items c.count rule) ++ (turned ++ rest) ≡ behind c k rule ++ rest
+      = rw (front, turned-is) (sym (append_assoc (take k held) (rule ∷ tail) rest)) in
+      rw (whole, take-append-le (c.count + 1) (behind c k rule) rest (omega arith)) (take_all (c.count + 1) (behind c k rule) (omega arith))
 
 -- ---- insert
 
@@ -107,21 +113,11 @@ module _ (rule : Rule) (c : Rules) (k : ℕ) (short : c.count ≤ most_candidate
     pub insert-none : b ≡ false → Follows (inserted rule) c c
     insert-none f = follows_same rule blank c short k p h (ap (before rule) (held_at c all (omega arith) k h) ∙ sym q ∙ f)
 
--- a rule that stands at its place is held already, and so are more rules than there may be candidates
-pub insert-held : (rule : Rule) (c : Rules) (k : ℕ) (a b : Bool) → length c.items ≡ most_rules → c.count ≤ most_candidates + 1 → k < c.count
-    → k + place_of rule (drop k (rules_of c)) ≡ place_of rule (rules_of c) → a ≡ before (item_at c k) rule → a ≡ false → b ≡ before rule (item_at c k) → b ≡ false
-    → Follows (inserted rule) c c
-insert-held rule c k a b all few h inv p x q y = go (leb c.count most_candidates) refl
-  where
-    go : (short : Bool) → leb c.count most_candidates ≡ short → Follows (inserted rule) c c
-    go true e = insert-none rule c k (leb-true c.count most_candidates e) (place_stop rule c k all (omega arith) inv a h p (rw x)) b all h q y
-    go false e = follows-over rule c few (leb-false c.count most_candidates e)
-
 -- ---- pick
 
 -- a rule written behind the first n, and counted or not
 written : (items : List Rule) (n : ℕ) (rule : Rule) (b : Bool) → length items ≡ most_rules → n < most_rules
-    → take (n + cond b 1 0) (set items n rule) ≡ take n items ++ cond b (rule ∷ []) []
+    → take (n + from_bool b) (set items n rule) ≡ take n items ++ cond b (rule ∷ []) []
 written items n rule true all h = pushed items n rule all h
 written items n rule false all h = rw (add-zero n, append-nil (take n items)) (take-set-le n items n rule (omega arith))
 
@@ -130,13 +126,15 @@ module _ (c : Rules) (m : ℕ) where
   unfolding picked
   pick-begun items = refl
 
-  pub pick_more : (items : List Rule) (n i d : ℕ) → length c.items ≡ most_rules → length items ≡ most_rules → c.count ≤ most_rules → i < c.count → n ≤ i
-      → take n items ≡ picked (take i c.items) m → d ≡ cond (bit m i) 1 0 → take (n + d) (set items n (item_at c i)) ≡ picked (take (i + 1) c.items) m
-  pick_more items n i d all long few h l p q =
+  pub pick_more : (items : List Rule) (n i d : ℕ) (b : Bool) → length c.items ≡ most_rules → length items ≡ most_rules → c.count ≤ most_rules → i < length (take c.count c.items) → n ≤ i
+      → take n items ≡ picked (take i c.items) m → b ≡ bit m i → d ≡ from_bool b → take (n + d) (set items n (get_or (take c.count c.items) i blank)) ≡ picked (take (i + 1) c.items) m
+  pick_more items n i d b all long few h l p e q =
+      let h : i < c.count = omega (arith, held-length c all few) in
       let z : length (take i c.items) ≡ i = length-take-le i c.items (omega arith) in
-      rw (q, written items n (item_at c i) (bit m i) long (omega arith), add-one i, take-suc c.items i blank (omega arith), picked_snoc (take i c.items) (item_at c i) m, z, p)
+      rw (held_at c all few i h, q, e, written items n (item_at c i) (bit m i) long (omega arith), add-one i, take-suc c.items i blank (omega arith), picked_snoc (take i c.items) (item_at c i) m, z, p)
 
-  pub pick-done : (items : List Rule) (n i : ℕ) → i ≤ c.count → c.count ≤ i → take n items ≡ picked (take i c.items) m → take n items ≡ picked (rules_of c) m
-  pick-done items n i h l e = let z : i ≡ c.count = omega arith in rw z at e
+  pub pick-done : (items : List Rule) (n i : ℕ) → length c.items ≡ most_rules → c.count ≤ most_rules → i ≤ length (take c.count c.items) → length (take c.count c.items) ≤ i
+      → take n items ≡ picked (take i c.items) m → take n items ≡ picked (rules_of c) m
+  pick-done items n i all few h l e = let z : i ≡ c.count = omega (arith, held-length c all few) in rw z at e
 
-pub ruleset ordering = (rules, length_mapped, follows-over, place-begun, place_stop, place-more, place_end, splice-more, splice-done, insert-last, insert-between, insert-none, pick-begun, pick_more, pick-done)
+pub ruleset ordering = (rules, length_mapped, follows-over, place-counted, spliced, insert-last, insert-between, insert-none, pick-begun, pick_more, pick-done)

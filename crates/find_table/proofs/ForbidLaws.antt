@@ -11,7 +11,7 @@ use lib.Bits.{bit_or, or_lt}
 use lib.Dec.{ltb}
 use lib.ListN.{length, get_or, set, length-set}
 use lib.Pow.{pow_mono, pow_pos}
-use lib.Seq.{get_or-set_same, get_or-set_other, get_or-take}
+use lib.Seq.{get_or-set_same, get_or-set_other}
 use borrow.Author.Tests.{ltb-true, ltb-false, lt-ltb}
 use Rattle.relation.specs.Bits.{bit, with_bit, mask_of}
 use Rattle.relation.specs.Lists.{all_below, any_below, any}
@@ -26,8 +26,6 @@ use Rattle.model.specs.declared.Write.{Write}
 use Rattle.model.specs.Rules.{Label, label, matches, depends_on}
 use Rattle.model.specs.Cyclic.{no_rule, rule_at}
 use Rattle.model.specs.Schedule.{label_at, valid}
-use Rattle.rule_match.specs.declared.Rules.{Rules}
-use Rattle.rule_match.specs.Held.{rules_of, item_at}
 use Rattle.judge_disks.specs.Packed.{labelled, Labels}
 use Rattle.find_laws.specs.Hit.{allows}
 use Rattle.find_table.specs.Table.{half_schedules, matching, pairs, Facing, unflagged, forbids, Forbids, Widened, Sets, Bounded, set_of}
@@ -70,13 +68,12 @@ pub matching-none : (cs : List Rule) (l m : Label) → 0 ≡ matching cs l m 0
 unfolding matching mask_of
 matching-none cs l m = refl
 
-pub matching-more : (cands : Rules) (one other c mask next n t m u : ℕ) (b : Bool) → mask ≡ matching (rules_of cands) (labelled one) (labelled other) c → c < cands.count
+pub matching-more : (cs : List Rule) (one other c mask next n t m u : ℕ) (b : Bool) → mask ≡ matching cs (labelled one) (labelled other) c
     → n ≡ (labelled one).name → t ≡ (labelled one).epoch → m ≡ (labelled other).name → u ≡ (labelled other).epoch
-    → b ≡ matches (item_at cands c) (label n t) (label m u) → next ≡ cond b (with_bit mask c) mask
-    → next ≡ matching (rules_of cands) (labelled one) (labelled other) (c + 1)
+    → b ≡ matches (get_or cs c (record { first = 0; predicate = 0; second = 0 })) (label n t) (label m u) → next ≡ cond b (with_bit mask c) mask
+    → next ≡ matching cs (labelled one) (labelled other) (c + 1)
 unfolding matching mask_of labelled no_rule
-matching-more cands one other c mask next n t m u b k h en et em eu e q =
-    q ∙ rw (add-one c, k, e, en, et, em, eu, ← get_or-take cands.count cands.items c (record { first = 0; predicate = 0; second = 0 }) h)
+matching-more cs one other c mask next n t m u b k en et em eu e q = q ∙ rw (add-one c, k, e, en, et, em, eu)
 
 pub matching-all : (cs : List Rule) (l m : Label) (c n mask : ℕ) → mask ≡ matching cs l m c → c ≤ n → n ≤ c → mask ≡ matching cs l m n
 matching-all cs l m c n mask k h g = let z : c ≡ n = omega arith in rw z at k
@@ -120,9 +117,9 @@ module _ (outs backs : List ℕ) (k : ℕ) (old : List ℕ) where
   pub widened_none : Widened outs backs k old old 0
   widened_none = record { without = λ s h. absurd (omega arith); rest = λ s h l. refl; with_it = λ s h. absurd (omega arith) }
 
-  pub widened_more : (new : List ℕ) (size s : ℕ) → Widened outs backs k old new s → size ≡ 2 ^ k → s ≤ size → (s ≡ size → ⊥) → size ≤ half_schedules → length new ≡ found_schedules
+  pub widened_more : (new : List ℕ) (size s : ℕ) → Widened outs backs k old new s → size ≡ 2 ^ k → s < size → size ≤ half_schedules → length new ≡ found_schedules
       → Widened outs backs k old (set (set new (size + s) (bit_or (get_or new s 0) (get_or outs (size - 1 - s) 0))) s (bit_or (get_or new s 0) (get_or backs s 0))) (s + 1)
-  widened_more new size s w e h d m l =
+  widened_more new size s w e h m l =
       record {
         without = λ x i. ⊎_elim
             (λ (z : x ≡ s). rw z (get_or-set_same mid s b 0 (let n = length-set new (size + s) a in omega arith) ∙ ap (λ (y : ℕ). bit_or y (get_or backs s 0)) was))
@@ -150,8 +147,8 @@ module _ (outs backs : List ℕ) (k : ℕ) (old : List ℕ) where
       other : (x : ℕ) → (x ≡ s → ⊥) → (x ≡ size + s → ⊥) → get_or (set mid s b) x 0 ≡ get_or new x 0
       other x p q = get_or-set_other mid s x b 0 p ∙ get_or-set_other new (size + s) x a 0 q
 
-  pub widened-all : (new : List ℕ) (size s : ℕ) → Widened outs backs k old new s → size ≡ 2 ^ k → s ≡ size → Widened outs backs k old new (2 ^ k)
-  widened-all new size s w e h = subst (Widened outs backs k old new) (h ∙ e) w
+  pub widened-all : (new : List ℕ) (size s : ℕ) → Widened outs backs k old new s → size ≡ 2 ^ k → s ≤ size → size ≤ s → Widened outs backs k old new (2 ^ k)
+  widened-all new size s w e h g = let z : s ≡ 2 ^ k = omega arith in subst (Widened outs backs k old new) z w
 
 -- ---- forbid
 

@@ -2,28 +2,32 @@
 use mathlib.Core.Path.{◌≡◌, refl, sym, ap, ap₂, subst, ◌∙◌}
 use mathlib.Core.Logic.{◌⊎◌, inl, inr, ⊎_elim}
 use mathlib.Core.Bool.{Bool, true, false, cond, not, and-false, and-true, or-false, ◌&&◌, ◌||◌, false≢true}
-use mathlib.Core.List.{List, ◌∷◌}
+use mathlib.Core.List.{List, [], ◌∷◌, ◌++◌}
 use Prim.Native.Nat.{ℕ, zero, suc, ◌+◌, ◌-◌, ◌*◌, ◌/◌, ◌%◌, ◌^◌, ◌≤◌, ◌<◌}
-use native.Mathlib.Nat.{mod-lt, mul-zero, add-zero, zero-add, mul-suc, mul_comm, add_comm}
+use native.Mathlib.Nat.{mod-lt, zero-add, mul_comm, add_comm}
 use native.Mathlib.Numerals.{add-one}
 use native.Mathlib.Omega.{arith}
 use lib.Bits.{bit_and, bit_or}
 use lib.Dec.{eqb, ltb, lit<}
-use lib.ListN.{length, get_or, take, drop, set, length-set, drop_of_length-le}
+use Rattle.std.specs.Int.{div_ceil}
+use lib.ListN.{length, length-append, get_or, take, drop, set, length-set, drop_of_length-le}
 use lib.Pow.{pow-lt, pow_mono, pow-add, pow_pos, split, shr_lt}
-use lib.Seq.{get_or-set_same, get_or-set_other, drop-cons, length-take-le}
-use borrow.Author.Tests.{eq-eqb, ne_eqb, eqb-true, eqb-false, lt-ltb, ltb-false}
+use lib.Seq.{get_or-set_same, get_or-set_other, drop-cons, length-take-le, take-suc, take_all}
+use Rattle.std.proofs.Common.{take-append-drop}
+use Rattle.std.proofs.lemmas.List.{get_or_append_left}
+use lib.Seq.{set-append_left}
+use borrow.Author.Tests.{not-true, not-false, eq-eqb, ne_eqb, eqb-true, eqb-false, lt-ltb, ltb-false}
 use Rattle.relation.specs.Bits.{bit, with_bit, mask_of}
-use Rattle.relation.specs.Lists.{any}
+use Rattle.relation.specs.Lists.{any, all}
 use Rattle.relation.specs.Tables.{Blank}
 use Rattle.relation.proofs.BitLaws.{power_is, bit-zero, bit-or, bit-and, bit_with, bit_mask, bit_mod, bit_shift, with_below, with_most, parts_below}
-use Rattle.relation.proofs.ListLaws.{below_suc, bool_equal, or_cases, or_left, or_right, and_left, and_right, and_intro, any_below-true, any_below_intro, any_false, index_mem}
+use Rattle.relation.proofs.ListLaws.{below_suc, bool_equal, or_cases, or_left, or_right, and_left, and_right, and_intro, any_below-true, any_below_intro, any_false, index_mem, all_append}
 use Rattle.model.specs.Limits.{most_rules, most_tests, most_candidates, candidate_sets, most_found, found_schedules}
 use Rattle.model.specs.declared.Rule.{Rule}
 use Rattle.model.specs.declared.Write.{Write}
 use Rattle.model.specs.declared.Check.{Check}
 use Rattle.model.specs.Schedule.{run}
-use Rattle.model.specs.Check.{consistent}
+use Rattle.model.specs.Check.{holds, consistent}
 use Rattle.model.specs.Test.{Test, initial_disk}
 use Rattle.file_format.specs.declared.Extent.{Extent}
 use Rattle.file_format.specs.Scan.{test_at}
@@ -76,6 +80,30 @@ mark_set l y x h = go (eqb (x / 64) (y / 64)) refl
         let n : y ≡ x → ⊥ = λ (z : y ≡ x). d (omega arith) in
         rw (get_or-set_other l (y / 64) (x / 64) w 0 d, ne_eqb y x n)
 
+-- ---- checks asked one by one
+
+module _ (d : List ℕ) (cs : List Check) where
+  pub held_none : consistent (take 0 cs) d ≡ true
+  unfolding consistent all
+  held_none = refl
+
+  pub held_all : (i : ℕ) → length cs ≤ i → consistent (take i cs) d ≡ true → true ≡ consistent cs d
+  held_all i h e = sym e ∙ ap (λ (l : List Check). consistent l d) (take_all i cs h)
+
+  module _ (z : Check) (i : ℕ) (b : Bool) (h : i < length cs) (e : b ≡ holds d (get_or cs i z)) where
+    pub held_more : consistent (take i cs) d ≡ true → not b ≡ false → consistent (take (i + 1) cs) d ≡ true
+    unfolding consistent
+    held_more p q =
+        rw (add-one i, take-suc cs i z h, all_append (holds d) (take i cs) (get_or cs i z ∷ []))
+        (and_intro (all (holds d) (take i cs)) _ p (unfold all in and_intro (holds d (get_or cs i z)) true (sym e ∙ not-false b q) refl))
+
+    pub held_not : not b ≡ true → false ≡ consistent cs d
+    unfolding consistent all
+    held_not q =
+        sym (ap (λ (l : List Check). all (holds d) l) (sym (take-append-drop i cs))
+        ∙ all_append (holds d) (take i cs) (drop i cs)
+        ∙ rw (drop-cons cs i z h, ← e, not-true b q) (and-false (all (holds d) (take i cs))))
+
 -- ---- the schedules with one beginning
 
 module _ (fails : ℕ → Bool) (sets : ℕ → ℕ) (old : List ℕ) where
@@ -111,8 +139,8 @@ module _ (fails : ℕ → Bool) (sets : ℕ → ℕ) (old : List ℕ) where
       stays : (x : ℕ) → mark_at new x ≡ true → mark_at (set new (z / 64) (with_bit (get_or new (z / 64) 0) (z % 64))) x ≡ true
       stays x k = mark_set new z x h ∙ or_right (eqb z x) (mark_at new x) k
 
-  pub adds_all : (new : List ℕ) (y total n : ℕ) → Adds fails sets y old new → total ≡ 2 ^ n → y ≡ total → Adds fails sets (2 ^ n) old new
-  adds_all new y total n a e h = subst (λ (k : ℕ). Adds fails sets k old new) (h ∙ e) a
+  pub adds_all : (new : List ℕ) (y total n : ℕ) → Adds fails sets y old new → total ≡ 2 ^ n → y ≤ total → total ≤ y → Adds fails sets (2 ^ n) old new
+  adds_all new y total n a e h g = let z : y ≡ 2 ^ n = omega arith in subst (λ (k : ℕ). Adds fails sets k old new) z a
 
 module _ (checks : List Check) (ws : List Write) (mid forbidden : List ℕ) (all x rows : ℕ) (old new : List ℕ) (s y : ℕ)
     (a : Adds (spoils checks ws mid) (set_after forbidden all x rows) y old new) (e : s ≡ x + rows * y) where
@@ -142,27 +170,18 @@ module _ (checks : List Check) (ws : List Write) (mid forbidden : List ℕ) (all
       go false i = adds_set _ _ old new y z a (so ∙ ap not i) (here ∙ sym p) h
 
 -- the places of these schedules
-pub place-first : (x near : ℕ) → x ≡ x + 2 ^ near * 0
-place-first x near = rw (mul-zero (2 ^ near), add-zero x)
+module _ (near far x y rows columns : ℕ) (r : rows ≡ 2 ^ near) (c : columns ≡ 2 ^ far) (h : x < 2 ^ near) (l : y < columns) where
+  pub place_inside : x + rows * y < 2 ^ (near + far)
+  place_inside = rw r (parts_below near far x y h (omega arith))
 
-pub place_low : (x near far : ℕ) → x < 2 ^ near → near + far ≤ most_found → x ≤ 2 * found_schedules
-place_low x near far h l = let p = pow_mono {i = near} {j = most_found} (omega arith) in omega arith
-
-pub place-next : (s x near rows y : ℕ) → s ≡ x + 2 ^ near * y → rows ≡ 2 ^ near → s + rows ≡ x + 2 ^ near * (y + 1)
-place-next s x near rows y e r = let p = mul-suc (2 ^ near) y in rw (add-one y) (omega arith)
-
-module _ (near far x y s rows columns : ℕ) (e : s ≡ x + 2 ^ near * y) (r : rows ≡ 2 ^ near) (c : columns ≡ 2 ^ far) (h : x < 2 ^ near) (l : y ≤ columns) (d : y ≡ columns → ⊥) where
-  pub place_inside : s < 2 ^ (near + far)
-  place_inside = let g = parts_below near far x y h (omega arith) in rw e g
-
-  pub place-within : near + far ≤ most_found → s < found_schedules
+  pub place-within : near + far ≤ most_found → x + rows * y < found_schedules
   place-within k = let p = pow_mono {i = near + far} {j = most_found} k in omega (arith, place_inside)
 
-  pub place-room : near + far ≤ most_found → rows ≤ found_schedules → s + rows ≤ 2 * found_schedules
-  place-room k b = omega (arith, place-within k)
+  pub place-product : near + far ≤ most_found → rows * y < 18446744073709551616
+  place-product k = omega (arith, place-within k)
 
-  pub place-few : (forbidden : List ℕ) (all : ℕ) → Bounded forbidden all (2 ^ (near + far)) → get_or forbidden s 0 ≤ all
-  place-few forbidden all b = b.below s place_inside
+  pub place-few : (forbidden : List ℕ) (all : ℕ) → Bounded forbidden all (2 ^ (near + far)) → get_or forbidden (x + rows * y) 0 ≤ all
+  place-few forbidden all b = b.below (x + rows * y) place_inside
 
 pub set_word : (all w : ℕ) (forbidden : List ℕ) (n : ℕ) → Bounded forbidden all n → (all - w) / 64 < set_words
 set_word all w forbidden n b = let h = b.few in omega arith
@@ -208,9 +227,9 @@ module _ (checks : List Check) (stores base forbidden : List ℕ) (all near far 
           ap (λ (d : List ℕ). not (consistent checks d))
           (ap₂ (λ (i : ℕ) (d : List ℕ). run (held_from stores i far) y d) (sym (zero-add near)) q ∙ sym (run_parts stores near 0 far x y base h))
 
-  pub begins_all : (x rows : ℕ) (new : List ℕ) → Begun x new → rows ≡ 2 ^ near → x ≡ rows
+  pub begins_all : (x rows : ℕ) (new : List ℕ) → Begun x new → rows ≡ 2 ^ near → x ≤ rows → rows ≤ x
       → Adds (spoils checks (held_from stores 0 (near + far)) base) (set_of forbidden all) (2 ^ (near + far)) old new
-  begins_all x rows new b e h =
+  begins_all x rows new b e g h =
       record {
         size = b.size;
         kept = b.kept;
@@ -221,16 +240,16 @@ module _ (checks : List Check) (stores base forbidden : List ℕ) (all near far 
             (b.each (s % 2 ^ near) (s / 2 ^ near) (omega arith) (shr_lt far near (rw (add_comm far near) l)) (rw z f));
         only = λ z k. ⊎_elim
             (λ (o : mark_at old z ≡ true). inl o)
-            (λ (i, y, m, l, g, p). inr (i + 2 ^ near * y, parts_below near far i y (omega arith) l, g, p))
+            (λ (i, y, m, l, f, p). inr (i + 2 ^ near * y, parts_below near far i y (omega (arith, m, e, g)) l, f, p))
             (b.only z k);
       }
 
 -- ---- one test
 
 module _ (cands : Rules) (s : List ℕ) (e : Extent) (test : Loaded) (checks : List Check) (table : List ℕ) (all : ℕ) (el : LoadsTest (test_at s e) test) (ec : LoadsChecks (test_at s e) checks)
-    (f : Forbids (pairs (rules_of cands) cands.count test.labels) test.main table) (q : all ≡ 2 ^ cands.count - 1) (few : cands.count ≤ most_candidates) where
+    (n : ℕ) (many : n ≡ cands.count) (f : Forbids (pairs (rules_of cands) n test.labels) test.main table) (q : all ≡ 2 ^ cands.count - 1) (few : cands.count ≤ most_candidates) where
   made : Sets (rules_of cands) (test_at s e).main (2 ^ test.main) cands.count table
-  made = sets_made (rules_of cands) (test_at s e).main test.main test.labels table cands.count el.main el.labels f
+  made = sets_made (rules_of cands) (test_at s e).main test.main test.labels table cands.count el.main el.labels (rw many at f)
 
   module _ (near far : ℕ) (z : near + far ≡ test.main) where
     pub test_bounded : Bounded table all (2 ^ (near + far))
@@ -443,6 +462,25 @@ module _ (b : ℕ) (old new : List ℕ) (i : ℕ) (g : Lowered b old new i) wher
   lowered_across other h e l = lowered_more b old new i _ g l (λ j k. rw (bit-or (get_or new i 0) (get_or new other 0) j, g.rest i (omega arith), g.rest other (let m = with_most i (b - 6) in omega arith), mark-place old i j k)
       (ap (λ (t : Bool). bit (get_or old i 0) j || t) (rw (with_across b h i j k, ← e) (sym (mark-place old other j k)))))
 
+-- the words walked, before those that are left as they are
+module _ (b words : ℕ) (old : List ℕ) where
+  pub walked_none : Lowered b old (take words old ++ drop words old) 0
+  walked_none = rw (take-append-drop words old) (lowered_none b old)
+
+  pub walked_more : (items : List ℕ) (i step without : ℕ) → Lowered b old (items ++ drop words old) i → i < length items → b < 6 → step ≡ 2 ^ b → without ≡ lacking b
+      → Lowered b old (set items i (bit_or (get_or items i 0) (bit_and (get_or items i 0 / 2 ^ step) without)) ++ drop words old) (i + 1)
+  walked_more items i step without g h l es ew =
+      let all = items ++ drop words old in
+      let at : get_or all i 0 ≡ get_or items i 0 = get_or_append_left items (drop words old) 0 i h in
+      let inside : i < length all = rw (length-append items (drop words old)) (omega arith) in
+      let next : Lowered b old (set all i (bit_or (get_or items i 0) (bit_and (get_or items i 0 / 2 ^ step) without))) (i + 1)
+      = rw at at (lowered_within b old all i g step without l es ew inside) in
+      rw (set-append_left items (drop words old) i (bit_or (get_or items i 0) (bit_and (get_or items i 0 / 2 ^ step) without)) h) at next
+
+  pub walked_all : (items : List ℕ) (i : ℕ) → Lowered b old (items ++ drop words old) i → words ≤ length old → i ≤ length (take words old) → length (take words old) ≤ i
+      → Lowered b old (items ++ drop words old) words
+  walked_all items i g few h l = lowered_all b old (items ++ drop words old) i words g (omega (arith, length-take-le words old few)) (omega (arith, length-take-le words old few))
+
 module _ (n : ℕ) (old : List ℕ) where
   pub spreads_none : Spreads n 0 old old
   unfolding spread
@@ -493,11 +531,8 @@ pub without_is : (b : ℕ) → b < 6 → 18446744073709551615 / (1 * 2 ^ (1 * 2 
 unfolding lacking
 without_is b h = rw (double b h)
 
-pub words_are : (n : ℕ) → n ≤ most_candidates → (1 * 2 ^ n % 18446744073709551616 + 63) / 64 ≡ words_of n
-words_are n h = rw (power n h)
+pub words_are : (n : ℕ) → n ≤ most_candidates → div_ceil (1 * 2 ^ n % 18446744073709551616) 64 ≡ words_of n
+words_are n h = rw (power n h) (omega arith)
 
-pub words-most : (n : ℕ) → n ≤ most_candidates → (1 * 2 ^ n % 18446744073709551616 + 63) / 64 ≤ set_words
+pub words-most : (n : ℕ) → n ≤ most_candidates → div_ceil (1 * 2 ^ n % 18446744073709551616) 64 ≤ set_words
 words-most n h = rw (power n h) (let p = pow_mono {i = n} {j = most_candidates} h in omega arith)
-
-pub words_fit : (n : ℕ) → n ≤ most_candidates → 1 * 2 ^ n % 18446744073709551616 + 63 < 18446744073709551616
-words_fit n h = rw (power n h) (let p = pow_mono {i = n} {j = most_candidates} h in omega arith)

@@ -5,7 +5,8 @@
 ghost use Rattle.std.specs.Prelude.{◌≡◌, false, cond, ◌+◌, ◌/◌, ◌%◌, ◌^◌, ◌<◌, ◌≤◌, length, take, set, get_or};
 ghost use Rattle.relation.specs.Bits.{with_bit};
 ghost use Rattle.relation.specs.Tables.{Blank};
-ghost use Rattle.model.specs.Limits.{disk_blocks, most_initial, most_checks, most_found, found_schedules, most_candidates, candidate_sets};
+ghost use Rattle.model.specs.Limits.{most_initial, most_found, most_candidates, candidate_sets};
+ghost use Rattle.model.specs.Check.{consistent};
 ghost use Rattle.file_format.specs.Scan.{test_at};
 ghost use Rattle.file_format.specs.Held.{Inside, Placed};
 ghost use Rattle.rule_match.specs.Held.{rules_of};
@@ -15,7 +16,7 @@ ghost use Rattle.find_candidates.specs.Tests.{tests_in, too_long};
 ghost use Rattle.find_table.specs.Table.{set_words, matching, pairs, Facing, Widened, Forbids, Bounded, spoils, set_of, set_after, Adds, Joins, Shows, lacking, Lowered, Spreads};
 
 use file_format::Extent;
-use model::Check;
+use model::{Check, Rule};
 use rule_match::Rules;
 
 // The words of a table with a bit for each set.
@@ -25,83 +26,85 @@ pub const SET_WORDS: usize = model::CANDIDATE_SETS / 64;
 const HALF_SCHEDULES: usize = model::FOUND_SCHEDULES / 2;
 
 // The candidates that match two labels.
-fn matching(cands: Rules, one: u64, other: u64) -> u64
-    requires { cands.count ≤ most_candidates }
-    ensures { result ≡ matching (rules_of cands) (labelled one) (labelled other) cands.count }
+fn matching(cands: &[Rule], one: u64, other: u64) -> u64
+    requires { length cands.now ≤ most_candidates }
+    ensures { result ≡ matching cands.now (labelled one) (labelled other) (length cands.now) }
 {
     let n = judge_disks::name_of(one);
     let t = judge_disks::epoch_of(one);
     let m = judge_disks::name_of(other);
     let u = judge_disks::epoch_of(other);
     let mut mask: u64 = 0;
-    let mut c: usize = 0;
-    while c < cands.count {
-        mask = relation::with_if(mask, c, rule_match::matches(cands.items[c], n, t, m, u));
-        c += 1;
+    for (c, cand) in cands.iter().enumerate() {
+        mask = relation::with_if(mask, c, rule_match::matches(*cand, n, t, m, u));
     }
     mask
 }
 
 // The candidates that match write k and each write before it, in this order and in the other.
 fn face(
-    out: &mut [u64],
-    back: &mut [u64],
-    cands: Rules,
+    out: &mut [u64; 64],
+    back: &mut [u64; 64],
+    cands: &[Rule],
     labels: &[u64; model::MOST_INITIAL],
     k: usize,
 )
-    requires { ((length out.old ≡ 64) × (length back.old ≡ 64)) × ((cands.count ≤ most_candidates) × (k < most_initial)) }
-    ensures { Facing (pairs (rules_of cands) cands.count labels.now) k k out.new back.new }
+    requires { (length cands.now ≤ most_candidates) × (k < most_initial) }
+    ensures { Facing (pairs cands.now (length cands.now) labels.now) k k out.new back.new }
 {
     let last = labels[k];
-    let mut j: usize = 0;
-    while j < k {
+    for j in 0..k {
         let other = labels[j];
         out[j] = matching(cands, last, other);
         back[j] = matching(cands, other, last);
-        j += 1;
     }
 }
 
 // The schedules of one more write, k: with it, the candidates match it and an unflagged write before
 // it too; without it, a flagged write before it and it.
-fn widen(table: &mut [u64], outs: &[u64; HALF_SCHEDULES], backs: &[u64; HALF_SCHEDULES], k: usize)
-    requires { (length table.old ≡ found_schedules) × (k < most_found) }
+fn widen(
+    table: &mut [u64; model::FOUND_SCHEDULES],
+    outs: &[u64; HALF_SCHEDULES],
+    backs: &[u64; HALF_SCHEDULES],
+    k: usize,
+)
+    requires { k < most_found }
     ensures { Widened outs.now backs.now k table.old table.new (2 ^ k) }
 {
     let size = 1usize << k;
-    let mut s: usize = 0;
-    while s != size {
+    for s in 0..size {
         let w = table[s];
         table[size + s] = w | outs[size - 1 - s];
         table[s] = w | backs[s];
-        s += 1;
     }
 }
 
 // For each schedule of the n writes with these labels the set of the candidates that make it invalid.
-fn forbid(table: &mut [u64], cands: Rules, labels: &[u64; model::MOST_INITIAL], n: usize)
-    requires { (length table.old ≡ found_schedules) × ((cands.count ≤ most_candidates) × (n ≤ most_found)) }
-    ensures { Forbids (pairs (rules_of cands) cands.count labels.now) n table.new }
+fn forbid(
+    table: &mut [u64; model::FOUND_SCHEDULES],
+    cands: &[Rule],
+    labels: &[u64; model::MOST_INITIAL],
+    n: usize,
+)
+    requires { (length cands.now ≤ most_candidates) × (n ≤ most_found) }
+    ensures { Forbids (pairs cands.now (length cands.now) labels.now) n table.new }
 {
     let mut out = [0u64; 64];
     let mut back = [0u64; 64];
     let mut outs = [0u64; HALF_SCHEDULES];
     let mut backs = [0u64; HALF_SCHEDULES];
     table[0] = 0;
-    let mut k: usize = 0;
-    while k < n {
+    for k in 0..n {
         face(&mut out, &mut back, cands, labels, k);
         relation::unite(&mut outs, &out, 0, k);
         relation::unite(&mut backs, &back, 0, k);
         widen(table, &outs, &backs, k);
-        k += 1;
     }
 }
 
 // Marks the set x of a schedule, unless that leaves a consistent disk.
-fn mark_one(table: &mut [u64], x: usize, consistent: bool)
-    requires { (length table.old ≡ set_words) × (x < candidate_sets) }
+fn mark_one(table: &mut [u64; SET_WORDS], x: usize, consistent: bool)
+    requires { x < candidate_sets }
     ensures { table.new ≡ cond consistent table.old (set table.old (x / 64) (with_bit (get_or table.old (x / 64) 0) (x % 64))) }
 {
     if consistent {
@@ -110,120 +113,105 @@ fn mark_one(table: &mut [u64], x: usize, consistent: bool)
     table[x / 64] = relation::with_bit(table[x / 64], x % 64);
 }
 
-// Marks the sets of the inconsistent schedules that begin with x: mid is the disk that x leaves, and
-// the `far` writes behind place `near` are flagged in all ways. Where a set is marked, the disk is not
-// made.
-fn mark_after(
-    table: &mut [u64],
-    forbidden: &[u64; model::FOUND_SCHEDULES],
+// What the sets of a test are marked by: the candidates that make each of its schedules invalid, of all of
+// them, its writes, near ones and far ones behind them, and its checks.
+#[derive(Clone, Copy)]
+struct Trial<'a> {
+    forbidden: &'a [u64; model::FOUND_SCHEDULES],
     all: u64,
-    x: usize,
-    mid: &[u32; model::DISK_BLOCKS],
-    stores: &[u64; model::MOST_INITIAL],
+    stores: &'a [u64; model::MOST_INITIAL],
     near: usize,
     far: usize,
-    checks: [Check; model::MOST_CHECKS],
-    m: usize,
-)
-    requires { ((length table.old ≡ set_words) × (length mid.now ≡ disk_blocks)) × (((x < 2 ^ near) × (near + far ≤ most_found)) × ((m ≤ most_checks) × Bounded forbidden.now all (2 ^ (near + far)))) }
-    ensures { Adds (spoils (take m checks) (held_from stores.now near far) mid.now) (set_after forbidden.now all x (2 ^ near)) (2 ^ far) table.old table.new }
-{
-    let rows = 1usize << near;
-    let columns = 1u64 << far;
-    let mut disk = *mid;
-    let mut s = x;
-    let mut y: u64 = 0;
-    'ends: while y != columns {
-        let set = (all - forbidden[s]) as usize;
-        if relation::has_bit(table[set / 64], set % 64) {
-            s += rows;
-            y += 1;
-            continue 'ends;
-        }
-        judge_disks::apply(&mut disk, stores, near, far, y);
-        // In a routine of its own this would take the checks by value: a copy of all in every turn.
-        let mut i: usize = 0;
-        while i < m {
-            let c = checks[i];
-            if !judge_checks::check_holds(&disk, c) {
-                break;
-            }
-            i += 1;
-        }
-        judge_disks::restore(&mut disk, mid, stores, near, far);
-        mark_one(table, set, i == m);
-        s += rows;
-        y += 1;
-    }
+    checks: &'a [Check],
+    ghost few: { near + far ≤ most_found },
+    ghost bounded: { Bounded forbidden.now all (2 ^ (near + far)) },
 }
 
-// Marks the sets of all inconsistent schedules of near + far writes.
-fn mark_by(
-    table: &mut [u64],
-    forbidden: &[u64; model::FOUND_SCHEDULES],
-    all: u64,
-    base: &[u32; model::DISK_BLOCKS],
-    stores: &[u64; model::MOST_INITIAL],
-    near: usize,
-    far: usize,
-    checks: [Check; model::MOST_CHECKS],
-    m: usize,
-)
-    requires { ((length table.old ≡ set_words) × (length base.now ≡ disk_blocks)) × ((near + far ≤ most_found) × ((m ≤ most_checks) × Bounded forbidden.now all (2 ^ (near + far)))) }
-    ensures { Adds (spoils (take m checks) (held_from stores.now 0 (near + far)) base.now) (set_of forbidden.now all) (2 ^ (near + far)) table.old table.new }
-{
-    let rows = 1usize << near;
-    let mut x: usize = 0;
-    while x != rows {
-        let mut mid = *base;
-        judge_disks::apply(&mut mid, stores, 0, near, x as u64);
-        mark_after(table, forbidden, all, x, &mid, stores, near, far, checks, m);
-        x += 1;
+impl Trial<'_> {
+    // Whether a disk is consistent.
+    fn holds(&self, disk: &[u32; model::DISK_BLOCKS]) -> bool
+        ensures { result ≡ consistent self.now.checks.now disk.now }
+    {
+        for check in self.checks {
+            if !judge_checks::check_holds(disk, *check) {
+                return false;
+            }
+        }
+        true
+    }
+
+    // Marks the sets of the inconsistent schedules that begin with x: mid is the disk that x leaves, and
+    // the far writes are flagged in all ways. Where a set is marked, the disk is not made.
+    fn mark_after(&self, table: &mut [u64; SET_WORDS], x: usize, mid: &[u32; model::DISK_BLOCKS])
+        requires { x < 2 ^ self.now.near }
+        ensures { Adds (spoils self.now.checks.now (held_from self.now.stores.now self.now.near self.now.far) mid.now) (set_after self.now.forbidden.now self.now.all x (2 ^ self.now.near)) (2 ^ self.now.far) table.old table.new }
+    {
+        let rows = 1usize << self.near;
+        let columns = 1u64 << self.far;
+        let mut disk = *mid;
+        for y in 0..columns {
+            let set = (self.all - self.forbidden[x + rows * y as usize]) as usize;
+            if relation::has_bit(table[set / 64], set % 64) {
+                continue;
+            }
+            judge_disks::apply(&mut disk, self.stores, self.near, self.far, y);
+            let consistent = self.holds(&disk);
+            judge_disks::restore(&mut disk, mid, self.stores, self.near, self.far);
+            mark_one(table, set, consistent);
+        }
+    }
+
+    // Marks the sets of all inconsistent schedules, from a base.
+    fn mark_by(&self, table: &mut [u64; SET_WORDS], base: &[u32; model::DISK_BLOCKS])
+        ensures { Adds (spoils self.now.checks.now (held_from self.now.stores.now 0 (self.now.near + self.now.far)) base.now) (set_of self.now.forbidden.now self.now.all) (2 ^ (self.now.near + self.now.far)) table.old table.new }
+    {
+        let rows = 1usize << self.near;
+        for x in 0..rows {
+            let mut mid = *base;
+            judge_disks::apply(&mut mid, self.stores, 0, self.near, x as u64);
+            self.mark_after(table, x, &mid);
+        }
     }
 }
 
 // Marks the sets of all inconsistent schedules of a test.
-fn mark_test(table: &mut [u64], cands: Rules, file: &[u8], e: Extent)
-    requires { (length table.old ≡ set_words) × ((cands.count ≤ most_candidates) × (Inside file.now e × (length (test_at file.now e).main ≤ most_found))) }
+fn mark_test(table: &mut [u64; SET_WORDS], cands: Rules, file: &[u8], e: Extent)
+    requires { (cands.count ≤ most_candidates) × (Inside file.now e × (length (test_at file.now e).main ≤ most_found)) }
     ensures { Joins (marks (rules_of cands) (test_at file.now e)) table.old table.new }
 {
     let test = judge_loading::load_test(file, e);
     let checks = judge_loading::load_checks(file, e);
-    let base = test.base;
-    let stores = test.stores;
-    let labels = test.labels;
-    let n = test.main;
     let mut forbidden = [0u64; model::FOUND_SCHEDULES];
-    forbid(&mut forbidden, cands, &labels, n);
-    let all = (1u64 << cands.count) - 1;
-    let near = n / 2;
-    mark_by(
-        table,
-        &forbidden,
-        all,
-        &base,
-        &stores,
-        near,
-        n - near,
-        checks,
-        test.checks,
+    forbid(
+        &mut forbidden,
+        &cands.items[..cands.count],
+        &test.labels,
+        test.main,
     );
+    let near = test.main / 2;
+    let trial = Trial {
+        forbidden: &forbidden,
+        all: (1u64 << cands.count) - 1,
+        stores: &test.stores,
+        near,
+        far: test.main - near,
+        checks: &checks[..test.checks],
+    };
+    trial.mark_by(table, &test.base);
 }
 
 // Marks the sets of all inconsistent schedules of all tests, none of which is too long.
 pub fn mark_all(
-    table: &mut [u64],
+    table: &mut [u64; SET_WORDS],
     cands: Rules,
     file: &[u8],
     tests: [Extent; model::MOST_TESTS],
     n: usize,
 )
-    requires { (length table.old ≡ set_words) × ((cands.count ≤ most_candidates) × (Placed file.now (tests_in file.now) tests n × ((too_long (tests_in file.now) ≡ false) × Blank set_words table.old))) }
+    requires { (cands.count ≤ most_candidates) × (Placed file.now (tests_in file.now) tests n × ((too_long (tests_in file.now) ≡ false) × Blank set_words table.old)) }
     ensures { Shows (marked (rules_of cands) (tests_in file.now)) table.new candidate_sets }
 {
-    let mut t: usize = n;
-    while 0 < t {
-        t -= 1;
+    for t in (0..n).rev() {
         mark_test(table, cands, file, tests[t]);
     }
 }
@@ -233,39 +221,35 @@ fn lacking(b: usize) -> u64
     requires { b < 6 }
     ensures { result ≡ lacking b }
 {
-    18446744073709551615 / ((1u64 << (1u64 << b)) + 1)
+    u64::MAX / ((1u64 << (1u64 << b)) + 1)
 }
 
 // Hands the marks down from the sets with candidate b to those without, where both are in one word.
-fn lower_within(table: &mut [u64], b: usize, words: usize)
-    requires { (length table.old ≡ set_words) × ((b < 6) × (words ≤ set_words)) }
+fn lower_within(table: &mut [u64; SET_WORDS], b: usize, words: usize)
+    requires { (b < 6) × (words ≤ set_words) }
     ensures { Lowered b table.old table.new words }
 {
     let step = 1u64 << b;
     let without = lacking(b);
-    let mut i: usize = 0;
-    while i < words {
-        let w = table[i];
-        table[i] = w | ((w >> step) & without);
-        i += 1;
+    for word in &mut table[..words] {
+        *word = *word | ((*word >> step) & without);
     }
 }
 
-// The same where the sets with candidate b are in a word of their own.
-fn lower_across(table: &mut [u64], b: usize, words: usize)
-    requires { (length table.old ≡ set_words) × (((6 ≤ b) × (b < most_candidates)) × (words ≤ set_words)) }
+// The same where the sets with candidate b are in a word of their own. (A word that its own loop does not walk
+// to alone is read here: by numbers.)
+fn lower_across(table: &mut [u64; SET_WORDS], b: usize, words: usize)
+    requires { ((6 ≤ b) × (b < most_candidates)) × (words ≤ set_words) }
     ensures { Lowered b table.old table.new words }
 {
-    let mut i: usize = 0;
-    while i < words {
+    for i in 0..words {
         let other = relation::with_bit(i as u64, b - 6) as usize;
         table[i] = table[i] | table[other];
-        i += 1;
     }
 }
 
-fn lower(table: &mut [u64], b: usize, words: usize)
-    requires { (length table.old ≡ set_words) × ((b < most_candidates) × (words ≤ set_words)) }
+fn lower(table: &mut [u64; SET_WORDS], b: usize, words: usize)
+    requires { (b < most_candidates) × (words ≤ set_words) }
     ensures { Lowered b table.old table.new words }
 {
     if b < 6 {
@@ -276,14 +260,12 @@ fn lower(table: &mut [u64], b: usize, words: usize)
 }
 
 // Hands the marks down to all parts of the marked sets of n candidates.
-pub fn lower_all(table: &mut [u64], n: usize)
-    requires { (length table.old ≡ set_words) × (n ≤ most_candidates) }
+pub fn lower_all(table: &mut [u64; SET_WORDS], n: usize)
+    requires { n ≤ most_candidates }
     ensures { Spreads n n table.old table.new }
 {
-    let words = ((1usize << n) + 63) / 64;
-    let mut b: usize = 0;
-    while b < n {
+    let words = (1usize << n).div_ceil(64);
+    for b in 0..n {
         lower(table, b, words);
-        b += 1;
     }
 }

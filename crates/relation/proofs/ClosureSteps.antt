@@ -1,11 +1,11 @@
 -- The code's steps: one law for each return and each turn of a loop, whose premises are what is known at that place.
 use mathlib.Core.Path.{◌≡◌, refl, sym, ap, ◌∙◌}
 use mathlib.Core.Bool.{Bool, true, false}
-use mathlib.Core.List.{List, [], ◌∷◌, ◌++◌, map}
+use mathlib.Core.List.{List, [], ◌∷◌, ◌++◌, map, append-nil}
 use Prim.Native.Nat.{ℕ, zero, suc, ◌+◌, ◌≤◌, ◌<◌}
 use native.Mathlib.Numerals.{add-one}
 use native.Mathlib.Omega.{arith}
-use lib.ListN.{length, get_or, take, drop, set, get_or-map, length-map}
+use lib.ListN.{length, get_or, take, drop, set, get_or-map, length-map, drop_of_length-le}
 use lib.Seq.{take-suc, take-append-le, drop-cons, set_at, get_or_at, get_or-take, take_all, append_snoc, length-take-le}
 use lib.Bits.{bit_or}
 use borrow.Author.Rules.{rules}
@@ -58,13 +58,18 @@ round-first : (k n : ℕ) (l : List ℕ) → k < n → take n (round k l) ≡ ro
 unfolding round
 round-first k n l h = rw (get_or-take n l k 0 h) (take-map (joined k (get_or l k 0)) n l)
 
-pub round-done : (k n : ℕ) (l rows : List ℕ) (i : ℕ) → n ≤ length l → i ≤ n → n ≤ i → rows ≡ mapped (joined k (get_or l k 0)) l i → take n rows ≡ take n (round k l)
+-- the first n rows are mapped, and put back before the others
+pub round-done : (k n : ℕ) (l rows : List ℕ) (i : ℕ) → n ≤ length l → i ≤ length (take n l) → length (take n l) ≤ i
+    → rows ≡ mapped (joined k (get_or l k 0)) (take n l) i → take n (rows ++ drop n l) ≡ take n (round k l)
 unfolding round
 round-done k n l rows i hn a b e =
     let f = joined k (get_or l k 0) in
+    let few : length (take n l) ≡ n = length-take-le n l hn in
     let same : i ≡ n = omega arith in
-    let front : length (take n (map f l)) ≡ n = length-take-le n (map f l) (rw (length-map l f) hn) in
-    rw (e, same) (take-append-le n (take n (map f l)) (drop n l) (omega arith) ∙ take_all n (take n (map f l)) (omega arith))
+    let whole : rows ≡ map f (take n l)
+    = e ∙ rw (same, drop_of_length-le (take n l) {i = n} (omega arith), take_all n (map f (take n l)) (omega (arith, length-map (take n l) f))) (append-nil (map f (take n l))) in
+    rw (whole, take-append-le n (map f (take n l)) (drop n l) (omega (arith, length-map (take n l) f)), take_all n (map f (take n l)) (omega (arith, length-map (take n l) f)))
+    (sym (take-map f n l))
 
 -- ---- close
 

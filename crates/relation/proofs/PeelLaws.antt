@@ -9,7 +9,9 @@ use native.Mathlib.Numerals.{add-one}
 use native.Mathlib.Omega.{arith}
 use lib.Bits.{bit_and, and_le_r}
 use lib.Dec.{eqb}
-use lib.ListN.{get_or}
+use lib.ListN.{length, get_or, take}
+use lib.Seq.{get_or-take, length-take-le}
+use Rattle.std.proofs.Common.{length-take}
 use lib.Pow.{pow_pos}
 use borrow.Author.Rules.{rules}
 use borrow.Author.Tests.{eqb-true, eqb-false, eq-eqb, ne_eqb}
@@ -156,12 +158,15 @@ module _ (rows : List ℕ) (left : ℕ) where
   unfolding peeled
   pass_begun = refl
 
-  pub pass_more : (rest next i : ℕ) → rest ≡ peeled rows left i → next ≡ peeled_one (get_or rows i 0) rest i → next ≡ peeled rows left (i + 1)
+  -- of the first n rows
+  pub pass_more : (rest next i n : ℕ) → i < length (take n rows) → rest ≡ peeled rows left i → next ≡ peeled_one (get_or (take n rows) i 0) rest i → next ≡ peeled rows left (i + 1)
   unfolding peeled
-  pass_more rest next i e q = rw (add-one i, ← e) q
+  pass_more rest next i n h e q =
+      let few : i < n = omega (arith, length-take n rows) in
+      rw (add-one i, ← e, ← get_or-take n rows i 0 few) q
 
-  pub pass_done : (rest i n : ℕ) → i ≤ n → n ≤ i → rest ≡ peeled rows left i → rest ≡ peeled rows left n
-  pass_done rest i n h l e = let q : i ≡ n = omega arith in rw (← q) e
+  pub pass_done : (rest i n : ℕ) → n ≤ length rows → i ≤ length (take n rows) → length (take n rows) ≤ i → rest ≡ peeled rows left i → rest ≡ peeled rows left n
+  pass_done rest i n f h l e = let q : i ≡ n = omega (arith, length-take-le n rows f) in rw (← q) e
 
 -- peel_back
 module _ (rows : List ℕ) (whole rest i : ℕ) (e : peeled_back rows rest i ≡ whole) where

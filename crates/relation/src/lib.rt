@@ -48,7 +48,7 @@ pub fn highest(mask: u64) -> usize
     requires { 0 < mask }
     ensures { Highest mask result × (result < 64) }
 {
-    63 - u64::leading_zeros(mask) as usize
+    63 - mask.leading_zeros() as usize
 }
 
 // The lowest member of mask.
@@ -56,11 +56,11 @@ pub fn lowest(mask: u64) -> usize
     requires { 0 < mask }
     ensures { Lowest mask result × (result < 64) }
 {
-    u64::trailing_zeros(mask) as usize
+    mask.trailing_zeros() as usize
 }
 
 // How many sets of numbers below 32 there are.
-pub const SMALL_SETS: u64 = 4294967296;
+pub const SMALL_SETS: u64 = 1 << 32;
 
 // A set's rank among these: those with fewer members come before those with more, and of as many the smaller
 // number first.
@@ -68,7 +68,7 @@ pub fn rank(set: u64) -> u64
     requires { set < small_sets }
     ensures { result ≡ rank set }
 {
-    u64::count_ones(set) as u64 * SMALL_SETS + set
+    u64::from(set.count_ones()) * SMALL_SETS + set
 }
 
 // row, with what k reaches where row reaches k.
@@ -88,10 +88,8 @@ fn join_all(rows: &mut [u64], k: usize, n: usize)
     ensures { take n rows.new ≡ take n (round k rows.old) }
 {
     let through = rows[k];
-    let mut i: usize = 0;
-    while i < n {
-        rows[i] = join(rows[i], through, k);
-        i += 1;
+    for row in &mut rows[..n] {
+        *row = join(*row, through, k);
     }
 }
 
@@ -100,10 +98,8 @@ pub fn close(rows: &mut [u64], n: usize)
     requires { (n ≤ length rows.old) × (n ≤ 64) }
     ensures { take n rows.new ≡ take n (closed n rows.old) }
 {
-    let mut k: usize = 0;
-    while k < n {
+    for k in 0..n {
         join_all(rows, k, n);
-        k += 1;
     }
 }
 
@@ -113,7 +109,7 @@ pub fn all_below(n: usize) -> u64
     ensures { result ≡ 2 ^ n - 1 }
 {
     if n == 64 {
-        return 18446744073709551615;
+        return u64::MAX;
     }
     (1 << n) - 1
 }
@@ -135,23 +131,19 @@ fn peel(rows: &[u64], n: usize, left: u64) -> u64
     ensures { result ≡ peeled rows.now left n }
 {
     let mut rest = left;
-    let mut i: usize = 0;
-    while i < n {
-        rest = peel_one(rows[i], rest, i);
-        i += 1;
+    for (i, row) in rows[..n].iter().enumerate() {
+        rest = peel_one(*row, rest, i);
     }
     rest
 }
 
-// And from the highest down.
+// And from the highest down. (By numbers: `.iter().enumerate().rev()` goes by what it yielded, and is no plainer to prove.)
 fn peel_back(rows: &[u64], n: usize, left: u64) -> u64
     requires { (n ≤ length rows.now) × (n ≤ 64) }
     ensures { result ≡ peeled_back rows.now left n }
 {
     let mut rest = left;
-    let mut i = n;
-    while i != 0 {
-        i -= 1;
+    for i in (0..n).rev() {
         rest = peel_one(rows[i], rest, i);
     }
     rest
@@ -214,10 +206,8 @@ fn double(table: &mut [u64], i: usize, row: u64)
     ensures { Doubled i row table.old table.new (2 ^ i) }
 {
     let size = 1usize << i;
-    let mut x: usize = 0;
-    while x < size {
+    for x in 0..size {
         table[size + x] = table[x] | row;
-        x += 1;
     }
 }
 
@@ -227,9 +217,7 @@ pub fn unite(table: &mut [u64], rows: &[u64; 64], from: usize, k: usize)
     ensures { Unites rows.now from k table.new }
 {
     table[0] = 0;
-    let mut i: usize = 0;
-    while i < k {
+    for i in 0..k {
         double(table, i, rows[from + i]);
-        i += 1;
     }
 }

@@ -28,23 +28,34 @@ use Rattle.relation.proofs.TransitiveLaws.{Moves, plus_trans, plus_first, plus_m
 use Rattle.relation.proofs.UnionLaws.{bit-ones}
 use Rattle.model.specs.Limits.{most_rules}
 use Rattle.model.specs.declared.Rule.{Rule}
-use Rattle.model.specs.Cyclic.{rule_at, leads, has, equal_leads, meets, cyclic}
-use Rattle.rule_match.specs.declared.Rules.{Rules}
-use Rattle.rule_match.specs.Held.{item_at, rules_of}
+use Rattle.model.specs.Cyclic.{no_rule, rule_at, leads, has, equal_leads, meets, cyclic}
 use Rattle.rule_cycles.specs.Links.{starts, linked, in_bucket, Buckets, near, everything, Suspects, meets_by, meets_from}
-use Rattle.rule_match.proofs.MatchSteps.{length_mapped, held_at, held-length}
+use Rattle.rule_match.proofs.MatchSteps.{length_mapped}
+use Rattle.std.proofs.Common.{length-take}
+
+-- ---- the rules, as they are read
+
+abbrev pub item : List Rule → ℕ → Rule
+item rules i = get_or rules i (record { first = 0; predicate = 0; second = 0 })
+
+held_at : (rules : List Rule) (i : ℕ) → rule_at rules i ≡ item rules i
+unfolding no_rule
+held_at rules i = refl
+
+pub held_few : (rules : List Rule) (n : ℕ) → n ≤ most_rules → length (take n rules) ≤ most_rules
+held_few rules n h = omega (arith, length-take n rules)
 
 -- ---- having, and what a rule leads to: a mask made rule by rule
 
-pub having-more : (rules : Rules) (p i mask next : ℕ) → i < rules.count → mask ≡ mask_of (has (rules_of rules) p) i
-    → next ≡ cond (eqb (item_at rules i).predicate p) (with_bit mask i) mask → next ≡ mask_of (has (rules_of rules) p) (i + 1)
+pub having-more : (rules : List Rule) (p i mask next : ℕ) → i < length rules → mask ≡ mask_of (has rules p) i
+    → next ≡ cond (eqb (item rules i).predicate p) (with_bit mask i) mask → next ≡ mask_of (has rules p) (i + 1)
 unfolding has
-having-more rules p i mask next h e f = mask_more (has (rules_of rules) p) i mask next (eqb (item_at rules i).predicate p) e (rw (held_at rules i h)) f
+having-more rules p i mask next h e f = mask_more (has rules p) i mask next (eqb (item rules i).predicate p) e (rw (held_at rules i)) f
 
-pub starting_more : (rules : Rules) (name j mask next : ℕ) → j < rules.count → mask ≡ mask_of (starts (rules_of rules) name) j
-    → next ≡ cond (eqb name (item_at rules j).first) (with_bit mask j) mask → next ≡ mask_of (starts (rules_of rules) name) (j + 1)
+pub starting_more : (rules : List Rule) (name j mask next : ℕ) → j < length rules → mask ≡ mask_of (starts rules name) j
+    → next ≡ cond (eqb name (item rules j).first) (with_bit mask j) mask → next ≡ mask_of (starts rules name) (j + 1)
 unfolding starts
-starting_more rules name j mask next h e f = mask_more (starts (rules_of rules) name) j mask next (eqb name (item_at rules j).first) e (rw (held_at rules j h)) f
+starting_more rules name j mask next h e f = mask_more (starts rules name) j mask next (eqb name (item rules j).first) e (rw (held_at rules j)) f
 
 -- ---- row
 
@@ -55,17 +66,17 @@ module _ (among i led : ℕ) (b : Bool) (e : b ≡ bit among i) where
   pub row_in : not b ≡ false → bit_and led among ≡ cond (bit among i) (bit_and led among) 0
   row_in f = rw (← e, not-false b f)
 
-pub linked-row : (rules : Rules) (among i led j r : ℕ) → i < rules.count → led ≡ mask_of (starts (rules_of rules) (item_at rules i).second) j → j ≤ rules.count → rules.count ≤ j
-    → r ≡ cond (bit among i) (bit_and led among) 0 → r ≡ mask_of (linked among (rules_of rules) i) rules.count
+pub linked-row : (rules : List Rule) (among i led r : ℕ) → led ≡ mask_of (starts rules (item rules i).second) (length rules)
+    → r ≡ cond (bit among i) (bit_and led among) 0 → r ≡ mask_of (linked among rules i) (length rules)
 unfolding linked starts leads
-linked-row rules among i led j r h e k l q = q ∙ go (bit among i) refl
+linked-row rules among i led r e q = q ∙ go (bit among i) refl
   where
-    go : (b : Bool) → bit among i ≡ b → cond b (bit_and led among) 0 ≡ mask_of (linked among (rules_of rules) i) rules.count
+    go : (b : Bool) → bit among i ≡ b → cond b (bit_and led among) 0 ≡ mask_of (linked among rules i) (length rules)
     go true t =
-        let n = rules.count in
-        let p = starts (rules_of rules) (item_at rules i).second in
-        rw (mask_all p j n led e k l) (mask_cut p n among ∙ mask_ext _ _ n (λ j k. rw (t, held_at rules i h)))
-    go false f = sym (mask_false (linked among (rules_of rules) i) rules.count (λ j. rw f))
+        let n = length rules in
+        let p = starts rules (item rules i).second in
+        rw e (mask_cut p n among ∙ mask_ext _ _ n (λ j k. rw (t, held_at rules i)))
+    go false f = sym (mask_false (linked among rules i) (length rules) (λ j. rw f))
 
 -- ---- fill, fill_near: tables of a relation
 
@@ -96,15 +107,15 @@ module _ (R : ℕ → ℕ → Bool) (n : ℕ) (rows : List ℕ) where
 pub buckets_none : (rules : List Rule) (table : List ℕ) → Blank 64 table → Buckets rules 0 table
 buckets_none rules table h = record { at = λ b l. h.at b l ∙ mask_begun (in_bucket rules b) }
 
-pub buckets_more : (rules : Rules) (table : List ℕ) (j b next : ℕ) → length table ≡ 64 → j < rules.count → Buckets (rules_of rules) j table
-    → b ≡ (item_at rules j).first % 64 → b < 64 → next ≡ with_bit (get_or table b 0) j → Buckets (rules_of rules) (j + 1) (set table b next)
+pub buckets_more : (rules : List Rule) (table : List ℕ) (j b next : ℕ) → length table ≡ 64 → j < length rules → Buckets rules j table
+    → b ≡ (item rules j).first % 64 → b < 64 → next ≡ with_bit (get_or table b 0) j → Buckets rules (j + 1) (set table b next)
 unfolding in_bucket
 buckets_more rules table j b next size h t e l q = record { at = λ c k. go c k (eqb c b) refl }
   where
-    go : (c : ℕ) → c < 64 → (u : Bool) → eqb c b ≡ u → get_or (set table b next) c 0 ≡ mask_of (in_bucket (rules_of rules) c) (j + 1)
+    go : (c : ℕ) → c < 64 → (u : Bool) → eqb c b ≡ u → get_or (set table b next) c 0 ≡ mask_of (in_bucket rules c) (j + 1)
     go c k u z =
-        mask_more (in_bucket (rules_of rules) c) j (get_or table c 0) (get_or (set table b next) c 0) u (t.at c k)
-        (sym z ∙ rw (held_at rules j h, ← e)) (each u z)
+        mask_more (in_bucket rules c) j (get_or table c 0) (get_or (set table b next) c 0) u (t.at c k)
+        (sym z ∙ rw (held_at rules j, ← e)) (each u z)
       where
         each : (u : Bool) → eqb c b ≡ u → get_or (set table b next) c 0 ≡ cond u (with_bit (get_or table c 0) j) (get_or table c 0)
         each true z = rw (eqb-true c b z) (get_or-set_same table b next 0 (omega arith) ∙ q)
@@ -139,21 +150,21 @@ module _ (row i predicate : ℕ) where
   pub apart_other : (r : ℕ) → (predicate ≡ 0 → ⊥) → i < 64 → r ≡ without row (1 * 2 ^ i % 18446744073709551616) → r ≡ cond (eqb predicate 0) row (without row (2 ^ i))
   apart_other r f h e = rw (ne_eqb predicate 0 f, ← power_is i h) e
 
-pub near-row : (rules : Rules) (buckets : List ℕ) (among i b r : ℕ) → i < rules.count → rules.count ≤ most_rules → Buckets (rules_of rules) rules.count buckets
-    → b ≡ (item_at rules i).second % 64 → b < 64
-    → r ≡ cond (eqb (item_at rules i).predicate 0) (bit_and (get_or buckets b 0) among) (without (bit_and (get_or buckets b 0) among) (2 ^ i))
-    → r ≡ mask_of (near among (rules_of rules) i) rules.count
+pub near-row : (rules : List Rule) (buckets : List ℕ) (among i b r : ℕ) → i < length rules → length rules ≤ most_rules → Buckets rules (length rules) buckets
+    → b ≡ (item rules i).second % 64 → b < 64
+    → r ≡ cond (eqb (item rules i).predicate 0) (bit_and (get_or buckets b 0) among) (without (bit_and (get_or buckets b 0) among) (2 ^ i))
+    → r ≡ mask_of (near among rules i) (length rules)
 unfolding near has
 near-row rules buckets among i b r h few t e l q =
-    let n = rules.count in
-    let p : ℕ → Bool = λ j. bit among j && in_bucket (rules_of rules) b j in
-    let base : bit_and (get_or buckets b 0) among ≡ mask_of p n = rw (t.at b l) (mask_cut (in_bucket (rules_of rules) b) n among) in
-    let c = eqb (item_at rules i).predicate 0 in
-    q ∙ ap (λ (m : ℕ). cond c m (without m (2 ^ i))) base ∙ go p c ∙ mask_ext (λ j. p j && (c || not (eqb j i))) _ n (λ j k. rw (held_at rules i h, ← e))
+    let n = length rules in
+    let p : ℕ → Bool = λ j. bit among j && in_bucket rules b j in
+    let base : bit_and (get_or buckets b 0) among ≡ mask_of p n = rw (t.at b l) (mask_cut (in_bucket rules b) n among) in
+    let c = eqb (item rules i).predicate 0 in
+    q ∙ ap (λ (m : ℕ). cond c m (without m (2 ^ i))) base ∙ go p c ∙ mask_ext (λ j. p j && (c || not (eqb j i))) _ n (λ j k. rw (held_at rules i, ← e))
   where
-    go : (p : ℕ → Bool) (c : Bool) → cond c (mask_of p rules.count) (without (mask_of p rules.count) (2 ^ i)) ≡ mask_of (λ j. p j && (c || not (eqb j i))) rules.count
-    go p true = mask_ext p _ rules.count (λ j k. sym (and-true (p j)))
-    go p false = mask_without p rules.count i (omega arith)
+    go : (p : ℕ → Bool) (c : Bool) → cond c (mask_of p (length rules)) (without (mask_of p (length rules)) (2 ^ i)) ≡ mask_of (λ j. p j && (c || not (eqb j i))) (length rules)
+    go p true = mask_ext p _ (length rules) (λ j k. sym (and-true (p j)))
+    go p false = mask_without p (length rules) i (omega arith)
 
 -- ---- may_ring
 
@@ -212,76 +223,76 @@ module _ (p : ℕ → Bool) where
 
 -- ---- rules_meet: from one > rule
 
-abbrev pub meeting : Rules → List ℕ → ℕ → ℕ → Bool
-meeting rules rows i j = meets_by (rule_at (rules_of rules) j) rows i j
+abbrev pub meeting : List Rule → List ℕ → ℕ → ℕ → Bool
+meeting rules rows i j = meets_by (rule_at rules j) rows i j
 
-module _ (rules : Rules) (rows : List ℕ) where
-  from_other : (i : ℕ) → i < rules.count → ((item_at rules i).predicate ≡ 1 → ⊥) → false ≡ meets_from (rules_of rules) rows i
+module _ (rules : List Rule) (rows : List ℕ) where
+  from_other : (i : ℕ) → i < length rules → ((item rules i).predicate ≡ 1 → ⊥) → false ≡ meets_from rules rows i
   unfolding meets_from has
-  from_other i h f = rw (held_at rules i h, ne_eqb (item_at rules i).predicate 1 f)
+  from_other i h f = rw (held_at rules i, ne_eqb (item rules i).predicate 1 f)
 
-  pub from_more : (i j : ℕ) (b : Bool) → j < rules.count → any_below (meeting rules rows i) j ≡ false
-      → b ≡ meets_by (item_at rules j) rows i j → b ≡ false → any_below (meeting rules rows i) (j + 1) ≡ false
-  from_more i j b h none e f = none_more (meeting rules rows i) j b none (rw (held_at rules j h) e) f
+  pub from_more : (i j : ℕ) (b : Bool) → j < length rules → any_below (meeting rules rows i) j ≡ false
+      → b ≡ meets_by (item rules j) rows i j → b ≡ false → any_below (meeting rules rows i) (j + 1) ≡ false
+  from_more i j b h none e f = none_more (meeting rules rows i) j b none (rw (held_at rules j) e) f
 
   -- of a > rule it is the search
-  from_greater : (i : ℕ) → length rules.items ≡ most_rules → rules.count ≤ most_rules → i < rules.count → (item_at rules i).predicate ≡ 1
-      → meets_from (rules_of rules) rows i ≡ any_below (meeting rules rows i) rules.count
+  from_greater : (i : ℕ) → length rules ≤ most_rules → i < length rules → (item rules i).predicate ≡ 1
+      → meets_from rules rows i ≡ any_below (meeting rules rows i) (length rules)
   unfolding meets_from has
-  from_greater i all few h e = rw (held_at rules i h, eq-eqb (item_at rules i).predicate 1 e, held-length rules all few)
+  from_greater i few h e = rw (held_at rules i, eq-eqb (item rules i).predicate 1 e)
 
-  from_found : (i j : ℕ) (b : Bool) → length rules.items ≡ most_rules → rules.count ≤ most_rules → i < rules.count → (item_at rules i).predicate ≡ 1
-      → j < rules.count → b ≡ meets_by (item_at rules j) rows i j → b ≡ true → true ≡ meets_from (rules_of rules) rows i
-  from_found i j b all few hi p hj e t =
-      sym (from_greater i all few hi p ∙ any_below_intro (meeting rules rows i) rules.count j hj (rw (held_at rules j hj) (sym e ∙ t)))
+  from_found : (i j : ℕ) (b : Bool) → length rules ≤ most_rules → i < length rules → (item rules i).predicate ≡ 1
+      → j < length rules → b ≡ meets_by (item rules j) rows i j → b ≡ true → true ≡ meets_from rules rows i
+  from_found i j b few hi p hj e t =
+      sym (from_greater i few hi p ∙ any_below_intro (meeting rules rows i) (length rules) j hj (rw (held_at rules j) (sym e ∙ t)))
 
-  from_done : (i j : ℕ) → length rules.items ≡ most_rules → rules.count ≤ most_rules → i < rules.count → (item_at rules i).predicate ≡ 1
-      → j ≤ rules.count → rules.count ≤ j → any_below (meeting rules rows i) j ≡ false → false ≡ meets_from (rules_of rules) rows i
-  from_done i j all few hi p a b none =
-      let q : j ≡ rules.count = omega arith in
-      sym (from_greater i all few hi p ∙ (rw q at none))
+  from_done : (i j : ℕ) → length rules ≤ most_rules → i < length rules → (item rules i).predicate ≡ 1
+      → j ≤ length rules → length rules ≤ j → any_below (meeting rules rows i) j ≡ false → false ≡ meets_from rules rows i
+  from_done i j few hi p a b none =
+      let q : j ≡ length rules = omega arith in
+      sym (from_greater i few hi p ∙ (rw q at none))
 
 -- and from all
 
-module _ (rules : Rules) (rows : List ℕ) where
-  pub meet_other : (i : ℕ) → i < rules.count → ((item_at rules i).predicate ≡ 1 → ⊥) → any_below (meets_from (rules_of rules) rows) i ≡ false
-      → any_below (meets_from (rules_of rules) rows) (i + 1) ≡ false
-  meet_other i h f none = none_more (meets_from (rules_of rules) rows) i false none (from_other rules rows i h f) refl
+module _ (rules : List Rule) (rows : List ℕ) where
+  pub meet_other : (i : ℕ) → i < length rules → ((item rules i).predicate ≡ 1 → ⊥) → any_below (meets_from rules rows) i ≡ false
+      → any_below (meets_from rules rows) (i + 1) ≡ false
+  meet_other i h f none = none_more (meets_from rules rows) i false none (from_other rules rows i h f) refl
 
-  module _ (all : length rules.items ≡ most_rules) (few : rules.count ≤ most_rules) where
-    pub meet_more : (i j : ℕ) → i < rules.count → (item_at rules i).predicate ≡ 1 → j ≤ rules.count → rules.count ≤ j → any_below (meeting rules rows i) j ≡ false
-        → any_below (meets_from (rules_of rules) rows) i ≡ false → any_below (meets_from (rules_of rules) rows) (i + 1) ≡ false
-    meet_more i j h p a b met none = none_more (meets_from (rules_of rules) rows) i false none (from_done rules rows i j all few h p a b met) refl
+  module _ (few : length rules ≤ most_rules) where
+    pub meet_more : (i j : ℕ) → i < length rules → (item rules i).predicate ≡ 1 → j ≤ length rules → length rules ≤ j → any_below (meeting rules rows i) j ≡ false
+        → any_below (meets_from rules rows) i ≡ false → any_below (meets_from rules rows) (i + 1) ≡ false
+    meet_more i j h p a b met none = none_more (meets_from rules rows) i false none (from_done rules rows i j few h p a b met) refl
 
-    meet_count : meets (rules_of rules) rows ≡ any_below (meets_from (rules_of rules) rows) rules.count
+    meet_count : meets rules rows ≡ any_below (meets_from rules rows) (length rules)
     unfolding meets meets_from meets_by has
-    meet_count = ap (any_below (meets_from (rules_of rules) rows)) (held-length rules all few)
+    meet_count = refl
 
-    pub meet_found : (i j : ℕ) (b : Bool) → i < rules.count → (item_at rules i).predicate ≡ 1 → j < rules.count → b ≡ meets_by (item_at rules j) rows i j → b ≡ true
-        → true ≡ meets (rules_of rules) rows
+    pub meet_found : (i j : ℕ) (b : Bool) → i < length rules → (item rules i).predicate ≡ 1 → j < length rules → b ≡ meets_by (item rules j) rows i j → b ≡ true
+        → true ≡ meets rules rows
     meet_found i j b hi p hj e t =
-        sym (meet_count ∙ any_below_intro (meets_from (rules_of rules) rows) rules.count i hi (sym (from_found rules rows i j b all few hi p hj e t)))
+        sym (meet_count ∙ any_below_intro (meets_from rules rows) (length rules) i hi (sym (from_found rules rows i j b few hi p hj e t)))
 
-    pub meet_done : (i : ℕ) → i ≤ rules.count → rules.count ≤ i → any_below (meets_from (rules_of rules) rows) i ≡ false → false ≡ meets (rules_of rules) rows
+    pub meet_done : (i : ℕ) → i ≤ length rules → length rules ≤ i → any_below (meets_from rules rows) i ≡ false → false ≡ meets rules rows
     meet_done i a b none =
-        let q : i ≡ rules.count = omega arith in
+        let q : i ≡ length rules = omega arith in
         sym (meet_count ∙ (rw q at none))
 
 -- ---- equal_ring
 
-module _ (rules : Rules) (among : ℕ) (c : among ≡ mask_of (has (rules_of rules) 0) rules.count) where
-  equal_agrees : Agree rules.count (linked among (rules_of rules)) (equal_leads (rules_of rules))
+module _ (rules : List Rule) (among : ℕ) (c : among ≡ mask_of (has rules 0) (length rules)) where
+  equal_agrees : Agree (length rules) (linked among rules) (equal_leads rules)
   unfolding linked equal_leads
   equal_agrees i j hi hj =
-      let p = has (rules_of rules) 0 in
-      let n = rules.count in
+      let p = has rules 0 in
+      let n = length rules in
       rw (c, bit_mask p n i, bit_mask p n j, lt-ltb i n hi, lt-ltb j n hj)
 
-  pub equal-ring : (rows : List ℕ) (b : Bool) → take rules.count rows ≡ rows_of (linked among (rules_of rules)) rules.count
-      → b ≡ has_ring (related rows) rules.count → b ≡ has_ring (equal_leads (rules_of rules)) rules.count
+  pub equal-ring : (rows : List ℕ) (b : Bool) → take (length rules) rows ≡ rows_of (linked among rules) (length rules)
+      → b ≡ has_ring (related rows) (length rules) → b ≡ has_ring (equal_leads rules) (length rules)
   equal-ring rows b e f =
-      let n = rules.count in
-      f ∙ table_ring (linked among (rules_of rules)) n rows e ∙ has_ring_ext (linked among (rules_of rules)) (equal_leads (rules_of rules)) n equal_agrees
+      let n = length rules in
+      f ∙ table_ring (linked among rules) n rows e ∙ has_ring_ext (linked among rules) (equal_leads rules) n equal_agrees
 
 -- ---- mixed_ring
 
@@ -303,96 +314,96 @@ module _ (rules : List Rule) (rows : List ℕ) where
       let g = and_left (has rules 2 j && related rows i j) (related rows j i) f in
       (i, hi, and_left (has rules 1 i) _ e, j, hj, and_left (has rules 2 j) (related rows i j) g, and_right (has rules 2 j) (related rows i j) g, and_right (has rules 2 j && related rows i j) (related rows j i) f)
 
-module _ (rules : Rules) (all : length rules.items ≡ most_rules) (few : rules.count ≤ most_rules) where
+module _ (rules : List Rule) (few : length rules ≤ most_rules) where
   abbrev ends : List ℕ
-  ends = closed rules.count (rows_of (leads (rules_of rules)) rules.count)
+  ends = closed (length rules) (rows_of (leads rules) (length rules))
 
-  none-having : (p mask i : ℕ) → mask ≡ mask_of (has (rules_of rules) p) rules.count → mask ≡ 0 → i < length (rules_of rules) → has (rules_of rules) p i ≡ true → ⊥
+  none-having : (p mask i : ℕ) → mask ≡ mask_of (has rules p) (length rules) → mask ≡ 0 → i < length rules → has rules p i ≡ true → ⊥
   none-having p mask i c z h e =
-      let l : i < rules.count = rw (held-length rules all few) at h in
-      clash (bit mask i) (rw c (member_mask (has (rules_of rules) p) rules.count i l e)) (rw z (bit-zero i))
+      let l = h in
+      clash (bit mask i) (rw c (member_mask (has rules p) (length rules) i l e)) (rw z (bit-zero i))
 
-  no_greater : (mask : ℕ) → mask ≡ mask_of (has (rules_of rules) 1) rules.count → mask ≡ 0 → meets (rules_of rules) ends ≡ true → ⊥
-  no_greater mask c z t = let m = meets-by (rules_of rules) ends t in none-having 1 mask m.0 c z m.1 m.2
+  no_greater : (mask : ℕ) → mask ≡ mask_of (has rules 1) (length rules) → mask ≡ 0 → meets rules ends ≡ true → ⊥
+  no_greater mask c z t = let m = meets-by rules ends t in none-having 1 mask m.0 c z m.1 m.2
 
-  no_less : (mask : ℕ) → mask ≡ mask_of (has (rules_of rules) 2) rules.count → mask ≡ 0 → meets (rules_of rules) ends ≡ true → ⊥
-  no_less mask c z t = let m = meets-by (rules_of rules) ends t in none-having 2 mask m.3 c z m.4 m.5
+  no_less : (mask : ℕ) → mask ≡ mask_of (has rules 2) (length rules) → mask ≡ 0 → meets rules ends ≡ true → ⊥
+  no_less mask c z t = let m = meets-by rules ends t in none-having 2 mask m.3 c z m.4 m.5
 
   -- rules that meet are two, and on a ring that goes from rule to other rule
-  meets_moves : meets (rules_of rules) ends ≡ true → Ring (Moves (Below rules.count (leads (rules_of rules))))
+  meets_moves : meets rules ends ≡ true → Ring (Moves (Below (length rules) (leads rules)))
   unfolding reaches has
   meets_moves t =
-      let n = rules.count in
-      let R = leads (rules_of rules) in
-      let m = meets-by (rules_of rules) ends t in
-      let hi : m.0 < n = rw (held-length rules all few) at m.1 in
-      let hj : m.3 < n = rw (held-length rules all few) at m.4 in
-      let greater = eqb-true (rule_at (rules_of rules) m.0).predicate 1 m.2 in
-      let less = eqb-true (rule_at (rules_of rules) m.3).predicate 2 m.5 in
-      let two : m.0 ≡ m.3 → ⊥ = λ e. let q = sym greater ∙ ap (λ (i : ℕ). (rule_at (rules_of rules) i).predicate) e ∙ less in omega (arith, q) in
+      let n = length rules in
+      let R = leads rules in
+      let m = meets-by rules ends t in
+      let hi : m.0 < n = m.1 in
+      let hj : m.3 < n = m.4 in
+      let greater = eqb-true (rule_at rules m.0).predicate 1 m.2 in
+      let less = eqb-true (rule_at rules m.3).predicate 2 m.5 in
+      let two : m.0 ≡ m.3 → ⊥ = λ e. let q = sym greater ∙ ap (λ (i : ℕ). (rule_at rules i).predicate) e ∙ less in omega (arith, q) in
       (m.0, plus_trans (plus_moves equal_or_not (reaches_plus R n m.0 m.3 hi hj m.6) two) (plus_moves equal_or_not (reaches_plus R n m.3 m.0 hj hi m.7) (λ e. two (sym e))))
 
   -- and so on a ring
-  meets-ring : meets (rules_of rules) ends ≡ true → has_ring (leads (rules_of rules)) rules.count ≡ true
-  meets-ring t = let r = meets_moves t in ring-has_ring (leads (rules_of rules)) rules.count (r.0, plus_map (λ x. x) (λ i j s. s.0) r.1)
+  meets-ring : meets rules ends ≡ true → has_ring (leads rules) (length rules) ≡ true
+  meets-ring t = let r = meets_moves t in ring-has_ring (leads rules) (length rules) (r.0, plus_map (λ x. x) (λ i j s. s.0) r.1)
 
-  all_agrees : (rows : List ℕ) → take rules.count rows ≡ rows_of (linked everything (rules_of rules)) rules.count
-      → Agree rules.count (related rows) (leads (rules_of rules))
+  all_agrees : (rows : List ℕ) → take (length rules) rows ≡ rows_of (linked everything rules) (length rules)
+      → Agree (length rules) (related rows) (leads rules)
   unfolding linked
   all_agrees rows e i j hi hj =
-      table_related (linked everything (rules_of rules)) rules.count rows e i j hi hj
+      table_related (linked everything rules) (length rules) rows e i j hi hj
       ∙ rw (bit-ones 64 i (omega arith), bit-ones 64 j (omega arith))
 
-  module _ (rows : List ℕ) (b : Bool) (e : take rules.count rows ≡ rows_of (linked everything (rules_of rules)) rules.count) where
-    pub mixed-none : b ≡ has_ring (related rows) rules.count → not b ≡ true
-        → false ≡ meets (rules_of rules) (closed rules.count (rows_of (leads (rules_of rules)) rules.count))
+  module _ (rows : List ℕ) (b : Bool) (e : take (length rules) rows ≡ rows_of (linked everything rules) (length rules)) where
+    pub mixed-none : b ≡ has_ring (related rows) (length rules) → not b ≡ true
+        → false ≡ meets rules (closed (length rules) (rows_of (leads rules) (length rules)))
     mixed-none f g =
-        let n = rules.count in
-        let R = leads (rules_of rules) in
-        sym (untrue (meets (rules_of rules) ends) (λ t. clash (has_ring R n) (meets-ring t) (sym (has_ring_ext (related rows) R n (all_agrees rows e)) ∙ sym f ∙ not-true b g)))
+        let n = length rules in
+        let R = leads rules in
+        sym (untrue (meets rules ends) (λ t. clash (has_ring R n) (meets-ring t) (sym (has_ring_ext (related rows) R n (all_agrees rows e)) ∙ sym f ∙ not-true b g)))
 
     -- the search asks a table about rules that are held only
-    pub mixed-ring : (reached : List ℕ) → take rules.count reached ≡ take rules.count (closed rules.count rows) → b ≡ meets (rules_of rules) reached
-        → b ≡ meets (rules_of rules) (closed rules.count (rows_of (leads (rules_of rules)) rules.count))
+    pub mixed-ring : (reached : List ℕ) → take (length rules) reached ≡ take (length rules) (closed (length rules) rows) → b ≡ meets rules reached
+        → b ≡ meets rules (closed (length rules) (rows_of (leads rules) (length rules)))
     unfolding meets reaches
     mixed-ring reached q f =
-        let n = rules.count in
-        let same : (i j : ℕ) → i < n → j < n → related reached i j ≡ reaches (leads (rules_of rules)) n i j
-        = λ i j hi hj. related-first n reached (closed n rows) q i j hi ∙ related-closed rows (leads (rules_of rules)) n (all_agrees rows e) i j hi hj in
-        f ∙ rw (held-length rules all few)
-        (any_below_ext _ _ n (λ i hi. ap (λ (b : Bool). has (rules_of rules) 1 i && b)
+        let n = length rules in
+        let same : (i j : ℕ) → i < n → j < n → related reached i j ≡ reaches (leads rules) n i j
+        = λ i j hi hj. related-first n reached (closed n rows) q i j hi ∙ related-closed rows (leads rules) n (all_agrees rows e) i j hi hj in
+        f ∙
+        (any_below_ext _ _ n (λ i hi. ap (λ (b : Bool). has rules 1 i && b)
         (any_below_ext _ _ n (λ j hj. rw (same i j hi hj, same j i hj hi)))))
 
   -- ---- suspects
 
-  pub suspects-all : Suspects (rules_of rules) rules.count everything
+  pub suspects-all : Suspects rules (length rules) everything
   suspects-all = record { equal = λ i h e. bit-ones 64 i (omega arith); mixed = λ t. refl }
 
-  module _ (equals mask : ℕ) (c : equals ≡ mask_of (has (rules_of rules) 0) rules.count) (z : mask ≡ 0) where
-    pub suspects_no_greater : mask ≡ mask_of (has (rules_of rules) 1) rules.count → Suspects (rules_of rules) rules.count equals
+  module _ (equals mask : ℕ) (c : equals ≡ mask_of (has rules 0) (length rules)) (z : mask ≡ 0) where
+    pub suspects_no_greater : mask ≡ mask_of (has rules 1) (length rules) → Suspects rules (length rules) equals
     suspects_no_greater d = record {
-      equal = λ i h e. rw c (member_mask (has (rules_of rules) 0) rules.count i h e);
+      equal = λ i h e. rw c (member_mask (has rules 0) (length rules) i h e);
       mixed = λ t. absurd (no_greater mask d z t);
     }
 
-    pub suspects_no_less : mask ≡ mask_of (has (rules_of rules) 2) rules.count → Suspects (rules_of rules) rules.count equals
+    pub suspects_no_less : mask ≡ mask_of (has rules 2) (length rules) → Suspects rules (length rules) equals
     suspects_no_less d = record {
-      equal = λ i h e. rw c (member_mask (has (rules_of rules) 0) rules.count i h e);
+      equal = λ i h e. rw c (member_mask (has rules 0) (length rules) i h e);
       mixed = λ t. absurd (no_less mask d z t);
     }
 
   -- ---- is_cyclic
 
-  module _ (among : ℕ) (s : Suspects (rules_of rules) rules.count among) (b : Bool) where
-    cyclic-by : has_ring (equal_leads (rules_of rules)) rules.count ≡ false → meets (rules_of rules) ends ≡ false → false ≡ cyclic (rules_of rules)
+  module _ (among : ℕ) (s : Suspects rules (length rules) among) (b : Bool) where
+    cyclic-by : has_ring (equal_leads rules) (length rules) ≡ false → meets rules ends ≡ false → false ≡ cyclic rules
     unfolding cyclic
-    cyclic-by e f = rw (held-length rules all few, e, f)
+    cyclic-by e f = rw (e, f)
 
-    pub cyclic_straight : b ≡ has_ring (near among (rules_of rules)) rules.count → not b ≡ true → false ≡ cyclic (rules_of rules)
+    pub cyclic_straight : b ≡ has_ring (near among rules) (length rules) → not b ≡ true → false ≡ cyclic rules
     unfolding equal_leads
     cyclic_straight e f =
-        let n = rules.count in
-        let rs = rules_of rules in
+        let n = length rules in
+        let rs = rules in
         cyclic-by
         (untrue (has_ring (equal_leads rs) n) (λ t.
         straight rs among n b (Below n (equal_leads rs)) e f
@@ -407,18 +418,18 @@ module _ (rules : Rules) (all : length rules.items ≡ most_rules) (few : rules.
         (q.0.0, h, rw (s.mixed t) (bit-ones 64 j (omega arith)), q.0.2, or_right (has rs 0 i) _ (ap not (ne_eqb j i (λ z. q.1 (sym z))))))
         (meets_moves t)))
 
-    pub cyclic_plain : b ≡ has_ring (equal_leads (rules_of rules)) rules.count → b ≡ false → (among ≡ everything → ⊥) → false ≡ cyclic (rules_of rules)
-    cyclic_plain e f d = cyclic-by (sym e ∙ f) (untrue (meets (rules_of rules) ends) (λ t. d (s.mixed t)))
+    pub cyclic_plain : b ≡ has_ring (equal_leads rules) (length rules) → b ≡ false → (among ≡ everything → ⊥) → false ≡ cyclic rules
+    cyclic_plain e f d = cyclic-by (sym e ∙ f) (untrue (meets rules ends) (λ t. d (s.mixed t)))
 
-module _ (rules : Rules) (b : Bool) where
-  pub cyclic-equal : length rules.items ≡ most_rules → rules.count ≤ most_rules → b ≡ has_ring (equal_leads (rules_of rules)) rules.count → b ≡ true
-      → true ≡ cyclic (rules_of rules)
+module _ (rules : List Rule) (b : Bool) where
+  pub cyclic-equal : length rules ≤ most_rules → b ≡ has_ring (equal_leads rules) (length rules) → b ≡ true
+      → true ≡ cyclic rules
   unfolding cyclic
-  cyclic-equal all few e t = rw (held-length rules all few, ← e, t)
+  cyclic-equal few e t = rw (← e, t)
 
-  pub cyclic-mixed : (d : Bool) → length rules.items ≡ most_rules → rules.count ≤ most_rules → b ≡ has_ring (equal_leads (rules_of rules)) rules.count → b ≡ false
-      → d ≡ meets (rules_of rules) (closed rules.count (rows_of (leads (rules_of rules)) rules.count)) → d ≡ cyclic (rules_of rules)
+  pub cyclic-mixed : (d : Bool) → length rules ≤ most_rules → b ≡ has_ring (equal_leads rules) (length rules) → b ≡ false
+      → d ≡ meets rules (closed (length rules) (rows_of (leads rules) (length rules))) → d ≡ cyclic rules
   unfolding cyclic
-  cyclic-mixed d all few e n f = rw (held-length rules all few, ← e, n) f
+  cyclic-mixed d few e n f = rw (← e, n) f
 
-pub ruleset steps = (rules, length_mapped, blank_made, mask_begun, mask_all, having-more, starting_more, row_out, row_in, linked-row, fill-begun, fill_more, fill_done, buckets_none, buckets_more, bucket-small, bucket-small_yet, bucket-fits, buckets_all, near-row, may-ring, may_none, apart-equal, apart_other, at_other, at_both, at_none, none-begun, from_more, meet_other, meet_more, meet_found, meet_done, equal-ring, mixed-none, mixed-ring, suspects-all, suspects_no_greater, suspects_no_less, cyclic_straight, cyclic-equal, cyclic_plain, cyclic-mixed)
+pub ruleset steps = (rules, length_mapped, held_few, blank_made, mask_begun, mask_all, having-more, starting_more, row_out, row_in, linked-row, fill-begun, fill_more, fill_done, buckets_none, buckets_more, bucket-small, bucket-small_yet, bucket-fits, buckets_all, near-row, may-ring, may_none, apart-equal, apart_other, at_other, at_both, at_none, none-begun, from_more, meet_other, meet_more, meet_found, meet_done, equal-ring, mixed-none, mixed-ring, suspects-all, suspects_no_greater, suspects_no_less, cyclic_straight, cyclic-equal, cyclic_plain, cyclic-mixed)

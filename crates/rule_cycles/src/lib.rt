@@ -9,24 +9,34 @@ ghost use Rattle.relation.specs.Finite.{rows_of, closed, has_ring};
 ghost use Rattle.model.specs.Limits.{most_rules};
 ghost use Rattle.model.specs.Cyclic.{leads, has, equal_leads, meets, cyclic};
 ghost use Rattle.rule_match.specs.Held.{rules_of};
-ghost use Rattle.rule_cycles.specs.Links.{linked, Buckets, near, Suspects, meets_by};
+ghost use Rattle.rule_cycles.specs.Links.{starts, linked, Buckets, near, Suspects, meets_by};
 
 use model::Rule;
 use rule_match::Rules;
 
 // All numbers below 64, and so all rules.
-const ALL: u64 = 18446744073709551615;
+const ALL: u64 = u64::MAX;
 
 // The rules with a predicate.
-fn having(rules: Rules, predicate: u16) -> u64
-    requires { rules.count ≤ most_rules }
-    ensures { result ≡ mask_of (has (rules_of rules) predicate) rules.count }
+fn having(rules: &[Rule], predicate: u16) -> u64
+    requires { length rules.now ≤ most_rules }
+    ensures { result ≡ mask_of (has rules.now predicate) (length rules.now) }
 {
     let mut mask: u64 = 0;
-    let mut i: usize = 0;
-    while i < rules.count {
-        mask = relation::with_if(mask, i, rules.items[i].predicate == predicate);
-        i += 1;
+    for (i, rule) in rules.iter().enumerate() {
+        mask = relation::with_if(mask, i, rule.predicate == predicate);
+    }
+    mask
+}
+
+// The rules with a first name.
+fn starting(rules: &[Rule], name: u16) -> u64
+    requires { length rules.now ≤ most_rules }
+    ensures { result ≡ mask_of (starts rules.now name) (length rules.now) }
+{
+    let mut mask: u64 = 0;
+    for (j, rule) in rules.iter().enumerate() {
+        mask = relation::with_if(mask, j, name == rule.first);
     }
     mask
 }
@@ -42,22 +52,13 @@ fn row(led: u64, i: usize, among: u64) -> u64
     led & among
 }
 
-// The table of which rule of a set leads to which. (Both loops stand here, and in no function of their own, so
-// that the rules are not copied for each of them.)
-fn fill(rows: &mut [u64], rules: Rules, among: u64)
-    requires { (rules.count ≤ most_rules) × (length rows.old ≡ most_rules) }
-    ensures { take rules.count rows.new ≡ rows_of (linked among (rules_of rules)) rules.count }
+// The table of which rule of a set leads to which.
+fn fill(rows: &mut [u64; model::MOST_RULES], rules: &[Rule], among: u64)
+    requires { length rules.now ≤ most_rules }
+    ensures { take (length rules.now) rows.new ≡ rows_of (linked among rules.now) (length rules.now) }
 {
-    let mut i: usize = 0;
-    'rules: while i < rules.count {
-        let mut led: u64 = 0;
-        let mut j: usize = 0;
-        'led: while j < rules.count {
-            led = relation::with_if(led, j, rules.items[i].second == rules.items[j].first);
-            j += 1;
-        }
-        rows[i] = row(led, i, among);
-        i += 1;
+    for (i, rule) in rules.iter().enumerate() {
+        rows[i] = row(starting(rules, rule.second), i, among);
     }
 }
 
@@ -69,15 +70,13 @@ fn bucket(name: u16) -> usize
 }
 
 // The rules by the lowest six bits of their first names.
-fn fill_buckets(buckets: &mut [u32], rules: Rules)
-    requires { (rules.count ≤ most_rules) × ((length buckets.old ≡ 64) × Blank 64 buckets.old) }
-    ensures { Buckets (rules_of rules) rules.count buckets.new }
+fn fill_buckets(buckets: &mut [u32; 64], rules: &[Rule])
+    requires { (length rules.now ≤ most_rules) × Blank 64 buckets.old }
+    ensures { Buckets rules.now (length rules.now) buckets.new }
 {
-    let mut j: usize = 0;
-    while j < rules.count {
-        let b = bucket(rules.items[j].first);
-        buckets[b] = relation::with_bit(buckets[b] as u64, j) as u32;
-        j += 1;
+    for (j, rule) in rules.iter().enumerate() {
+        let b = bucket(rule.first);
+        buckets[b] = relation::with_bit(u64::from(buckets[b]), j) as u32;
     }
 }
 
@@ -93,24 +92,22 @@ fn apart(row: u64, i: usize, predicate: u16) -> u64
 }
 
 // The table of which rule may lead to which of a set, by buckets.
-fn fill_near(rows: &mut [u64], buckets: &[u32], rules: Rules, among: u64)
-    requires { ((rules.count ≤ most_rules) × (length rows.old ≡ most_rules)) × ((length buckets.now ≡ 64) × Buckets (rules_of rules) rules.count buckets.now) }
-    ensures { take rules.count rows.new ≡ rows_of (near among (rules_of rules)) rules.count }
+fn fill_near(rows: &mut [u64; model::MOST_RULES], buckets: &[u32; 64], rules: &[Rule], among: u64)
+    requires { (length rules.now ≤ most_rules) × Buckets rules.now (length rules.now) buckets.now }
+    ensures { take (length rules.now) rows.new ≡ rows_of (near among rules.now) (length rules.now) }
 {
-    let mut i: usize = 0;
-    while i < rules.count {
-        let row = buckets[bucket(rules.items[i].second)] as u64 & among;
-        rows[i] = apart(row, i, rules.items[i].predicate);
-        i += 1;
+    for (i, rule) in rules.iter().enumerate() {
+        let row = u64::from(buckets[bucket(rule.second)]) & among;
+        rows[i] = apart(row, i, rule.predicate);
     }
 }
 
 // Whether rules of a set may lead round, told by the lowest bits of their names. Where they may not, there is
 // no ring of = rules, nor one of a > and a < rule; where they may, names have to be compared, each with each.
 // (It, equal_ring and mixed_ring are lent one table to work in, whatever it holds.)
-fn may_ring(rows: &mut [u64], rules: Rules, among: u64) -> bool
-    requires { (rules.count ≤ most_rules) × (length rows.old ≡ most_rules) }
-    ensures { result ≡ has_ring (near among (rules_of rules)) rules.count }
+fn may_ring(rows: &mut [u64; model::MOST_RULES], rules: &[Rule], among: u64) -> bool
+    requires { length rules.now ≤ most_rules }
+    ensures { result ≡ has_ring (near among rules.now) (length rules.now) }
 {
     if among == 0 {
         return false;
@@ -118,12 +115,12 @@ fn may_ring(rows: &mut [u64], rules: Rules, among: u64) -> bool
     let mut buckets = [0u32; 64];
     fill_buckets(&mut buckets, rules);
     fill_near(rows, &buckets, rules, among);
-    relation::has_ring(rows, rules.count)
+    relation::has_ring(rows, rules.len())
 }
 
 // Whether rule is a < rule, and i and j reach each other.
-fn meets_at(rows: &[u64], rule: Rule, i: usize, j: usize) -> bool
-    requires { ((i < most_rules) × (j < most_rules)) × (length rows.now ≡ most_rules) }
+fn meets_at(rows: &[u64; model::MOST_RULES], rule: Rule, i: usize, j: usize) -> bool
+    requires { (i < most_rules) × (j < most_rules) }
     ensures { result ≡ meets_by rule rows.now i j }
 {
     if rule.predicate != 2 {
@@ -136,32 +133,27 @@ fn meets_at(rows: &[u64], rule: Rule, i: usize, j: usize) -> bool
 }
 
 // Whether some > rule and some < rule reach each other.
-fn rules_meet(rows: &[u64], rules: Rules) -> bool
-    requires { (rules.count ≤ most_rules) × (length rows.now ≡ most_rules) }
-    ensures { result ≡ meets (rules_of rules) rows.now }
+fn rules_meet(rows: &[u64; model::MOST_RULES], rules: &[Rule]) -> bool
+    requires { length rules.now ≤ most_rules }
+    ensures { result ≡ meets rules.now rows.now }
 {
-    let mut i: usize = 0;
-    'greater: while i < rules.count {
-        if rules.items[i].predicate != 1 {
-            i += 1;
+    'greater: for (i, rule) in rules.iter().enumerate() {
+        if rule.predicate != 1 {
             continue 'greater;
         }
-        let mut j: usize = 0;
-        'less: while j < rules.count {
-            if meets_at(rows, rules.items[j], i, j) {
+        'less: for (j, other) in rules.iter().enumerate() {
+            if meets_at(rows, *other, i, j) {
                 return true;
             }
-            j += 1;
         }
-        i += 1;
     }
     false
 }
 
 // The rules that a ring can be made of: the = rules, and all where there are both > and < rules.
-fn suspects(rules: Rules) -> u64
-    requires { rules.count ≤ most_rules }
-    ensures { Suspects (rules_of rules) rules.count result }
+fn suspects(rules: &[Rule]) -> u64
+    requires { length rules.now ≤ most_rules }
+    ensures { Suspects rules.now (length rules.now) result }
 {
     let equals = having(rules, 0);
     if having(rules, 1) == 0 {
@@ -174,24 +166,24 @@ fn suspects(rules: Rules) -> u64
 }
 
 // Whether = rules lead round.
-fn equal_ring(rows: &mut [u64], rules: Rules) -> bool
-    requires { (rules.count ≤ most_rules) × (length rows.old ≡ most_rules) }
-    ensures { result ≡ has_ring (equal_leads (rules_of rules)) rules.count }
+fn equal_ring(rows: &mut [u64; model::MOST_RULES], rules: &[Rule]) -> bool
+    requires { length rules.now ≤ most_rules }
+    ensures { result ≡ has_ring (equal_leads rules.now) (length rules.now) }
 {
     fill(rows, rules, having(rules, 0));
-    relation::has_ring(rows, rules.count)
+    relation::has_ring(rows, rules.len())
 }
 
 // Whether rules lead round by way of a > and a < rule. Where nothing leads round, nothing is closed.
-fn mixed_ring(rows: &mut [u64], rules: Rules) -> bool
-    requires { (rules.count ≤ most_rules) × (length rows.old ≡ most_rules) }
-    ensures { result ≡ meets (rules_of rules) (closed rules.count (rows_of (leads (rules_of rules)) rules.count)) }
+fn mixed_ring(rows: &mut [u64; model::MOST_RULES], rules: &[Rule]) -> bool
+    requires { length rules.now ≤ most_rules }
+    ensures { result ≡ meets rules.now (closed (length rules.now) (rows_of (leads rules.now) (length rules.now))) }
 {
     fill(rows, rules, ALL);
-    if !relation::has_ring(rows, rules.count) {
+    if !relation::has_ring(rows, rules.len()) {
         return false;
     }
-    relation::close(rows, rules.count);
+    relation::close(rows, rules.len());
     rules_meet(rows, rules)
 }
 
@@ -200,16 +192,17 @@ pub fn is_cyclic(rules: Rules) -> bool
     requires { rules.count ≤ most_rules }
     ensures { result ≡ cyclic (rules_of rules) }
 {
-    let among = suspects(rules);
+    let held = &rules.items[..rules.count];
+    let among = suspects(held);
     let mut rows = [0u64; model::MOST_RULES];
-    if !may_ring(&mut rows, rules, among) {
+    if !may_ring(&mut rows, held, among) {
         return false;
     }
-    if equal_ring(&mut rows, rules) {
+    if equal_ring(&mut rows, held) {
         return true;
     }
     if among != ALL {
         return false;
     }
-    mixed_ring(&mut rows, rules)
+    mixed_ring(&mut rows, held)
 }

@@ -1,19 +1,15 @@
--- Rules that are held and matches: one law for each return; and a dependency by one rule more.
-use mathlib.Core.Path.{◌≡◌, refl, sym, ap, ◌∙◌}
-use mathlib.Core.Bool.{Bool, false, and-false, or-false, ◌||◌}
+-- Rules that are held, and a dependency by one rule more.
+use mathlib.Core.Path.{◌≡◌, sym, ap, ◌∙◌}
+use mathlib.Core.Bool.{Bool, or-false, ◌||◌}
 use mathlib.Core.List.{List, [], ◌∷◌, map}
-use Prim.Native.Nat.{ℕ, zero, suc, ◌≤◌, ◌<◌}
+use Prim.Native.Nat.{ℕ, suc, ◌≤◌, ◌<◌}
 use native.Mathlib.Omega.{arith}
-use lib.Dec.{eqb, ltb}
 use lib.ListN.{length, length-map, take}
 use lib.Seq.{length-take-le, get_or-take, take-suc}
-use borrow.Author.Rules.{rules}
-use borrow.Author.Tests.{eq-eqb, ne_eqb}
 use Rattle.relation.specs.Lists.{any}
 use Rattle.relation.proofs.ListLaws.{any_append, index_mem}
 use Rattle.model.specs.Limits.{most_rules}
-use Rattle.model.specs.declared.Rule.{Rule}
-use Rattle.model.specs.Rules.{Label, stands, matches, depends_on, Known}
+use Rattle.model.specs.Rules.{Label, matches, depends_on, Known}
 use Rattle.model.specs.Cyclic.{no_rule, rule_at}
 use Rattle.rule_match.specs.declared.Rules.{Rules}
 use Rattle.rule_match.specs.Held.{item_at, rules_of}
@@ -39,43 +35,6 @@ module _ (rules : Rules) where
   unfolding no_rule
   held_at i h = get_or-take rules.count rules.items i no_rule h
 
--- ---- epochs_stand
-
-module _ (p t u : ℕ) where
-  pub stands-equal : p ≡ 0 → eqb t u ≡ stands p t u
-  unfolding stands
-  stands-equal e = rw e
-
-  pub stands_greater : p ≡ 1 → ltb u t ≡ stands p t u
-  unfolding stands
-  stands_greater e = rw e
-
-  pub stands_less : p ≡ 2 → ltb t u ≡ stands p t u
-  unfolding stands
-  stands_less e = rw e
-
-pub stands-other : (p t u : ℕ) → (p ≡ 0 → ⊥) → (p ≡ 1 → ⊥) → (p ≡ 2 → ⊥) → false ≡ stands p t u
-unfolding stands
-stands-other zero t u a b c = absurd (a refl)
-stands-other (suc zero) t u a b c = absurd (b refl)
-stands-other (suc (suc zero)) t u a b c = absurd (c refl)
-stands-other (suc (suc (suc p))) t u a b c = refl
-
--- ---- matches
-
-module _ (r : Rule) (l m : Label) where
-  pub matches-first : (l.name ≡ r.first → ⊥) → false ≡ matches r l m
-  unfolding matches
-  matches-first f = rw (ne_eqb l.name r.first f)
-
-  pub matches-second : (m.name ≡ r.second → ⊥) → false ≡ matches r l m
-  unfolding matches
-  matches-second f = rw (ne_eqb m.name r.second f, and-false (eqb l.name r.first))
-
-  pub matches-stands : (b : Bool) → l.name ≡ r.first → m.name ≡ r.second → b ≡ stands r.predicate l.epoch m.epoch → b ≡ matches r l m
-  unfolding matches
-  matches-stands b p q e = rw (eq-eqb l.name r.first p, eq-eqb m.name r.second q) e
-
 -- ---- dependencies
 
 module _ (rules : Rules) (l m : Label) where
@@ -87,5 +46,3 @@ module _ (rules : Rules) (l m : Label) where
       ap (any (λ r. matches r l m)) (take-suc rules.items i _ h)
       ∙ any_append (λ r. matches r l m) (take i rules.items) (item_at rules i ∷ [])
       ∙ ap (λ (b : Bool). depends_on (take i rules.items) l m || b) (or-false (matches (item_at rules i) l m))
-
-pub ruleset matching = (rules, length_mapped, stands-equal, stands_greater, stands_less, stands-other, matches-first, matches-second, matches-stands)

@@ -28,30 +28,22 @@ pub fn none() -> Rules
 }
 
 // Whether epochs t and u stand in the relation of a predicate.
+#[tactic(auto, unfolding(model::specs::Rules::stands))]
 fn epochs_stand(p: u16, t: u32, u: u32) -> bool
     ensures { result ≡ stands p t u }
 {
-    if p == 0 {
-        return t == u;
+    match p {
+        0 => t == u,
+        1 => t > u,
+        2 => t < u,
+        _ => false,
     }
-    if p == 1 {
-        return u < t;
-    }
-    if p == 2 {
-        return t < u;
-    }
-    false
 }
 
 // Whether a rule pairs the label (n, t) with the label (m, u).
+#[tactic(auto, unfolding(model::specs::Rules::matches))]
 pub fn matches(rule: Rule, n: u16, t: u32, m: u16, u: u32) -> bool
     ensures { result ≡ matches rule (label n t) (label m u) }
 {
-    if n != rule.first {
-        return false;
-    }
-    if m != rule.second {
-        return false;
-    }
-    epochs_stand(rule.predicate, t, u)
+    n == rule.first && m == rule.second && epochs_stand(rule.predicate, t, u)
 }

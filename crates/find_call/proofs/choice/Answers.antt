@@ -4,14 +4,8 @@ use Rattle.find_table.specs.Table.{set_words}
 use Rattle.find_choice.proofs.ChoiceSteps.{choosing}
 use Rattle.find_call.proofs.choice.Goals as goal
 
-pub slice_bounds-mark_all-end : goal.slice_bounds-mark_all-end
-slice_bounds-mark_all-end c = search choosing
-
 pub mark_all-requires : goal.mark_all-requires
-mark_all-requires c = (search choosing, (search choosing, (search choosing, (search choosing, blank_made set_words))))
-
-pub slice_bounds-lower_all-end : goal.slice_bounds-lower_all-end
-slice_bounds-lower_all-end c = search choosing
+mark_all-requires c = (search choosing, (search choosing, (search choosing, blank_made set_words)))
 
 pub lower_all-requires : goal.lower_all-requires
 lower_all-requires c = search choosing

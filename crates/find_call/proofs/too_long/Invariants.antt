@@ -1,12 +1,8 @@
--- `find_call::too_long` meets its contract. The invariant: none of the first i tests is too long.
-use Prim.Native.Nat.{◌-◌, ◌≤◌}
+-- `find_call::too_long` meets its contract. The invariant: none of the tests before is too long.
 use mathlib.Core.Path.{◌≡◌}
 use mathlib.Core.Bool.{false}
 use Rattle.find_call.specs.Finder.{long_below}
 use Rattle.find_call.proofs.too_long.Given as goal
 
-abbrev pub invariant-loop-i : goal.invariant-loop-i
-invariant-loop-i l = (l.i ≤ l.n) × (long_below l.tests l.i ≡ false)
-
-abbrev pub decreases-loop-i : goal.decreases-loop-i
-decreases-loop-i l = l.n - l.i
+abbrev pub invariant-loop-test : goal.invariant-loop-test
+invariant-loop-test l = long_below l.fn.tests l.test-index ≡ false

@@ -6,6 +6,3 @@ use Rattle.find_candidates.proofs.collect.Given as goal
 
 abbrev pub invariant-loop-t : goal.invariant-loop-t
 invariant-loop-t l = (l.t ≤ l.n) × (l.out.count ≤ most_candidates + 1) × Gathered l.file l.t l.out
-
-abbrev pub decreases-loop-t : goal.decreases-loop-t
-decreases-loop-t l = l.t

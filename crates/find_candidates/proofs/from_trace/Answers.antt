@@ -5,17 +5,5 @@ use Rattle.find_candidates.proofs.from_trace.Goals as goal
 pub loop-i-init : goal.loop-i-init
 loop-i-init c = search steps
 
-pub from_write-out-requires : goal.from_write-out-requires
-from_write-out-requires c = search steps
-
-pub overflow_add-i : goal.overflow_add-i
-overflow_add-i c = search steps
-
-pub loop-i-smaller : goal.loop-i-smaller
-loop-i-smaller c = search steps
-
 pub loop-i-preserved : goal.loop-i-preserved
 loop-i-preserved c = search steps
-
-pub returns : goal.returns
-returns c = search steps

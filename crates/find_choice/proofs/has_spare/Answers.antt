@@ -5,20 +5,11 @@ use Rattle.find_choice.proofs.has_spare.Goals as goal
 pub loop-i-init : goal.loop-i-init
 loop-i-init c = search sparing
 
-pub is_spare-requires : goal.is_spare-requires
-is_spare-requires c = search sparing
+pub loop-i-preserved : goal.loop-i-preserved
+loop-i-preserved c = search sparing
 
 pub returns-then-is_spare : goal.returns-then-is_spare
 returns-then-is_spare c = search sparing
-
-pub overflow_add-i : goal.overflow_add-i
-overflow_add-i c = search sparing
-
-pub loop-i-smaller : goal.loop-i-smaller
-loop-i-smaller c = search sparing
-
-pub loop-i-preserved : goal.loop-i-preserved
-loop-i-preserved c = search sparing
 
 pub returns : goal.returns
 returns c = search sparing

@@ -1,9 +1,6 @@
--- `find_table::lacking` meets its contract. By the machine's shifts.
+-- `find_table::lacking` meets its contract. By the power.
 use Rattle.find_table.proofs.TableSteps.{lowering}
 use Rattle.find_table.proofs.lacking.Goals as goal
-
-pub overflow_shl-result : goal.overflow_shl-result
-overflow_shl-result c = search lowering
 
 pub overflow_shl-result-2 : goal.overflow_shl-result-2
 overflow_shl-result-2 c = search lowering

@@ -1,12 +1,6 @@
 -- `find_table::lower_across` meets its contract. The invariant: the marks of the sets of the first i words are handed down, the other words are as they were.
-use mathlib.Core.Path.{◌≡◌}
-use Prim.Native.Nat.{◌-◌, ◌≤◌}
-use lib.ListN.{length}
-use Rattle.find_table.specs.Table.{set_words, Lowered}
+use Rattle.find_table.specs.Table.{Lowered}
 use Rattle.find_table.proofs.lower_across.Given as goal
 
 abbrev pub invariant-loop-i : goal.invariant-loop-i
-invariant-loop-i l = (l.i ≤ l.words) × (length l.table ≡ set_words) × Lowered l.b l.initial.table l.table l.i
-
-abbrev pub decreases-loop-i : goal.decreases-loop-i
-decreases-loop-i l = l.words - l.i
+invariant-loop-i l = Lowered l.b l.initial.table l.table l.i

@@ -1,12 +1,8 @@
--- `find_table::lower_within` meets its contract. The invariant: the marks of the sets of the first i words are handed down, the other words are as they were.
-use mathlib.Core.Path.{◌≡◌}
-use Prim.Native.Nat.{◌-◌, ◌^◌, ◌<◌, ◌≤◌}
-use lib.ListN.{length}
-use Rattle.find_table.specs.Table.{set_words, lacking, Lowered}
+-- `find_table::lower_within` meets its contract. The invariant: the words before are done, the others are as they were.
+use lib.ListN.{drop}
+use mathlib.Core.List.{◌++◌}
+use Rattle.find_table.specs.Table.{Lowered}
 use Rattle.find_table.proofs.lower_within.Given as goal
 
-abbrev pub invariant-loop-i : goal.invariant-loop-i
-invariant-loop-i l = (l.i ≤ l.words) × (length l.table ≡ set_words) × (l.step ≡ 2 ^ l.b) × (l.step < 64) × (l.without ≡ lacking l.b) × Lowered l.b l.initial.table l.table l.i
-
-abbrev pub decreases-loop-i : goal.decreases-loop-i
-decreases-loop-i l = l.words - l.i
+abbrev pub invariant-loop-word : goal.invariant-loop-word
+invariant-loop-word l = Lowered l.fn.b l.fn.table (l.word-items ++ drop l.fn.words l.fn.table) l.word-index

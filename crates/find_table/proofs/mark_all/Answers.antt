@@ -1,38 +1,23 @@
 -- `find_table::mark_all` meets its contract. The invariant: the sets of the tests from t on are marked.
-use borrow.Author.Rules.{rules}
 use native.Mathlib.Omega.{arith}
-use Rattle.find_table.proofs.MarkLaws.{test_short, marking_more}
 use Rattle.find_table.proofs.TableSteps.{marking}
+use Rattle.find_table.proofs.MarkLaws.{test_short, marking_more}
+use Rattle.std.proofs.Common.{rules}
 use Rattle.find_table.proofs.mark_all.Goals as goal
 
 pub loop-t-init : goal.loop-t-init
 loop-t-init c = search marking
 
-pub overflow_sub-t : goal.overflow_sub-t
-overflow_sub-t c = search marking
-
-pub offset_bounds-tests-t : goal.offset_bounds-tests-t
-offset_bounds-tests-t c = search marking
-
-pub bounds-tests-t : goal.bounds-tests-t
-bounds-tests-t c = search marking
-
 pub mark_test-requires : goal.mark_test-requires
 mark_test-requires c =
     let p = c.requires in
-    (search marking, (p.1.0, (p.1.1.0.inside _ (search rules), test_short _ _ _ _ p.1.1.0 p.1.1.1.0 (search rules))))
-
-pub loop-t-smaller : goal.loop-t-smaller
-loop-t-smaller c = search marking
+    (p.0, (p.1.0.inside _ (search rules), test_short _ _ _ _ p.1.0 p.1.1.0 (search rules)))
 
 pub loop-t-preserved : goal.loop-t-preserved
 loop-t-preserved c =
     let l = c.loop-t in
     let p = c.requires in
-    (search marking, search marking, marking_more _ _ _ _ p.1.1.0 _ l.t l.table _ l.invariant.2 l.invariant.0 (omega arith) c.mark_test.ensures)
-
-pub shape_of-table : goal.shape_of-table
-shape_of-table c = search marking
+    marking_more _ _ _ _ p.1.0 _ l.t l.table _ l.invariant (search rules) (omega arith) c.mark_test.ensures
 
 pub returns : goal.returns
 returns c = search marking

@@ -1,14 +1,7 @@
 -- `find_table::mark_all` meets its contract. The invariant: the sets of the tests from t on are marked.
-use mathlib.Core.Path.{◌≡◌}
-use Prim.Native.Nat.{◌≤◌}
-use lib.ListN.{length}
 use Rattle.rule_match.specs.Held.{rules_of}
-use Rattle.find_table.specs.Table.{set_words}
 use Rattle.find_table.proofs.MarkLaws.{Marking}
 use Rattle.find_table.proofs.mark_all.Given as goal
 
 abbrev pub invariant-loop-t : goal.invariant-loop-t
-invariant-loop-t l = (l.t ≤ l.n) × (length l.table ≡ set_words) × Marking (rules_of l.cands) l.file l.t l.table
-
-abbrev pub decreases-loop-t : goal.decreases-loop-t
-decreases-loop-t l = l.t
+invariant-loop-t l = Marking (rules_of l.cands) l.file l.t l.table

@@ -1,13 +1,8 @@
 -- `find_table::matching` meets its contract. The invariant: the mask is that of the first c candidates.
 use mathlib.Core.Path.{◌≡◌}
-use Prim.Native.Nat.{◌-◌, ◌≤◌}
-use Rattle.rule_match.specs.Held.{rules_of}
 use Rattle.judge_disks.specs.Packed.{labelled}
 use Rattle.find_table.specs.Table.{matching}
 use Rattle.find_table.proofs.matching.Given as goal
 
 abbrev pub invariant-loop-c : goal.invariant-loop-c
-invariant-loop-c l = (l.c ≤ l.cands.count) × (l.mask ≡ matching (rules_of l.cands) (labelled l.one) (labelled l.other) l.c)
-
-abbrev pub decreases-loop-c : goal.decreases-loop-c
-decreases-loop-c l = l.cands.count - l.c
+invariant-loop-c l = l.mask ≡ matching l.cands (labelled l.one) (labelled l.other) l.c

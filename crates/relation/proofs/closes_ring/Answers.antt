@@ -5,8 +5,5 @@ use Rattle.relation.proofs.closes_ring.Goals as goal
 pub returns-then-dependents-eq0 : goal.returns-then-dependents-eq0
 returns-then-dependents-eq0 c = search closing
 
-pub reach-requires : goal.reach-requires
-reach-requires c = search closing
-
 pub returns : goal.returns
 returns c = search closing

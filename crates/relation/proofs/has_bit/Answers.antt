@@ -2,8 +2,5 @@
 use Rattle.relation.proofs.ClosureSteps.{steps}
 use Rattle.relation.proofs.has_bit.Goals as goal
 
-pub overflow_shr-result : goal.overflow_shr-result
-overflow_shr-result c = search steps
-
 pub returns : goal.returns
 returns c = search steps

@@ -2,23 +2,14 @@
 use Rattle.relation.proofs.PeelLaws.{peeling}
 use Rattle.relation.proofs.has_ring.Goals as goal
 
-pub all_below-left-requires : goal.all_below-left-requires
-all_below-left-requires c = search peeling
-
 pub loop-left-init : goal.loop-left-init
 loop-left-init c = search peeling
-
-pub peel-next-requires : goal.peel-next-requires
-peel-next-requires c = search peeling
 
 pub returns-then-next-left : goal.returns-then-next-left
 returns-then-next-left c = search peeling
 
 pub returns-then-next-eq0 : goal.returns-then-next-eq0
 returns-then-next-eq0 c = search peeling
-
-pub peel_back-left-requires : goal.peel_back-left-requires
-peel_back-left-requires c = search peeling
 
 pub loop-left-smaller : goal.loop-left-smaller
 loop-left-smaller c = search peeling

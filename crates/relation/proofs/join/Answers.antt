@@ -2,9 +2,6 @@
 use Rattle.relation.proofs.ClosureSteps.{steps}
 use Rattle.relation.proofs.join.Goals as goal
 
-pub has_bit-requires : goal.has_bit-requires
-has_bit-requires c = search steps
-
 pub returns-then-has_bit : goal.returns-then-has_bit
 returns-then-has_bit c = search steps
 

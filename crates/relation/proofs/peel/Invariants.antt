@@ -1,11 +1,7 @@
 -- `relation::peel` meets its contract. The invariant: the pass over the numbers below i is made.
-use mathlib.Core.Path.{◌≡◌}
-use Prim.Native.Nat.{◌≤◌, ◌-◌}
+use Rattle.std.proofs.Common.{◌≡◌}
 use Rattle.relation.specs.Peel.{peeled}
 use Rattle.relation.proofs.peel.Given as goal
 
 abbrev pub invariant-loop-i : goal.invariant-loop-i
-invariant-loop-i l = (l.i ≤ l.n) × (l.rest ≡ peeled l.rows l.left l.i)
-
-abbrev pub decreases-loop-i : goal.decreases-loop-i
-decreases-loop-i l = l.n - l.i
+invariant-loop-i l = l.rest ≡ peeled l.rows l.left l.i

@@ -6,6 +6,3 @@ use Rattle.relation.proofs.peel_back.Given as goal
 
 abbrev pub invariant-loop-i : goal.invariant-loop-i
 invariant-loop-i l = (l.i ≤ l.n) × (peeled_back l.rows l.rest l.i ≡ peeled_back l.rows l.left l.n)
-
-abbrev pub decreases-loop-i : goal.decreases-loop-i
-decreases-loop-i l = l.i

@@ -5,11 +5,5 @@ use Rattle.relation.proofs.peel_one.Goals as goal
 pub returns-then-row-left-ne0 : goal.returns-then-row-left-ne0
 returns-then-row-left-ne0 c = search peeling
 
-pub overflow_shl-i : goal.overflow_shl-i
-overflow_shl-i c = search peeling
-
-pub without-requires : goal.without-requires
-without-requires c = search peeling
-
 pub returns : goal.returns
 returns c = search peeling

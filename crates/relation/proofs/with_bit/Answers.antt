@@ -2,8 +2,5 @@
 use Rattle.relation.proofs.ClosureSteps.{steps}
 use Rattle.relation.proofs.with_bit.Goals as goal
 
-pub overflow_shl-result : goal.overflow_shl-result
-overflow_shl-result c = search steps
-
 pub returns : goal.returns
 returns c = search steps

@@ -1,21 +1,13 @@
 -- `rule_cycles::rules_meet` meets its contract. The invariants: no > rule below i meets a < rule; rule i and no < rule below j reach each other.
 use mathlib.Core.Path.{◌≡◌}
 use mathlib.Core.Bool.{false}
-use Prim.Native.Nat.{◌≤◌, ◌-◌}
 use Rattle.relation.specs.Lists.{any_below}
-use Rattle.rule_match.specs.Held.{rules_of}
 use Rattle.rule_cycles.specs.Links.{meets_from}
 use Rattle.rule_cycles.proofs.CycleSteps.{meeting}
 use Rattle.rule_cycles.proofs.rules_meet.Given as goal
 
 abbrev pub invariant-less : goal.invariant-less
-invariant-less l = (l.j ≤ l.rules.count) × (any_below (meeting l.rules l.rows l.i) l.j ≡ false)
-
-abbrev pub decreases-less : goal.decreases-less
-decreases-less l = l.rules.count - l.j
+invariant-less l = any_below (meeting l.rules l.rows l.i) l.j ≡ false
 
 abbrev pub invariant-greater : goal.invariant-greater
-invariant-greater l = (l.i ≤ l.rules.count) × (any_below (meets_from (rules_of l.rules) l.rows) l.i ≡ false)
-
-abbrev pub decreases-greater : goal.decreases-greater
-decreases-greater l = l.rules.count - l.i
+invariant-greater l = any_below (meets_from l.rules l.rows) l.i ≡ false
