@@ -2,9 +2,6 @@
 use Rattle.judge_answers.proofs.JudgedLaws.{judged}
 use Rattle.workbench.proofs.pelzhondy_verdict.Goals as goal
 
-pub code_of_verdict-requires : goal.code_of_verdict-requires
-code_of_verdict-requires c = search judged
-
 pub code_of-requires : goal.code_of-requires
 code_of-requires c = search judged
 
