@@ -729,8 +729,8 @@ fn other_turns_are_noticed() {
         ),
         (
             "judge_search",
-            "let s = list[k] % relation::SMALL_SETS;",
-            "let s = list[k] % relation::SMALL_SETS;\n    judge_schedules::is_valid(rows, n, s);",
+            "let s = *rank % relation::SMALL_SETS;",
+            "let s = *rank % relation::SMALL_SETS;\n    judge_schedules::is_valid(rows, n, s);",
         ),
         (
             "judge_counting",
@@ -750,7 +750,7 @@ fn other_turns_are_noticed() {
 
 /// What is done once for a file, or once for a test of it, or once for a state, and who does it: each of
 /// these is done once too, up to the routines that nothing of the kit calls.
-const DONE_ONCE: [(&str, &[&str]); 55] = [
+const DONE_ONCE: [(&str, &[&str]); 56] = [
     (
         "read",
         &[
@@ -759,15 +759,15 @@ const DONE_ONCE: [(&str, &[&str]); 55] = [
             "file_calls::cyclic_rules",
             "find_call::find_in",
             "judge_cases::open_file",
-            "receiver::pelzhondy_open",
+            "receiver::open_from",
         ],
     ),
     (
         "file_rules",
         &[
             "file_calls::cyclic_rules",
-            "judge_cases::with_rules",
-            "receiver::pelzhondy_open",
+            "judge_cases::open_file",
+            "receiver::open_from",
         ],
     ),
     (
@@ -777,11 +777,11 @@ const DONE_ONCE: [(&str, &[&str]); 55] = [
             "cache_soundness::decode",
             "file_calls::cyclic_rules",
             "find_choice::better_of",
-            "judge_cases::with_rules",
+            "judge_cases::open_file",
         ],
     ),
-    ("open_with", &["receiver::pelzhondy_open"]),
-    ("with_rules", &["judge_cases::open_file"]),
+    ("open_with", &["receiver::open_from"]),
+    ("open_from", &["receiver::pelzhondy_open"]),
     (
         "open_file",
         &["judge_cases::select", "judge_text::judge_lines"],
@@ -793,17 +793,16 @@ const DONE_ONCE: [(&str, &[&str]); 55] = [
             // The finder loads each test twice: here for its labels.
             "find_candidates::collect",
             "find_table::mark_test",
-            "judge_cases::judge_test",
-            "judge_cases::decide_test",
+            "judge_cases::load_case",
         ],
     ),
     (
         "load_checks",
-        &[
-            "find_table::mark_test",
-            "judge_cases::judge_test",
-            "judge_cases::decide_test",
-        ],
+        &["find_table::mark_test", "judge_cases::load_case"],
+    ),
+    (
+        "load_case",
+        &["judge_cases::judge_test", "judge_cases::decide_test"],
     ),
     (
         "judge_test",
@@ -945,8 +944,8 @@ fn decoding_again_is_noticed() {
         ),
         (
             "judge_text/src/lib.rt",
-            "let opened = judge_cases::open_file(file);",
-            "while false {}\n    let opened = judge_cases::open_file(file);",
+            "match judge_cases::open_file(file) {",
+            "while false {}\n    match judge_cases::open_file(file) {",
         ),
         (
             "judge_cases/src/lib.rt",
@@ -955,8 +954,8 @@ fn decoding_again_is_noticed() {
         ),
         (
             "judge_cases/src/lib.rt",
-            "let opened = open_file(file);",
-            "let read = file_reader::read(file);\n    let opened = open_file(file);",
+            "let opened = open_file(file)?;",
+            "let read = file_reader::read(file);\n    let opened = open_file(file)?;",
         ),
         (
             "find_table/src/lib.rt",
@@ -985,8 +984,8 @@ fn decoding_again_is_noticed() {
         ),
         (
             "judge_search/src/lib.rt",
-            "    search_by(&list,",
-            "    judge_suspects::suspects(&mut list, rows, stores, n, checks, m);\n    search_by(&list,",
+            "    search_by(&list[..many],",
+            "    judge_suspects::suspects(&mut list, rows, stores, n, checks, m);\n    search_by(&list[..many],",
         ),
         (
             "judge_search/src/lib.rt",
@@ -1010,13 +1009,13 @@ fn decoding_again_is_noticed() {
         ),
         (
             "receiver/src/lib.rt",
-            "    cache_steps::drain_sound(",
-            "    cache_steps::look(&mut rows, state, disk);\n    cache_steps::drain_sound(",
+            "match cache_steps::look(&mut rows, state, disk) {\n        Ok(stored) => cache_steps::drain_sound(",
+            "cache_steps::look(&mut rows, state, disk);\n    match cache_steps::look(&mut rows, state, disk) {\n        Ok(stored) => cache_steps::drain_sound(",
         ),
         (
             "cache_steps/src/lib.rt",
-            "        let place = step_sound(",
-            "        let again = cache_soundness::decode(state);\n        let place = step_sound(",
+            "        done = with_stored(done, step_sound(",
+            "        let again = cache_soundness::decode(state);\n        done = with_stored(done, step_sound(",
         ),
         (
             "cache_handin/src/lib.rt",
@@ -1042,10 +1041,7 @@ const LAYOUT: [(&str, &[&str]); 4] = [
         &["cache_contents::write_place", "cache_layout::is_framed"],
     ),
     ("ENTRY_LENGTH", &["cache_contents::write_place"]),
-    (
-        "FLAG_PLACE",
-        &["cache_contents::flag_place", "cache_stores::put_entry"],
-    ),
+    ("FLAG_PLACE", &["cache_contents::flag_place"]),
 ];
 
 /// Its numbers as numerals. (The rules' start, 4, is also the length of a word.)
@@ -1114,8 +1110,8 @@ fn another_layout_is_noticed() {
         ),
         (
             "cache_stores/src/lib.rt",
-            "at + cache_model::FLAG_PLACE",
-            "at + 11",
+            "file_writing::put(state, flag, 0);",
+            "file_writing::put(state, at + 11, 0);",
         ),
         (
             "cache_steps/src/lib.rt",
@@ -1124,8 +1120,8 @@ fn another_layout_is_noticed() {
         ),
         (
             "cache_opening/src/lib.rt",
-            "i < cache_model::STATE_SIZE",
-            "i < 1024",
+            "    state.fill(0);",
+            "    state[..1024].fill(0);",
         ),
         (
             "receiver/src/lib.rt",
@@ -1148,7 +1144,11 @@ fn only_steps_store() {
 fn another_store_is_noticed() {
     let sources = Sources::load();
     for (path, old, new) in [
-        ("cache_steps/src/lib.rt", "= step_sound(", "= store_write("),
+        (
+            "cache_steps/src/lib.rt",
+            "(done, step_sound(",
+            "(done, store_write(",
+        ),
         (
             "cache_steps/src/lib.rt",
             "    store_write(",
