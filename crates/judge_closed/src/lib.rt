@@ -3,7 +3,7 @@
 // two sets is counted without going through those that are free of each other.
 #![tactic(auto)]
 
-ghost use Rattle.std.specs.Prelude.{◌≡◌, ◌&&◌, ◌%◌, ◌^◌, ◌<◌, ◌≤◌, length, get_or, bit_or};
+ghost use Rattle.std.specs.Prelude.{◌≡◌, ◌&&◌, ◌%◌, ◌^◌, ◌<◌, ◌≤◌, get_or, bit_or};
 ghost use Rattle.relation.specs.Bits.{with_bit, without};
 ghost use Rattle.relation.specs.Tables.{Filled};
 ghost use Rattle.model.specs.Limits.{most_main};
@@ -20,8 +20,8 @@ fn dependency_row(row: u64, i: usize, n: usize) -> u64
 }
 
 // The dependencies of each of n writes, itself among them, by their closed rows.
-fn fill_dependencies(dependencies: &mut [u64], closed: &[u64; 64], n: usize)
-    requires { (length dependencies.old ≡ 64) × (n ≤ most_main) }
+fn fill_dependencies(dependencies: &mut [u64; 64], closed: &[u64; 64], n: usize)
+    requires { n ≤ most_main }
     ensures { Filled (reached_row closed.now n) n dependencies.new }
 {
     for i in 0..n {
@@ -42,8 +42,8 @@ fn dependent_row(dependencies: &[u64; 64], j: usize, n: usize) -> u64
 }
 
 // The dependents of each of n writes, itself among them, by the dependencies of all.
-fn fill_dependents(dependents: &mut [u64], dependencies: &[u64; 64], n: usize)
-    requires { (length dependents.old ≡ 64) × (n ≤ most_main) }
+fn fill_dependents(dependents: &mut [u64; 64], dependencies: &[u64; 64], n: usize)
+    requires { n ≤ most_main }
     ensures { Filled (reaching_row dependencies.now n) n dependents.new }
 {
     for j in 0..n {
@@ -53,7 +53,7 @@ fn fill_dependents(dependents: &mut [u64], dependencies: &[u64; 64], n: usize)
 
 // The dependencies and the dependents of each of n writes over any number of steps, by their rows.
 pub fn order(dependencies: &mut [u64; 64], dependents: &mut [u64; 64], rows: &[u64; 64], n: usize)
-    requires { ((n ≤ most_main) × Narrow rows.now n) × (length rows.now ≡ 64) }
+    requires { (n ≤ most_main) × Narrow rows.now n }
     ensures { Orders rows.now n dependencies.new dependents.new }
 {
     let mut closed = *rows;

@@ -3,4 +3,4 @@ use Rattle.judge_closed.proofs.OrderLaws.{ordering}
 use Rattle.judge_closed.proofs.fill_dependencies.Goals as goal
 
 pub loop-i-preserved : goal.loop-i-preserved
-loop-i-preserved c = (search ordering, search ordering, search ordering)
+loop-i-preserved c = (search ordering, search ordering)

@@ -1,10 +1,8 @@
 -- `judge_closed::fill_dependencies` meets its contract. The invariant: the first i entries are filled.
-use mathlib.Core.Path.{◌≡◌}
 use Prim.Native.Nat.{◌≤◌}
-use lib.ListN.{length}
 use Rattle.relation.specs.Tables.{Filled}
 use Rattle.judge_closed.specs.Closed.{reached_row}
 use Rattle.judge_closed.proofs.fill_dependencies.Given as goal
 
 abbrev pub invariant-loop-i : goal.invariant-loop-i
-invariant-loop-i l = (l.i ≤ l.n) × (length l.dependencies ≡ 64) × Filled (reached_row l.closed l.n) l.i l.dependencies
+invariant-loop-i l = (l.i ≤ l.n) × Filled (reached_row l.closed l.n) l.i l.dependencies

@@ -7,6 +7,3 @@ loop-c-init c = search checking
 
 pub loop-c-preserved : goal.loop-c-preserved
 loop-c-preserved c = search checking
-
-pub returns : goal.returns
-returns c = search checking
