@@ -7,11 +7,5 @@ use Rattle.find_call.proofs.choice.Goals as goal
 pub mark_all-requires : goal.mark_all-requires
 mark_all-requires c = (search choosing, (search choosing, (search choosing, blank_made set_words)))
 
-pub lower_all-requires : goal.lower_all-requires
-lower_all-requires c = search choosing
-
-pub choose-requires : goal.choose-requires
-choose-requires c = search choosing
-
 pub returns : goal.returns
 returns c = search choosing

@@ -2,9 +2,6 @@
 use Rattle.find_call.proofs.FoundLaws.{spelling}
 use Rattle.find_call.proofs.put_rule.Goals as goal
 
-pub put_narrow_rule-requires : goal.put_narrow_rule-requires
-put_narrow_rule-requires c = search spelling
-
 pub returns-then-is_narrow : goal.returns-then-is_narrow
 returns-then-is_narrow c = (search spelling, search spelling)
 

@@ -10,8 +10,5 @@ loop-test-init c = search passing
 pub loop-test-preserved : goal.loop-test-preserved
 loop-test-preserved c = search passing
 
-pub returns : goal.returns
-returns c = search passing
-
 pub returns-then-test-gt-MOST_FOUND : goal.returns-then-test-gt-MOST_FOUND
 returns-then-test-gt-MOST_FOUND c = long-found _ _ c.loop-test.test-index (search rules) (search rules) (search rules)

@@ -2,14 +2,5 @@
 use Rattle.find_choice.proofs.ChoiceSteps.{choosing}
 use Rattle.find_choice.proofs.best_below.Goals as goal
 
-pub loop-m-init : goal.loop-m-init
-loop-m-init c = search choosing
-
-pub better_of-best-requires : goal.better_of-best-requires
-better_of-best-requires c = search choosing
-
 pub loop-m-preserved : goal.loop-m-preserved
 loop-m-preserved c = search choosing
-
-pub returns : goal.returns
-returns c = search choosing

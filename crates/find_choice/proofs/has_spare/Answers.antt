@@ -10,6 +10,3 @@ loop-i-preserved c = search sparing
 
 pub returns-then-is_spare : goal.returns-then-is_spare
 returns-then-is_spare c = search sparing
-
-pub returns : goal.returns
-returns c = search sparing
