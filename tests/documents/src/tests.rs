@@ -766,7 +766,7 @@ const DONE_ONCE: [(&str, &[&str]); 54] = [
         "file_rules",
         &[
             "file_calls::cyclic_rules",
-            "judge_cases::with_rules",
+            "judge_cases::open_file",
             "receiver::pelzhondy_open",
         ],
     ),
@@ -777,11 +777,10 @@ const DONE_ONCE: [(&str, &[&str]); 54] = [
             "cache_soundness::decode",
             "file_calls::cyclic_rules",
             "find_choice::better_of",
-            "judge_cases::with_rules",
+            "judge_cases::open_file",
         ],
     ),
     ("open_with", &["receiver::pelzhondy_open"]),
-    ("with_rules", &["judge_cases::open_file"]),
     (
         "open_file",
         &["judge_cases::select", "judge_text::judge_lines"],
@@ -793,17 +792,16 @@ const DONE_ONCE: [(&str, &[&str]); 54] = [
             // The finder loads each test twice: here for its labels.
             "find_candidates::collect",
             "find_table::mark_test",
-            "judge_cases::judge_test",
-            "judge_cases::decide_test",
+            "judge_cases::load_case",
         ],
     ),
     (
         "load_checks",
-        &[
-            "find_table::mark_test",
-            "judge_cases::judge_test",
-            "judge_cases::decide_test",
-        ],
+        &["find_table::mark_test", "judge_cases::load_case"],
+    ),
+    (
+        "load_case",
+        &["judge_cases::judge_test", "judge_cases::decide_test"],
     ),
     (
         "judge_test",
@@ -944,8 +942,8 @@ fn decoding_again_is_noticed() {
         ),
         (
             "judge_text/src/lib.rt",
-            "let opened = judge_cases::open_file(file);",
-            "while false {}\n    let opened = judge_cases::open_file(file);",
+            "match judge_cases::open_file(file) {",
+            "while false {}\n    match judge_cases::open_file(file) {",
         ),
         (
             "judge_cases/src/lib.rt",
@@ -954,8 +952,8 @@ fn decoding_again_is_noticed() {
         ),
         (
             "judge_cases/src/lib.rt",
-            "let opened = open_file(file);",
-            "let read = file_reader::read(file);\n    let opened = open_file(file);",
+            "let opened = open_file(file)?;",
+            "let read = file_reader::read(file);\n    let opened = open_file(file)?;",
         ),
         (
             "find_table/src/lib.rt",
@@ -984,8 +982,8 @@ fn decoding_again_is_noticed() {
         ),
         (
             "judge_search/src/lib.rt",
-            "    search_by(&list,",
-            "    judge_suspects::suspects(&mut list, rows, stores, n, checks, m);\n    search_by(&list,",
+            "    search_by(&list[..many],",
+            "    judge_suspects::suspects(&mut list, rows, stores, n, checks, m);\n    search_by(&list[..many],",
         ),
         (
             "judge_search/src/lib.rt",
