@@ -759,7 +759,7 @@ const DONE_ONCE: [(&str, &[&str]); 54] = [
             "file_calls::cyclic_rules",
             "find_call::find",
             "judge_cases::open_file",
-            "receiver::pelzhondy_open",
+            "receiver::open_from",
         ],
     ),
     (
@@ -767,7 +767,7 @@ const DONE_ONCE: [(&str, &[&str]); 54] = [
         &[
             "file_calls::cyclic_rules",
             "judge_cases::with_rules",
-            "receiver::pelzhondy_open",
+            "receiver::open_from",
         ],
     ),
     (
@@ -780,7 +780,8 @@ const DONE_ONCE: [(&str, &[&str]); 54] = [
             "judge_cases::with_rules",
         ],
     ),
-    ("open_with", &["receiver::pelzhondy_open"]),
+    ("open_with", &["receiver::open_from"]),
+    ("open_from", &["receiver::pelzhondy_open"]),
     ("with_rules", &["judge_cases::open_file"]),
     (
         "open_file",
@@ -1009,13 +1010,13 @@ fn decoding_again_is_noticed() {
         ),
         (
             "receiver/src/lib.rt",
-            "    cache_steps::drain_sound(",
-            "    cache_steps::look(&mut rows, state, disk);\n    cache_steps::drain_sound(",
+            "    match cache_steps::look(",
+            "    cache_steps::look(&mut rows, state, disk);\n    match cache_steps::look(",
         ),
         (
             "cache_steps/src/lib.rt",
-            "        let place = step_sound(",
-            "        let again = cache_soundness::decode(state);\n        let place = step_sound(",
+            "        done = with_stored(",
+            "        let again = cache_soundness::decode(state);\n        done = with_stored(",
         ),
         (
             "cache_handin/src/lib.rt",
@@ -1043,7 +1044,7 @@ const LAYOUT: [(&str, &[&str]); 4] = [
     ("ENTRY_LENGTH", &["cache_contents::write_place"]),
     (
         "FLAG_PLACE",
-        &["cache_contents::flag_place", "cache_stores::put_entry"],
+        &["cache_contents::flag_place"],
     ),
 ];
 
@@ -1113,8 +1114,8 @@ fn another_layout_is_noticed() {
         ),
         (
             "cache_stores/src/lib.rt",
-            "at + cache_model::FLAG_PLACE",
-            "at + 11",
+            "cache_contents::write_place(usize::from(state[1]))",
+            "164 + 12 * usize::from(state[1])",
         ),
         (
             "cache_steps/src/lib.rt",
@@ -1123,8 +1124,8 @@ fn another_layout_is_noticed() {
         ),
         (
             "cache_opening/src/lib.rt",
-            "i < cache_model::STATE_SIZE",
-            "i < 1024",
+            "    state.fill(0);",
+            "    state[..1024].fill(0);",
         ),
         (
             "receiver/src/lib.rt",
@@ -1147,7 +1148,11 @@ fn only_steps_store() {
 fn another_store_is_noticed() {
     let sources = Sources::load();
     for (path, old, new) in [
-        ("cache_steps/src/lib.rt", "= step_sound(", "= store_write("),
+        (
+            "cache_steps/src/lib.rt",
+            "done, step_sound(",
+            "done, store_write(",
+        ),
         (
             "cache_steps/src/lib.rt",
             "    store_write(",
