@@ -12,7 +12,7 @@ use borrow.Author.Rules.{rules}
 use Rattle.relation.specs.Lists.{tabulate}
 use Rattle.model.specs.declared.Rule.{Rule}
 use Rattle.model.specs.declared.Write.{Write}
-use Rattle.model.specs.Limits.{most_rules, most_held}
+use Rattle.model.specs.Limits.{most_rules}
 use Rattle.file_format.specs.Bytes.{byte, half, word}
 use Rattle.file_format.specs.File.{wide_rule_length, wide_write_length, wide_rule, wide_write}
 use Rattle.rule_match.specs.declared.Rules.{Rules}

@@ -1,8 +1,8 @@
 -- Masks of a column: one law for each return and each turn of a loop.
-use mathlib.Core.Path.{◌≡◌, refl, sym, ap, ◌∙◌}
+use mathlib.Core.Path.{◌≡◌, refl, ap, ◌∙◌}
 use mathlib.Core.Bool.{Bool, cond}
 use mathlib.Core.List.{List}
-use Prim.Native.Nat.{ℕ, zero, suc, ◌+◌, ◌-◌, ◌≤◌, ◌<◌}
+use Prim.Native.Nat.{ℕ, suc, ◌+◌, ◌-◌, ◌≤◌, ◌<◌}
 use native.Mathlib.Numerals.{add-one}
 use native.Mathlib.Omega.{arith}
 use lib.Dec.{eqb, ltb}
@@ -16,8 +16,7 @@ use Rattle.relation.proofs.ListLaws.{get_d_other}
 use Rattle.relation.proofs.TableLaws.{filled_none, filled_more, filled-all}
 use Rattle.model.specs.Limits.{most_held}
 use Rattle.model.specs.Rules.{stands}
-use Rattle.cache_masks.specs.declared.Epochs.{Epochs}
-use Rattle.cache_masks.specs.Masks.{equal_mask, same_mask, same_at, epoch_mask, Compared, standing_by}
+use Rattle.cache_masks.specs.Masks.{equal_mask, same_mask, same_at, epoch_mask, Compared}
 
 -- ---- same
 

@@ -13,14 +13,14 @@ use lib.ListN.{length, get_or, set}
 use lib.Seq.{get_or-set_same, get_or-set_other}
 use borrow.Author.Rules.{rules}
 use borrow.Author.Tests.{eq-eqb, ne_eqb, eqb-true, eqb-false, lt-ltb, le-ltb, ltb-true}
-use Rattle.relation.specs.Bits.{with_bit, mask_of, without}
+use Rattle.relation.specs.Bits.{with_bit, mask_of}
 use Rattle.relation.specs.Tables.{Filled, Blank}
 use Rattle.relation.proofs.BitLaws.{mask_ext}
 use Rattle.relation.proofs.MaskLaws.{mask_or}
 use Rattle.relation.proofs.ListLaws.{bool_equal, or_cases, or_left, or_right, below_suc}
 use Rattle.relation.proofs.TableLaws.{filled_none, filled_more, filled-all}
 use Rattle.model.specs.Limits.{most_held}
-use Rattle.cache_masks.specs.Ranks.{smaller, rank_of, rank_at, bounds, SmallRanks, next_mask, below_mask, union_to, standing_in}
+use Rattle.cache_masks.specs.Ranks.{smaller, rank_of, rank_at, bounds, SmallRanks, next_mask, below_mask, union_to}
 
 -- ---- rank, next_rank, fill_ranks
 

@@ -58,11 +58,7 @@ pub fn last_same(
 }
 
 // For each entry of a column of names those up to it that are as it.
-pub fn fill_same(
-    table: &mut [u64; model::MOST_HELD],
-    column: &[u16; model::MOST_HELD],
-    n: usize,
-)
+pub fn fill_same(table: &mut [u64; model::MOST_HELD], column: &[u16; model::MOST_HELD], n: usize)
     requires { n ≤ most_held }
     ensures { Filled (same_at column.now) n table.new }
 {
@@ -148,11 +144,7 @@ fn next_rank(epochs: &[u32; model::MOST_HELD], t: u32, r: u32, u: u32) -> u32
 }
 
 // The ranks of the first n epochs. They are counted anew only where the epoch changes.
-pub fn fill_ranks(
-    ranks: &mut [u8; model::MOST_HELD],
-    epochs: &[u32; model::MOST_HELD],
-    n: usize,
-)
+pub fn fill_ranks(ranks: &mut [u8; model::MOST_HELD], epochs: &[u32; model::MOST_HELD], n: usize)
     requires { n ≤ most_held }
     ensures { Filled (rank_at epochs.now) n ranks.new × SmallRanks n ranks.new }
 {
@@ -197,7 +189,8 @@ pub fn fill_belows(belows: &mut [u64; BOUNDS], ranks: &[u8; model::MOST_HELD], n
     join_up(belows);
 }
 
-// The writes to whose epochs one of rank r stands as a predicate says.
+// The writes to whose epochs one of rank r stands as a predicate says. (`standing` would be handed three masks, all
+// made to take one of them.)
 #[tactic(auto, unfolding(crate::specs::Ranks::standing_in))]
 pub fn standing_in(belows: &[u64; BOUNDS], r: usize, p: u16) -> u64
     requires { r < most_held }

@@ -1,6 +1,6 @@
 -- The needs of all writes, run by run of the rules, and of one behind them, rule by rule: one law for each return and each turn of a loop.
 use mathlib.Core.Path.{◌≡◌, sym, ap, subst, ◌∙◌}
-use mathlib.Core.Bool.{Bool, true, false, cond, not, and-true, ◌&&◌}
+use mathlib.Core.Bool.{Bool, true, cond, and-true, ◌&&◌}
 use mathlib.Core.List.{List}
 use Prim.Native.Nat.{ℕ, ◌+◌, ◌≤◌, ◌<◌}
 use native.Mathlib.Numerals.{add-one}
@@ -9,7 +9,7 @@ use lib.Bits.{bit_and, bit_or}
 use lib.Dec.{eqb, ltb}
 use lib.ListN.{length, get_or, take}
 use borrow.Author.Rules.{rules}
-use borrow.Author.Tests.{lt-ltb, ltb-true, not-true, not-false}
+use borrow.Author.Tests.{lt-ltb, ltb-true}
 use Rattle.relation.specs.Bits.{bit}
 use Rattle.relation.specs.Tables.{Filled}
 use Rattle.relation.specs.Finite.{rows_of}

@@ -1,5 +1,5 @@
 -- Tables of needs while they are filled.
-use Rattle.std.specs.Prelude.{ℕ, zero, suc, ◌≤◌, ◌<◌, ◌≡◌, true, cond, not, ◌&&◌, List, [], eqb, length, get_or, take}
+use Rattle.std.specs.Prelude.{ℕ, zero, suc, ◌≤◌, ◌<◌, ◌≡◌, true, cond, not, ◌&&◌, List, [], eqb, get_or, take}
 use Rattle.std.specs.Int.Bits.{bit_and, bit_or}
 use Rattle.relation.specs.Bits.{bit, with_bit}
 use Rattle.model.specs.declared.Rule.{Rule}

@@ -32,11 +32,7 @@ fn behind(rows: &[u64; model::MOST_HELD], place: usize) -> u64
 }
 
 // For each write the earlier ones to its address.
-fn fill_earlier(
-    rows: &mut [u64; model::MOST_HELD],
-    addresses: &[u8; model::MOST_HELD],
-    n: usize,
-)
+fn fill_earlier(rows: &mut [u64; model::MOST_HELD], addresses: &[u8; model::MOST_HELD], n: usize)
     requires { n ≤ most_held }
     ensures { Filled (earlier_at addresses.now) n rows.new }
 {
@@ -69,13 +65,7 @@ pub fn no_tables() -> Tables
 }
 
 // Each row of firsts gets those of seconds to whose epochs its own, by its rank, stands as a predicate says.
-fn add_to(
-    rows: &mut [u64; model::MOST_HELD],
-    firsts: u64,
-    seconds: u64,
-    p: u16,
-    tables: &Tables,
-)
+fn add_to(rows: &mut [u64; model::MOST_HELD], firsts: u64, seconds: u64, p: u16, tables: &Tables)
     requires { SmallOf firsts tables.now.ranks }
     ensures { Added rows.old firsts seconds p tables.now.ranks tables.now.belows 0 rows.new }
 {
@@ -129,12 +119,7 @@ fn run_from(
 
 // The rows of the first n writes before any rule: the earlier ones to the same address. And the tables that serve
 // every rule. (The loop over the rules stands with the caller, which has them, so that they are not copied.)
-pub fn prepare(
-    rows: &mut [u64; model::MOST_HELD],
-    tables: &mut Tables,
-    columns: &Columns,
-    n: usize,
-)
+pub fn prepare(rows: &mut [u64; model::MOST_HELD], tables: &mut Tables, columns: &Columns, n: usize)
     requires { Blank bounds tables.old.belows × (n ≤ most_held) }
     ensures { Prepared columns.now.names n tables.new × (Filled (earlier_at columns.now.addresses) n rows.new × (Filled (rank_at columns.now.epochs) n tables.new.ranks × Filled (below_mask tables.new.ranks n) bounds tables.new.belows)) }
 {
@@ -197,7 +182,8 @@ pub fn needed(rules: Rules, columns: &Columns, n: usize, w: Write) -> u64
     mask
 }
 
-// Which of the first n writes depend on w.
+// Which of the first n writes depend on w. (Names and epochs are turned round, and no address counts: one function
+// of both, with all that as parameters, would be no plainer.)
 pub fn dependents(rules: Rules, columns: &Columns, n: usize, w: Write) -> u64
     requires { (rules.count ≤ most_rules) × (n ≤ most_held) }
     ensures { result ≡ dependent_mask (rules_of rules) (writes_of columns.now n) w n }

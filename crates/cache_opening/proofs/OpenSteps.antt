@@ -1,12 +1,12 @@
 -- The steps of opening: one law for each return and each turn of a loop, whose premises are what is known at that place.
 use mathlib.Core.Path.{◌≡◌, refl, sym, ap, ◌∙◌}
 use mathlib.Core.Bool.{Bool, true, false, cond}
-use mathlib.Core.List.{List, [], ◌∷◌, ◌++◌}
+use mathlib.Core.List.{List, [], ◌∷◌}
 use Prim.Native.Nat.{ℕ, suc, ◌+◌, ◌*◌, ◌≤◌, ◌<◌}
 use native.Mathlib.Numerals.{add-one}
 use native.Mathlib.Omega.{arith}
-use lib.ListN.{length, take, set, replicate, length-replicate, replicate-append-replicate}
-use lib.Seq.{sets, take-suc, take-suc-set, take_all, length-take-le}
+use lib.ListN.{length, take, set, replicate, length-replicate}
+use lib.Seq.{sets, take-suc, length-take-le}
 use borrow.Author.Rules.{rules}
 use borrow.Author.Tests.{eq-eqb, ne_eqb, lt-ltb, le-ltb}
 use Rattle.model.specs.declared.Rule.{Rule}
@@ -16,7 +16,7 @@ use Rattle.model.specs.declared.Cause.{Cause}
 use Rattle.model.specs.declared.Cause.TheVariants.{Not1024Bytes, FileHasTests}
 use Rattle.model.specs.Rules.{Known}
 use Rattle.model.specs.Limits.{words, most_rules}
-use Rattle.model.specs.Answer.{answer, refused, refusal, coded, outcome, at_zero, number_of}
+use Rattle.model.specs.Answer.{answer, refused, refusal, coded, at_zero, number_of}
 use Rattle.model.specs.Cyclic.{cyclic}
 use Rattle.file_format.specs.declared.Contents.{Contents}
 use Rattle.file_format.specs.Bytes.{bytes2, wide_rule_bytes}

@@ -1,28 +1,16 @@
 -- Known predicates and covered rows: one law for each return and each turn of a loop.
-use mathlib.Core.Path.{◌≡◌, refl, sym, ap, ◌∙◌}
+use mathlib.Core.Path.{◌≡◌, refl, ap}
 use mathlib.Core.Bool.{Bool, true, false, ◌&&◌}
 use mathlib.Core.List.{List, [], ◌∷◌}
-use Prim.Native.Nat.{ℕ, ◌+◌, ◌≤◌, ◌<◌}
-use native.Mathlib.Numerals.{add-one}
-use native.Mathlib.Omega.{arith}
+use Prim.Native.Nat.{ℕ}
 use lib.Bits.{bit_and}
 use lib.Dec.{eqb, leb}
-use lib.ListN.{length, take}
-use lib.Seq.{get_or-take, take-suc, length-take-le}
 use borrow.Author.Rules.{rules}
-use borrow.Author.Tests.{le-leb, lt-leb}
 use Rattle.std.specs.List.{list_all}
 use Rattle.relation.specs.Bits.{bit}
 use Rattle.relation.specs.Lists.{all}
-use Rattle.relation.proofs.ListLaws.{and_intro, all_true, all_append, index_mem}
 use Rattle.model.specs.declared.Rule.{Rule}
-use Rattle.model.specs.Limits.{most_rules}
 use Rattle.model.specs.Rules.{known}
-use Rattle.model.specs.Cyclic.{no_rule}
-use Rattle.rule_match.specs.declared.Rules.{Rules}
-use Rattle.rule_match.specs.Held.{rules_of}
-use Rattle.rule_match.proofs.MatchSteps.{length_mapped}
-use Rattle.rule_match.specs.Held.{item_at}
 use Rattle.relation.specs.Union.{part_of}
 use Rattle.cache_soundness.specs.Parts.{covered}
 use Rattle.cache_layout.proofs.LayoutSteps.{all-begun, all_done, all_more, all_stop}

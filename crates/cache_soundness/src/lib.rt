@@ -20,7 +20,9 @@ fn is_known(rules: Rules) -> bool
     requires { rules.count ≤ most_rules }
     ensures { result ≡ known (rules_of rules) }
 {
-    rules.items[..rules.count].iter().all(|rule| rule.predicate <= 2)
+    rules.items[..rules.count]
+        .iter()
+        .all(|rule| rule.predicate <= 2)
 }
 
 // Whether the row of i, where i is in a mask, is part of the mask.
@@ -101,6 +103,7 @@ pub fn needs_hold(
     let mut tables = cache_needs::no_tables();
     cache_needs::prepare(rows, &mut tables, columns, n);
     let mut k: usize = 0;
+    // From run to run of the rules, however long each is: no range counts this loop.
     while k < seen.rules.count {
         k = cache_needs::add_run(rows, seen.rules, k, &columns.names, n, &tables);
     }

@@ -1,20 +1,19 @@
 -- The code's steps: one law for each return and each turn of a loop, whose premises are what is known at that place.
 use mathlib.Core.Path.{◌≡◌, refl, sym, ap, subst, ◌∙◌}
 use mathlib.Core.Logic.{◌≢◌}
-use mathlib.Core.Bool.{Bool, true, false, cond, not, false≢true, ◌&&◌}
+use mathlib.Core.Bool.{Bool, true, false, cond, not, ◌&&◌}
 use mathlib.Core.List.{List}
 use Prim.Native.Nat.{ℕ, zero, suc, ◌+◌, ◌-◌, ◌*◌, ◌%◌, ◌^◌, ◌≤◌, ◌<◌}
 use native.Mathlib.Decide.{ℕ_discrete}
-use native.Mathlib.Numerals.{add-one}
 use native.Mathlib.Omega.{arith}
 use lib.Bits.{bit_and}
-use lib.Dec.{eqb, eqb-suc-zero}
+use lib.Dec.{eqb}
 use lib.ListN.{length, get_or}
 use lib.Pow.{pow_mono, pow_pos}
 use borrow.Author.Rules.{rules}
 use borrow.Author.Tests.{eqb-true, eq-eqb, ne_eqb}
 use Rattle.std.specs.Prelude.{Option, None, Some, IfSome}
-use Rattle.relation.specs.Bits.{bit, with_bit, mask_of, without, Lowest}
+use Rattle.relation.specs.Bits.{bit, mask_of, without, Lowest}
 use Rattle.relation.proofs.BitLaws.{mask_ext}
 use Rattle.relation.proofs.MemberLaws.{member_below, Left as Remains, left-all, left-none, left_after, left-fewer}
 use Rattle.relation.proofs.UnionLaws.{bit-ones}

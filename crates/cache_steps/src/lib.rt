@@ -15,7 +15,7 @@ ghost use Rattle.cache_steps.specs.Ready.{place_of, first_ready, with_stored};
 
 use model::Cause;
 
-// A place from 1, or 0 for none: how an answer tells which write was stored.
+// A place from 1, or 0 for none: how an answer tells which write was stored. (The C interface has it so.)
 pub fn place(stored: Option<usize>) -> u64
     requires { IfSome stored (λ i. i < most_held) }
     ensures { result ≡ place_of stored }
@@ -71,11 +71,7 @@ pub fn step_sound(
 
 // Looks at state and disk, once, for a step or a drain: the stored writes, or why it is refused. Leaves the needs of
 // a sound state in rows.
-pub fn look(
-    rows: &mut [u64; model::MOST_HELD],
-    state: &[u8],
-    disk: &[u8],
-) -> Result<u64, Cause>
+pub fn look(rows: &mut [u64; model::MOST_HELD], state: &[u8], disk: &[u8]) -> Result<u64, Cause>
     ensures { MatchResult result (λ stored. (call_fault state.now disk.now ≡ 0) × (Tabled state.now rows.new × (stored ≡ mask_of (stored_in state.now) (accepted_count state.now)))) (λ cause. number_of cause ≡ call_fault state.now disk.now) }
 {
     if state.len() != cache_model::STATE_SIZE {

@@ -1,20 +1,18 @@
 -- The steps of a write's bytes behind those accepted, in the terms of the code.
-use mathlib.Core.Path.{◌≡◌, refl, ap, ◌∙◌}
+use mathlib.Core.Path.{◌≡◌, refl}
 use mathlib.Core.Bool.{false}
-use mathlib.Core.List.{List, [], ◌∷◌, ◌++◌}
+use mathlib.Core.List.{List, [], ◌∷◌}
 use Prim.Native.Nat.{ℕ, ◌+◌, ◌≤◌, ◌<◌}
 use native.Mathlib.Omega.{arith}
 use lib.ListN.{length, set}
 use lib.Seq.{sets}
 use borrow.Author.Rules.{rules}
 use Rattle.model.specs.declared.Write.{Write}
-use Rattle.model.specs.Disk.{block}
 use Rattle.file_format.specs.Bytes.{bytes2, bytes4, wide_write_bytes}
 use Rattle.file_writing.specs.Writing.{Wrote}
 use Rattle.file_writing.proofs.WroteLaws.{wrote_then}
 use Rattle.cache_model.specs.Entries.{entry}
 use Rattle.cache_model.specs.State.{entry_length, accepted_count, write_base, entry_bytes, handed}
-use Rattle.cache_model.specs.Calls.{given}
 
 -- ---- append
 

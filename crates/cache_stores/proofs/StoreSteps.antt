@@ -1,10 +1,9 @@
 -- The steps of stores to the disk and the state, in the terms of the code.
 use mathlib.Core.Path.{◌≡◌}
 use mathlib.Core.List.{List}
-use Prim.Native.Nat.{ℕ, suc, ◌+◌, ◌*◌, ◌/◌, ◌%◌, ◌≤◌, ◌<◌}
+use Prim.Native.Nat.{ℕ, ◌+◌, ◌*◌, ◌≤◌, ◌<◌}
 use native.Mathlib.Omega.{arith}
 use lib.ListN.{length, set}
-use lib.Seq.{sets}
 use borrow.Author.Rules.{rules}
 use Rattle.model.specs.declared.Write.{Write}
 use Rattle.model.specs.Limits.{disk_blocks}

@@ -21,7 +21,8 @@ pub fn pelzhondy_step(state: &mut [u8], disk: &mut [u8]) -> u64
     }
 }
 
-// As many steps as there are waiting writes, and how many.
+// As many steps as there are waiting writes, and how many. (One function of step and drain, handed the call on both
+// lent slices, would be no plainer: they share `look` and its laws.)
 pub fn pelzhondy_drain(state: &mut [u8], disk: &mut [u8]) -> u64
     ensures { call_leaves result state.new disk.new ≡ coded_left (drain_of state.old disk.old) }
 {

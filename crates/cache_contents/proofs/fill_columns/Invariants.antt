@@ -1,8 +1,5 @@
 -- `cache_contents::fill_columns` meets its contract. The invariant: the columns have the first i writes.
-use Prim.Native.Nat.{◌-◌, ◌≤◌}
-use mathlib.Core.Path.{◌≡◌}
-use lib.ListN.{length}
-use Rattle.model.specs.Limits.{most_held}
+use Prim.Native.Nat.{◌≤◌}
 use Rattle.cache_contents.specs.Columns.{InColumns}
 use Rattle.cache_contents.proofs.fill_columns.Given as goal
 

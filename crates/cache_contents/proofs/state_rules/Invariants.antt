@@ -1,5 +1,5 @@
 -- `cache_contents::state_rules` meets its contract. The invariant: the first i rules are loaded.
-use Prim.Native.Nat.{◌-◌, ◌≤◌}
+use Prim.Native.Nat.{◌≤◌}
 use mathlib.Core.Path.{◌≡◌}
 use lib.ListN.{length, take}
 use Rattle.relation.specs.Lists.{tabulate}

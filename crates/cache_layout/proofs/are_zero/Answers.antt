@@ -1,5 +1,5 @@
 -- `cache_layout::are_zero` meets its contract.
-use Rattle.std.proofs.Common.{◌≡◌, slice_range, rules, tests, arith}
+use Rattle.std.proofs.Common.{◌≡◌, slice_range, rules, tests}
 use Rattle.std.proofs.lemmas.Iterator.{cases_from_all, YieldsList-from_slice}
 use Rattle.cache_layout.proofs.LayoutSteps.{all_zero}
 use Rattle.cache_layout.proofs.are_zero.Goals as goal

@@ -1,5 +1,5 @@
 -- `cache_layout::flags_fit` meets its contract. The invariant: the first i flags fit.
-use Prim.Native.Nat.{◌-◌, ◌≤◌}
+use Prim.Native.Nat.{◌≤◌}
 use mathlib.Core.Path.{◌≡◌}
 use mathlib.Core.Bool.{true}
 use Rattle.relation.specs.Lists.{all_below}

@@ -1,5 +1,5 @@
 -- `cache_layout::stored_mask` meets its contract. The invariant: the mask has the first i flags.
-use Prim.Native.Nat.{◌-◌, ◌≤◌}
+use Prim.Native.Nat.{◌≤◌}
 use mathlib.Core.Path.{◌≡◌}
 use Rattle.relation.specs.Bits.{mask_of}
 use Rattle.cache_model.specs.State.{stored_in}

@@ -1,6 +1,6 @@
 -- `cache_masks::compare_epochs` meets its contract. The invariant: the masks have the bits below j.
 use mathlib.Core.Path.{◌≡◌}
-use Prim.Native.Nat.{◌≤◌, ◌-◌}
+use Prim.Native.Nat.{◌≤◌}
 use Rattle.cache_masks.specs.Masks.{epoch_mask}
 use Rattle.cache_masks.proofs.compare_epochs.Given as goal
 

@@ -1,7 +1,6 @@
 -- `cache_masks::fill_ranks` meets its contract. The invariant: r is the rank of t, and the first i ranks are filled in.
 use mathlib.Core.Path.{◌≡◌}
-use Prim.Native.Nat.{◌≤◌, ◌-◌}
-use lib.ListN.{length}
+use Prim.Native.Nat.{◌≤◌}
 use Rattle.relation.specs.Tables.{Filled}
 use Rattle.model.specs.Limits.{most_held}
 use Rattle.cache_masks.specs.Ranks.{rank_of, rank_at}

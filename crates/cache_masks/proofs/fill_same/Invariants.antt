@@ -1,9 +1,6 @@
 -- `cache_masks::fill_same` meets its contract. The invariant: the first i entries are filled in.
-use mathlib.Core.Path.{◌≡◌}
-use Prim.Native.Nat.{◌≤◌, ◌-◌}
-use lib.ListN.{length}
+use Prim.Native.Nat.{◌≤◌}
 use Rattle.relation.specs.Tables.{Filled}
-use Rattle.model.specs.Limits.{most_held}
 use Rattle.cache_masks.specs.Masks.{same_at}
 use Rattle.cache_masks.proofs.fill_same.Given as goal
 

@@ -1,7 +1,5 @@
 -- `cache_masks::join_up` meets its contract. The invariant: the entries below r are joined, the others as they were.
-use mathlib.Core.Path.{◌≡◌}
-use Prim.Native.Nat.{◌≤◌, ◌-◌}
-use lib.ListN.{length}
+use Prim.Native.Nat.{◌≤◌}
 use Rattle.cache_masks.specs.Ranks.{bounds}
 use Rattle.cache_masks.proofs.RankSteps.{Joined}
 use Rattle.cache_masks.proofs.join_up.Given as goal

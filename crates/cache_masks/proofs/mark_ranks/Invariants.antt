@@ -1,7 +1,5 @@
 -- `cache_masks::mark_ranks` meets its contract. The invariant: the first i writes are marked.
-use mathlib.Core.Path.{◌≡◌}
-use Prim.Native.Nat.{◌≤◌, ◌-◌}
-use lib.ListN.{length}
+use Prim.Native.Nat.{◌≤◌}
 use Rattle.relation.specs.Tables.{Filled}
 use Rattle.cache_masks.specs.Ranks.{bounds, next_mask}
 use Rattle.cache_masks.proofs.mark_ranks.Given as goal

@@ -1,7 +1,4 @@
 -- `cache_needs::add_to` meets its contract. The invariant: the rows of firsts have what is added, but for those left.
-use mathlib.Core.Path.{◌≡◌}
-use lib.ListN.{length}
-use Rattle.model.specs.Limits.{most_held}
 use Rattle.cache_needs.proofs.TableSteps.{Adding}
 use Rattle.cache_needs.proofs.add_to.Given as goal
 

@@ -1,7 +1,6 @@
 -- `cache_needs::dependents` meets its contract. The invariant: the mask has what depends on w by the first k rules.
 use mathlib.Core.Path.{◌≡◌}
-use mathlib.Core.List.{[]}
-use Prim.Native.Nat.{◌≤◌, ◌-◌}
+use Prim.Native.Nat.{◌≤◌}
 use lib.ListN.{take}
 use Rattle.cache_masks.specs.Columns.{writes_of}
 use Rattle.cache_needs.specs.Needed.{dependent_mask}

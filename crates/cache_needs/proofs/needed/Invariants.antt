@@ -1,6 +1,6 @@
 -- `cache_needs::needed` meets its contract. The invariant: the mask has what w needs by the first k rules.
 use mathlib.Core.Path.{◌≡◌}
-use Prim.Native.Nat.{◌≤◌, ◌-◌}
+use Prim.Native.Nat.{◌≤◌}
 use lib.ListN.{take}
 use Rattle.cache_masks.specs.Columns.{writes_of}
 use Rattle.cache_needs.specs.Needed.{needed_mask}

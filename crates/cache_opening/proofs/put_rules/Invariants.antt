@@ -1,5 +1,5 @@
 -- `cache_opening::put_rules` meets its contract. The invariant: the count and the first i rules are written.
-use Prim.Native.Nat.{◌≤◌, ◌-◌}
+use Prim.Native.Nat.{◌≤◌}
 use mathlib.Core.Path.{◌≡◌}
 use lib.ListN.{length, take}
 use Rattle.cache_model.specs.State.{state_size}

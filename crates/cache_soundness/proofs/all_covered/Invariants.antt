@@ -1,7 +1,7 @@
 -- `cache_soundness::all_covered` meets its contract. The invariant: the rows below i are covered.
 use mathlib.Core.Path.{◌≡◌}
 use mathlib.Core.Bool.{true}
-use Prim.Native.Nat.{◌≤◌, ◌-◌}
+use Prim.Native.Nat.{◌≤◌}
 use Rattle.relation.specs.Lists.{all_below}
 use Rattle.cache_soundness.specs.Parts.{covered_at}
 use Rattle.cache_soundness.proofs.all_covered.Given as goal

@@ -1,5 +1,5 @@
 -- `cache_soundness::is_known` meets its contract.
-use Rattle.std.proofs.Common.{◌≡◌, ◌∙◌, ap, take, rules, tests}
+use Rattle.std.proofs.Common.{◌∙◌, take, rules, tests}
 use lib.Dec.{leb}
 use Rattle.std.proofs.lemmas.Iterator.{YieldsList-from_slice}
 use Rattle.std.proofs.lemmas.Iterator.Search.{all_from_yields_List}

@@ -1,7 +1,7 @@
 -- `cache_steps::drain_sound` meets its contract. The invariant: the state is sound, rows has its needs and done its stored writes, and after so many rounds state and disk are those after so many steps, in their order.
 use mathlib.Core.Path.{◌≡◌}
 use mathlib.Core.Bool.{true}
-use Prim.Native.Nat.{◌≤◌, ◌-◌}
+use Prim.Native.Nat.{◌≤◌}
 use lib.ListN.{length}
 use Rattle.relation.specs.Bits.{mask_of}
 use Rattle.file_format.specs.Bytes.{disk_length}
