@@ -89,7 +89,7 @@ module _ (c : Rules) (k : ℕ) (rule : Rule) where
       let z : k + (c.count + 1 - k) ≡ c.count + 1 = omega arith in
       let part-is : part ≡ tail ++ (rule ∷ [])
       = e ∙ sym (drop-take k (c.count + 1 - k) (set c.items c.count rule)) ∙ ap (λ (n : ℕ). drop k (take n (set c.items c.count rule))) z
-        ∙ ap (drop k) (pushed c.items c.count rule all few) ∙ drop-append-le k held (rule ∷ []) (omega arith) in
+      ∙ ap (drop k) (pushed c.items c.count rule all few) ∙ drop-append-le k held (rule ∷ []) (omega arith) in
       let last : length part - 1 ≡ length tail = rw part-is (omega (arith, length-append tail (rule ∷ []))) in
       let turned-is : turned ≡ rule ∷ tail
       = q ∙ rw (last, part-is, drop_at tail (rule ∷ []) (length tail) refl, take_at tail (rule ∷ []) (length tail) refl) in

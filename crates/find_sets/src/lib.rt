@@ -25,7 +25,9 @@ fn place(c: &Rules, rule: Rule) -> usize
     ensures most { result ≤ c.now.count }
 {
     let held = &c.items[..c.count];
-    held.iter().take_while(|held| comes_before(**held, rule)).count()
+    held.iter()
+        .take_while(|held| comes_before(**held, rule))
+        .count()
 }
 
 // A rule put behind the first k.
