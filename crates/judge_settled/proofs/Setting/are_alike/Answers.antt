@@ -3,9 +3,6 @@ use Rattle.std.proofs.Common.{rules, ◌≡◌, true}
 use Rattle.judge_settled.proofs.SettledLaws.{alike_chosen, alike_more, alike_base, settling}
 use Rattle.judge_settled.proofs.Setting.are_alike.Goals as goal
 
-pub loop-left-init : goal.loop-left-init
-loop-left-init g c = search settling
-
 pub returns-then-ne : goal.returns-then-ne
 returns-then-ne g c = search settling
 

@@ -2,11 +2,5 @@
 use Rattle.judge_settled.proofs.AskLaws.{asking}
 use Rattle.judge_settled.proofs.Setting.is_there.Goals as goal
 
-pub known_is-requires : goal.known_is-requires
-known_is-requires c = search asking
-
-pub opposite-requires : goal.opposite-requires
-opposite-requires c = search asking
-
 pub returns : goal.returns
 returns c = search asking

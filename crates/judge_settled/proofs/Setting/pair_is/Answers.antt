@@ -5,8 +5,5 @@ use Rattle.judge_settled.proofs.Setting.pair_is.Goals as goal
 pub returns-then-own-v : goal.returns-then-own-v
 returns-then-own-v c = search asking
 
-pub known_is-requires : goal.known_is-requires
-known_is-requires c = search asking
-
 pub returns : goal.returns
 returns c = search asking

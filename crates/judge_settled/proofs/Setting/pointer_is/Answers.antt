@@ -5,14 +5,8 @@ use Rattle.judge_settled.proofs.Setting.pointer_is.Goals as goal
 pub returns-then-own-eq0 : goal.returns-then-own-eq0
 returns-then-own-eq0 c = search asking
 
-pub second_of-to-requires : goal.second_of-to-requires
-second_of-to-requires c = search asking
-
 pub returns-then-to-gt-LAST_BLOCK : goal.returns-then-to-gt-LAST_BLOCK
 returns-then-to-gt-LAST_BLOCK c = search asking
-
-pub is_there-requires : goal.is_there-requires
-is_there-requires c = search asking
 
 pub returns : goal.returns
 returns c = search asking

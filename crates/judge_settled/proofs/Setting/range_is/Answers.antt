@@ -4,9 +4,6 @@ use Rattle.judge_settled.specs.declared.Answer.TheVariants.{Yes}
 use Rattle.judge_settled.proofs.AskLaws.{asking}
 use Rattle.judge_settled.proofs.Setting.range_is.Goals as goal
 
-pub is_damaged-requires : goal.is_damaged-requires
-is_damaged-requires c = search asking
-
 pub returns-then-is_damaged : goal.returns-then-is_damaged
 returns-then-is_damaged c = search asking
 
