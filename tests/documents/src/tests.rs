@@ -750,7 +750,7 @@ fn other_turns_are_noticed() {
 
 /// What is done once for a file, or once for a test of it, or once for a state, and who does it: each of
 /// these is done once too, up to the routines that nothing of the kit calls.
-const DONE_ONCE: [(&str, &[&str]); 54] = [
+const DONE_ONCE: [(&str, &[&str]); 55] = [
     (
         "read",
         &[
