@@ -187,9 +187,9 @@ module _ (w : Write) (s : List ℕ) where
               (untrue (needs_ring (rules_in s) (writes_in s)) (λ q. good.holds.ringless (rw (accepted_in s) (needs_ring-true (rules_in s) (writes_in s) q))))
 
           -- what the columns' refusals ask
-          pub behind-asks : ((r.rules.count ≤ most_rules) × ((n < most_held) × (take n rows ≡ rows_of (cache.needs (rules_of r.rules) (writes_of d n)) n)))
+          pub behind-asks : ((n < most_held) × (take n rows ≡ rows_of (cache.needs (rules_of r.rules) (writes_of d n)) n))
               × ((cyclic (rules_of r.rules) ≡ false) × (needs_ring (rules_of r.rules) (writes_of d n) ≡ false))
-          behind-asks = ((seen.decoded.few, (m, behind-rows)), (behind-acyclic, behind-ringless))
+          behind-asks = ((m, behind-rows), (behind-acyclic, behind-ringless))
 
           late_is : late (rules_in s) (writes_of d n) (bit r.stored) w ≡ late (rules_in s) (writes_in s) (stored_in s) w
           late_is =

@@ -27,7 +27,7 @@ fn closes_ring(
     w: Write,
     dependents: u64,
 ) -> bool
-    requires { ((rules.count ≤ most_rules) × ((n < most_held) × (take n rows.now ≡ rows_of (needs (rules_of rules) (writes_of columns.now n)) n))) × ((cyclic (rules_of rules) ≡ false) × ((needs_ring (rules_of rules) (writes_of columns.now n) ≡ false) × (dependents ≡ dependent_mask (rules_of rules) (writes_of columns.now n) w n))) }
+    requires { ((n < most_held) × (take n rows.now ≡ rows_of (needs (rules_of rules) (writes_of columns.now n)) n)) × ((cyclic (rules_of rules) ≡ false) × ((needs_ring (rules_of rules) (writes_of columns.now n) ≡ false) × (dependents ≡ dependent_mask (rules_of rules) (writes_of columns.now n) w n))) }
     ensures { result ≡ needs_ring (rules_of rules) (writes_of columns.now n ++ (w ∷ [])) }
 {
     if dependents == 0 {
@@ -46,7 +46,7 @@ fn fault_behind(
     w: Write,
     stored: u64,
 ) -> Result<(), Cause>
-    requires { ((rules.count ≤ most_rules) × ((n < most_held) × (take n rows.now ≡ rows_of (needs (rules_of rules) (writes_of columns.now n)) n))) × ((cyclic (rules_of rules) ≡ false) × (needs_ring (rules_of rules) (writes_of columns.now n) ≡ false)) }
+    requires { ((n < most_held) × (take n rows.now ≡ rows_of (needs (rules_of rules) (writes_of columns.now n)) n)) × ((cyclic (rules_of rules) ≡ false) × (needs_ring (rules_of rules) (writes_of columns.now n) ≡ false)) }
     ensures { fault_number result ≡ cond (late (rules_of rules) (writes_of columns.now n) (bit stored) w) 17 (cond (needs_ring (rules_of rules) (writes_of columns.now n ++ (w ∷ []))) 18 0) }
 {
     let dependents = cache_needs::dependents(rules, columns, n, w);

@@ -12,7 +12,7 @@ use borrow.Author.Tests.{eq-eqb, ne_eqb}
 use Rattle.relation.specs.Bits.{with_bit, mask_of}
 use Rattle.relation.specs.Tables.{Filled}
 use Rattle.relation.proofs.BitLaws.{mask_ext}
-use Rattle.relation.proofs.ListLaws.{get_d_other}
+use Rattle.relation.proofs.ListLaws.{get_or_other}
 use Rattle.relation.proofs.TableLaws.{filled_none, filled_more, filled-all}
 use Rattle.model.specs.Limits.{most_held}
 use Rattle.model.specs.Rules.{stands}
@@ -28,12 +28,12 @@ module _ {A : Type 0} (eq : A → A → Bool) (column : List A) (x : A) where
   pub same_more : (j mask next : ℕ) (y : A) (b : Bool) → j < length column → y ≡ get_or column j y → b ≡ eq y x → mask ≡ equal_mask eq column x j
       → next ≡ cond b (with_bit mask j) mask → next ≡ equal_mask eq column x (j + 1)
   unfolding equal_mask mask_of
-  same_more j mask next y b h e q p f = f ∙ rw (add-one j, q, p, e ∙ get_d_other column j y x h)
+  same_more j mask next y b h e q p f = f ∙ rw (add-one j, q, p, e ∙ get_or_other column j y x h)
 
 -- at numbers
 pub same_numbers : (column : List ℕ) (x n : ℕ) → n ≤ length column → equal_mask eqb column x n ≡ same_mask column x n
 unfolding equal_mask same_mask
-same_numbers column x n few = mask_ext _ _ n (λ j h. rw (get_d_other column j x 0 (omega arith)))
+same_numbers column x n few = mask_ext _ _ n (λ j h. rw (get_or_other column j x 0 (omega arith)))
 
 module _ (column : List ℕ) (x : ℕ) where
   pub mask-begun : 0 ≡ same_mask column x 0

@@ -95,7 +95,7 @@ fn run_from(
     n: usize,
     alike: &[u64; model::MOST_HELD],
 ) -> Run
-    requires { ((k < rules.count) × (rules.count ≤ most_rules)) × ((n ≤ most_held) × Filled (same_at names.now) n alike.now) }
+    requires { (k < rules.count) × ((n ≤ most_held) × Filled (same_at names.now) n alike.now) }
     ensures { (result.head ≡ item_at rules k) × ((k < result.end) × ((result.end ≤ rules.count) × Joins names.now n rules k result.end result.seconds)) }
 {
     let head = rules.items[k];
@@ -139,7 +139,7 @@ pub fn add_run(
     n: usize,
     tables: &Tables,
 ) -> usize
-    requires { ((k < rules.count) × (rules.count ≤ most_rules)) × ((n ≤ most_held) × Prepared names.now n tables.now) }
+    requires { (k < rules.count) × ((n ≤ most_held) × Prepared names.now n tables.now) }
     ensures { (k < result) × ((result ≤ rules.count) × ((old : List ℕ) → Adds (take k rules.items) names.now n tables.now.ranks tables.now.belows old rows.old → Adds (take result rules.items) names.now n tables.now.ranks tables.now.belows old rows.new)) }
 {
     let run = run_from(rules, k, names, n, &tables.alike);
@@ -168,7 +168,7 @@ fn with_named(
 
 // Which of the first n writes w, behind them, needs.
 pub fn needed(rules: Rules, columns: &Columns, n: usize, w: Write) -> u64
-    requires { (rules.count ≤ most_rules) × (n < most_held) }
+    requires { n < most_held }
     ensures { result ≡ needed_mask (rules_of rules) (writes_of columns.now n) w n }
 {
     let compared = cache_masks::compare_epochs(&columns.epochs, w.epoch, n);
@@ -185,7 +185,7 @@ pub fn needed(rules: Rules, columns: &Columns, n: usize, w: Write) -> u64
 // Which of the first n writes depend on w. (Names and epochs are turned round, and no address counts: one function
 // of both, with all that as parameters, would be no plainer.)
 pub fn dependents(rules: Rules, columns: &Columns, n: usize, w: Write) -> u64
-    requires { (rules.count ≤ most_rules) × (n ≤ most_held) }
+    requires { n ≤ most_held }
     ensures { result ≡ dependent_mask (rules_of rules) (writes_of columns.now n) w n }
 {
     let compared = cache_masks::turned(cache_masks::compare_epochs(&columns.epochs, w.epoch, n));

@@ -26,7 +26,7 @@ fn put_rule(state: &mut [u8], at: usize, rule: Rule)
 
 // The count of the rules, and the rules.
 fn put_rules(state: &mut [u8], rules: Rules)
-    requires { (rules.count ≤ most_rules) × (Known (rules_of rules) × (state.old ≡ replicate state_size 0)) }
+    requires { Known (rules_of rules) × (state.old ≡ replicate state_size 0) }
     ensures { state.new ≡ opened (rules_of rules) }
 {
     state[0] = rules.count as u8;
@@ -37,7 +37,7 @@ fn put_rules(state: &mut [u8], rules: Rules)
 
 // A state with these rules and no writes, unless they are cyclic.
 pub fn open_with(state: &mut [u8], rules: Rules) -> Result<(), Cause>
-    requires { (length state.old ≡ state_size) × ((rules.count ≤ most_rules) × Known (rules_of rules)) }
+    requires { (length state.old ≡ state_size) × Known (rules_of rules) }
     ensures { call_leaves_state (answer_by result) state.new ≡ opened_by (rules_of rules) state.old }
 {
     if rule_cycles::is_cyclic(rules) {

@@ -17,7 +17,6 @@ use rule_match::Rules;
 
 // Whether every predicate is one of the three.
 fn is_known(rules: Rules) -> bool
-    requires { rules.count ≤ most_rules }
     ensures { result ≡ known (rules_of rules) }
 {
     rules.items[..rules.count]

@@ -23,7 +23,7 @@ use Rattle.file_encoding.proofs.PartLaws.{wide-write_forth, wide-rule_forth}
 use Rattle.cache_model.specs.Entries.{Entry, entry, accepted, flag_at, flag_count}
 use Rattle.cache_model.specs.State.{state_size, rules_start, writes_start, entry_length, flag_place, rule_base, write_base, rule_in, write_in, rules_in, stored_in, entries_in, flag_in, rule_count, accepted_count, stored_count, rules_bytes, entry_bytes, entries_bytes, unused, front, back, state_of}
 use Rattle.cache_statelaws.specs.Theorem.{Clauses, Layouts, ReadsBack, EntriesRead, StatesWritten}
-use Rattle.cache_statelaws.proofs.GeneralLaws.{part-is, rest-zero, get_d_zeros, get_d_beyond}
+use Rattle.cache_statelaws.proofs.GeneralLaws.{part-is, rest-zero, get_or_zeros, get_or_beyond}
 use Rattle.cache_statelaws.proofs.EachLaws.{each_read}
 use Rattle.cache_statelaws.proofs.EntryLaws.{length-accepted, accepted-at}
 use Rattle.cache_statelaws.proofs.LayoutLaws.{Worded, rule-size, entry-size, length-state, length-rules_in, length-entries_in, flag-in, flag-byte, rules-rest, writes-rest, third, accepted_in, state-rules, state_entries, opened-state, handed-state, marked-state}
@@ -73,19 +73,19 @@ module _ (s : List ℕ) (few : rule_count s ≤ most_rules) (most : accepted_cou
     size = c.size
 
     bounded : (k : ℕ) → byte s k < 256
-    bounded k = elim (dec_lt k (length s)) [ yes h ↦ small k h | no h ↦ rw (get_d_beyond s k (omega (arith, h))) (omega arith) ]
+    bounded k = elim (dec_lt k (length s)) [ yes h ↦ small k h | no h ↦ rw (get_or_beyond s k (omega (arith, h))) (omega arith) ]
 
     part_length : (k n : ℕ) → k + n ≤ state_size → length (take n (drop k s)) ≡ n
     part_length k n h = length-take-le n (drop k s) (rw (length-drop k s, size) (omega arith))
 
     zero-part : (k n : ℕ) → k + n ≤ state_size → ((i : ℕ) → k ≤ i → i < k + n → byte s i ≡ 0) → take n (drop k s) ≡ unused n
-    zero-part k n h z = part-is 0 s (unused n) k n (length-replicate {A = ℕ} n 0) (rw size h) (λ i l. z (k + i) (omega arith) (omega arith) ∙ sym (get_d_zeros n i))
+    zero-part k n h z = part-is 0 s (unused n) k n (length-replicate {A = ℕ} n 0) (rw size h) (λ i l. z (k + i) (omega arith) (omega arith) ∙ sym (get_or_zeros n i))
 
     -- a part's bytes are small too
     part_bounded : (k n : ℕ) → k + n ≤ state_size → (j : ℕ) → byte (take n (drop k s)) j < 256
     part_bounded k n h j = elim (dec_lt j n) [
       | yes l ↦ rw (get_or-take n (drop k s) j 0 l, get_or-drop k s j 0) (bounded (k + j))
-      | no l ↦ rw (get_d_beyond (take n (drop k s)) j (rw (part_length k n h) (omega (arith, l)))) (omega arith)
+      | no l ↦ rw (get_or_beyond (take n (drop k s)) j (rw (part_length k n h) (omega (arith, l)))) (omega arith)
     ]
 
     rules-part : rules_bytes R ≡ take (wide_rule_length * rule_count s) (drop rules_start s)

@@ -8,7 +8,7 @@ use native.Mathlib.Omega.{arith}
 use lib.ListN.{length, get_or, take, drop, set, replicate, length-drop, length-set, length-replicate}
 use lib.Seq.{sets, sets-eq, ext_get_or, length-take-le, get_or-take, get_or-drop, get_or-set_same, get_or-set_other}
 use Rattle.relation.specs.Lists.{tabulate}
-use Rattle.relation.proofs.ListLaws.{length-tabulate, get_d_tabulate, below_suc}
+use Rattle.relation.proofs.ListLaws.{length-tabulate, get_or_tabulate, below_suc}
 use Rattle.model.specs.Test.{count_below}
 use Rattle.model.proofs.CountLaws.{count_ext}
 
@@ -27,7 +27,7 @@ module _ {A : Type 0} (d : A) where
   pub tabulate_get_d : (l : List A) → tabulate (λ i. get_or l i d) (length l) ≡ l
   tabulate_get_d l =
       let n = length-tabulate (λ i. get_or l i d) (length l) in
-      ext_get_or d (tabulate (λ i. get_or l i d) (length l)) l n (λ i h. get_d_tabulate (λ k. get_or l k d) (length l) i d (omega arith))
+      ext_get_or d (tabulate (λ i. get_or l i d) (length l)) l n (λ i h. get_or_tabulate (λ k. get_or l k d) (length l) i d (omega arith))
 
   pub sets_out : (vs l : List A) (i k : ℕ) → (k < i) ⊎ (i + length vs ≤ k) → get_or (sets l i vs) k d ≡ get_or l k d
   sets_out [] l i k h = refl
@@ -61,16 +61,16 @@ sets_behind xs ys i (v ∷ vs) =
     rw (set-behind xs ys i v, z) (sets_behind xs (set ys i v) (suc i) vs)
 
 -- behind the end stands a 0
-pub get_d_beyond : (l : List ℕ) (k : ℕ) → length l ≤ k → ◌≡◌ {A = ℕ} (get_or l k 0) 0
-get_d_beyond [] k h = refl
-get_d_beyond (x ∷ l) zero h = absurd (omega arith)
-get_d_beyond (x ∷ l) (suc k) h = get_d_beyond l k (omega arith)
+pub get_or_beyond : (l : List ℕ) (k : ℕ) → length l ≤ k → ◌≡◌ {A = ℕ} (get_or l k 0) 0
+get_or_beyond [] k h = refl
+get_or_beyond (x ∷ l) zero h = absurd (omega arith)
+get_or_beyond (x ∷ l) (suc k) h = get_or_beyond l k (omega arith)
 
 -- zeros
-pub get_d_zeros : (n i : ℕ) → ◌≡◌ {A = ℕ} (get_or (replicate {A = ℕ} n 0) i 0) 0
-get_d_zeros zero i = refl
-get_d_zeros (suc n) zero = refl
-get_d_zeros (suc n) (suc i) = get_d_zeros n i
+pub get_or_zeros : (n i : ℕ) → ◌≡◌ {A = ℕ} (get_or (replicate {A = ℕ} n 0) i 0) 0
+get_or_zeros zero i = refl
+get_or_zeros (suc n) zero = refl
+get_or_zeros (suc n) (suc i) = get_or_zeros n i
 
 drop-zeros : (k n : ℕ) → drop k (replicate {A = ℕ} n 0) ≡ replicate {A = ℕ} (n - k) 0
 drop-zeros zero n = let z : n - 0 ≡ n = omega arith in rw z
@@ -88,7 +88,7 @@ rest-zero s k n e l h =
     ext_get_or 0 (drop k s) (replicate {A = ℕ} (n - k) 0) (length-drop k s ∙ rw e (sym (length-replicate {A = ℕ} (n - k) 0)))
     (λ i b.
     let c = length-drop k s in
-    get_or-drop k s i 0 ∙ h (k + i) (omega arith) (omega arith) ∙ sym (get_d_zeros (n - k) i))
+    get_or-drop k s i 0 ∙ h (k + i) (omega arith) (omega arith) ∙ sym (get_or_zeros (n - k) i))
 
 -- ---- counts
 

@@ -11,7 +11,7 @@ use lib.Dec.{eqb}
 use lib.ListN.{length, get_or, take, drop, set, length-append, length-replicate, replicate-append-replicate, get_or-append}
 use lib.Seq.{sets, drop-append-add, get_or-append-add, take-take}
 use Rattle.relation.specs.Lists.{tabulate}
-use Rattle.relation.proofs.ListLaws.{tabulate_ext, length-tabulate, get_d_tabulate}
+use Rattle.relation.proofs.ListLaws.{tabulate_ext, length-tabulate, get_or_tabulate}
 use Rattle.model.specs.Limits.{most_rules, most_held, words}
 use Rattle.model.specs.declared.Write.{Write}
 use Rattle.model.specs.declared.Rule.{Rule}
@@ -23,7 +23,7 @@ use Rattle.file_format.specs.File.{wide_rule_length, wide_write_length, wide_wri
 use Rattle.file_encoding.proofs.PartLaws.{wide-words-back, wide-rule-back}
 use Rattle.cache_model.specs.Entries.{Entry, entry, accepted, flag_at, flag_count, appended, flagging}
 use Rattle.cache_model.specs.State.{state_size, rules_start, writes_start, entry_length, flag_place, rule_base, write_base, rule_in, write_in, rules_in, writes_in, stored_in, entries_in, flag_in, rule_count, accepted_count, stored_count, bytes_each, rules_bytes, entry_bytes, entries_bytes, unused, front, back, state_of, opened, handed, marked}
-use Rattle.cache_statelaws.proofs.GeneralLaws.{tabulate_get_d, set-behind, sets_behind, sets-zeros, get_d_zeros}
+use Rattle.cache_statelaws.proofs.GeneralLaws.{tabulate_get_d, set-behind, sets_behind, sets-zeros, get_or_zeros}
 use Rattle.cache_statelaws.proofs.EachLaws.{length-each, each_append, part-there, byte-there, set_there}
 use Rattle.cache_statelaws.proofs.EntryLaws.{flag_beyond, length-appended, count-appended, length-flagging, count-flagging}
 
@@ -82,11 +82,11 @@ module _ (s : List ℕ) where
 
   pub write-at : (i : ℕ) → i < accepted_count s → write_at (writes_in s) i ≡ write_in s i
   unfolding writes_in
-  write-at i h = get_d_tabulate (write_in s) (accepted_count s) i no_write h
+  write-at i h = get_or_tabulate (write_in s) (accepted_count s) i no_write h
 
   pub entry_in : (i : ℕ) → i < accepted_count s → get_or (entries_in s) i (entry no_write false) ≡ entry (write_in s i) (stored_in s i)
   unfolding entries_in
-  entry_in i h = get_d_tabulate (λ k. entry (write_in s k) (stored_in s k)) (accepted_count s) i (entry no_write false) h
+  entry_in i h = get_or_tabulate (λ k. entry (write_in s k) (stored_in s k)) (accepted_count s) i (entry no_write false) h
 
   pub flag-in : (i : ℕ) → i < accepted_count s → flag_at (entries_in s) i ≡ stored_in s i
   unfolding flag_at
@@ -185,7 +185,7 @@ module _ (rules : List Rule) (b : List Entry) (hr : length rules ≤ most_rules)
       let e : k - rules_start ≡ length (rules_bytes rules) + (k - rule_base (length rules)) = let m = length-rules rules in omega arith in
       let m : k - rule_base (length rules) < length (unused n) = rw (length-unused n) (omega arith) in
       rw (z, append_assoc (rules_bytes rules) (unused n) (back b), e, get_or-append-add (rules_bytes rules) (unused n ++ back b) (k - rule_base (length rules)) 0)
-      (get_or-append (unused n) (back b) 0 (k - rule_base (length rules)) m ∙ get_d_zeros n (k - rule_base (length rules)))
+      (get_or-append (unused n) (back b) 0 (k - rule_base (length rules)) m ∙ get_or_zeros n (k - rule_base (length rules)))
 
   pub writes-rest : (k : ℕ) → write_base (length b) ≤ k → byte (state_of rules b) k ≡ 0
   unfolding back
@@ -194,7 +194,7 @@ module _ (rules : List Rule) (b : List Entry) (hr : length rules ≤ most_rules)
       let z : k ≡ writes_start + (k - writes_start) = omega arith in
       let e : k - writes_start ≡ length (entries_bytes b) + (k - write_base (length b)) = let m = length_entries b in omega arith in
       ap (byte (state_of rules b)) z ∙ byte-behind (k - writes_start)
-      ∙ (rw e (get_or-append-add (entries_bytes b) (unused n) (k - write_base (length b)) 0 ∙ get_d_zeros n (k - write_base (length b))))
+      ∙ (rw e (get_or-append-add (entries_bytes b) (unused n) (k - write_base (length b)) 0 ∙ get_or_zeros n (k - write_base (length b))))
 
   pub third : byte (state_of rules b) 3 ≡ 0
   unfolding state_of front

@@ -79,7 +79,7 @@ pub fn fault(s: &[u8], at: usize, c: Counts) -> Result<Kind, Cause>
         return Err(Cause::Cut);
     }
     let tag = s[at];
-    let Some(kind) = file_format::kind_of(tag) else {
+    let Some(kind) = Kind::of(tag) else {
         return Err(Cause::UnknownTag);
     };
     if out_of_order(kind, c) {

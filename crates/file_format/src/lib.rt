@@ -119,21 +119,34 @@ pub fn is_wide(tag: u8) -> bool
     END_TAG < tag
 }
 
-// The kind of a field with this tag, with names of one byte or of two; none for what is no tag.
-#[tactic(auto, unfolding(crate::specs::File::kind_of, crate::specs::File::is_wide, crate::specs::File::is_tag))]
-pub fn kind_of(tag: u8) -> Option<Kind>
-    ensures some { IfSome result (λ kind. (is_tag tag ≡ true) × (kind_number kind ≡ kind_of tag)) }
-    ensures none { IfNone result (is_tag tag ≡ false) }
+// Its kind as a number: the tag with names of one byte that holds the same.
+#[tactic(auto, unfolding(crate::specs::File::kind_of, crate::specs::File::is_wide))]
+pub fn kind_of(tag: u8) -> u8
+    ensures { result ≡ kind_of tag }
 {
-    match tag {
-        1 | 8 => Some(Kind::Initial),
-        2 | 9 => Some(Kind::Main),
-        3 | 10 => Some(Kind::Rule),
-        4 => Some(Kind::Range),
-        5 => Some(Kind::Pair),
-        6 => Some(Kind::Pointer),
-        7 => Some(Kind::End),
-        _ => None,
+    if is_wide(tag) { tag - END_TAG } else { tag }
+}
+
+impl Kind {
+    // The kind of a field with this tag, with names of one byte or of two; none for what is no tag.
+    #[tactic(auto, unfolding(crate::specs::File::kind_of, crate::specs::File::is_wide, crate::specs::File::is_tag))]
+    pub fn of(tag: u8) -> Option<Kind>
+        ensures some { IfSome result (λ kind. (is_tag tag ≡ true) × (kind_number kind ≡ kind_of tag)) }
+        ensures none { IfNone result (is_tag tag ≡ false) }
+    {
+        if LAST_TAG < tag {
+            return None;
+        }
+        match kind_of(tag) {
+            1 => Some(Kind::Initial),
+            2 => Some(Kind::Main),
+            3 => Some(Kind::Rule),
+            4 => Some(Kind::Range),
+            5 => Some(Kind::Pair),
+            6 => Some(Kind::Pointer),
+            7 => Some(Kind::End),
+            _ => None,
+        }
     }
 }
 

@@ -8,4 +8,4 @@ use Rattle.cache_model.specs.State.{rule_in}
 use Rattle.cache_contents.proofs.state_rules.Given as goal
 
 abbrev pub invariant-loop-i : goal.invariant-loop-i
-invariant-loop-i l = (l.i ≤ l.n) × (length l.out.items ≡ most_rules) × (l.out.count ≡ l.n) × (take l.i l.out.items ≡ tabulate (rule_in l.state) l.i)
+invariant-loop-i l = (l.i ≤ l.n) × (length l.out.0 ≡ most_rules) × (l.out.1.0 ≡ l.n) × (take l.i l.out.0 ≡ tabulate (rule_in l.state) l.i)

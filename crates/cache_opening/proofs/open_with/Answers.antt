@@ -8,7 +8,7 @@ returns-then-is_cyclic c = search beginning
 
 pub put_rules-requires : goal.put_rules-requires
 put_rules-requires c =
-    (c.requires.1.0, (c.requires.1.1, c.fill.ensures.after (λ y e. search rules) ∙ ap (λ (n : ℕ). replicate n 0) c.requires.0))
+    (c.requires.1, c.fill.ensures.after (λ y e. search rules) ∙ ap (λ (n : ℕ). replicate n 0) c.requires.0)
 
 pub returns : goal.returns
 returns c = search beginning
