@@ -5,7 +5,7 @@ use Prim.Native.Nat.{ℕ, ◌<◌}
 use native.Mathlib.Omega.{arith}
 use lib.ListN.{length, get_or, get_or-append}
 use lib.Seq.{get_or_at}
-use Rattle.relation.proofs.ListLaws.{length-tabulate, get_d_tabulate}
+use Rattle.relation.proofs.ListLaws.{length-tabulate, get_or_tabulate}
 use Rattle.model.specs.declared.Write.{Write}
 use Rattle.model.specs.Schedule.{no_write, write_at}
 use Rattle.model.proofs.NeedsLaws.{Alike}
@@ -21,7 +21,7 @@ module _ (addresses names epochs : List ℕ) (n : ℕ) where
 
   pub columned-at : (i : ℕ) → i < n → write_at (columned addresses names epochs n) i ≡ entry i
   unfolding columned
-  columned-at i h = get_d_tabulate entry n i no_write h
+  columned-at i h = get_or_tabulate entry n i no_write h
 
   -- with a write behind them
   pub front_at : (w : Write) (i : ℕ) → i < n → write_at (columned addresses names epochs n ++ (w ∷ [])) i ≡ entry i

@@ -8,7 +8,7 @@ use native.Mathlib.Omega.{arith}
 use lib.ListN.{length, get_or, take, drop, set, replicate, length-drop, length-set, length-replicate}
 use lib.Seq.{sets, sets-eq, ext_get_or, length-take-le, get_or-take, get_or-drop, get_or-set_same, get_or-set_other}
 use Rattle.relation.specs.Lists.{tabulate}
-use Rattle.relation.proofs.ListLaws.{length-tabulate, get_d_tabulate, below_suc}
+use Rattle.relation.proofs.ListLaws.{length-tabulate, get_or_tabulate, below_suc}
 use Rattle.model.specs.Test.{count_below}
 use Rattle.model.proofs.CountLaws.{count_ext}
 
@@ -27,7 +27,7 @@ module _ {A : Type 0} (d : A) where
   pub tabulate_get_d : (l : List A) → tabulate (λ i. get_or l i d) (length l) ≡ l
   tabulate_get_d l =
       let n = length-tabulate (λ i. get_or l i d) (length l) in
-      ext_get_or d (tabulate (λ i. get_or l i d) (length l)) l n (λ i h. get_d_tabulate (λ k. get_or l k d) (length l) i d (omega arith))
+      ext_get_or d (tabulate (λ i. get_or l i d) (length l)) l n (λ i h. get_or_tabulate (λ k. get_or l k d) (length l) i d (omega arith))
 
   pub sets_out : (vs l : List A) (i k : ℕ) → (k < i) ⊎ (i + length vs ≤ k) → get_or (sets l i vs) k d ≡ get_or l k d
   sets_out [] l i k h = refl

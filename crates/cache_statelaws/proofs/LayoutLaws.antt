@@ -11,7 +11,7 @@ use lib.Dec.{eqb}
 use lib.ListN.{length, get_or, take, drop, set, length-append, length-replicate, replicate-append-replicate, get_or-append}
 use lib.Seq.{sets, drop-append-add, get_or-append-add, take-take}
 use Rattle.relation.specs.Lists.{tabulate}
-use Rattle.relation.proofs.ListLaws.{tabulate_ext, length-tabulate, get_d_tabulate}
+use Rattle.relation.proofs.ListLaws.{tabulate_ext, length-tabulate, get_or_tabulate}
 use Rattle.model.specs.Limits.{most_rules, most_held, words}
 use Rattle.model.specs.declared.Write.{Write}
 use Rattle.model.specs.declared.Rule.{Rule}
@@ -82,11 +82,11 @@ module _ (s : List ℕ) where
 
   pub write-at : (i : ℕ) → i < accepted_count s → write_at (writes_in s) i ≡ write_in s i
   unfolding writes_in
-  write-at i h = get_d_tabulate (write_in s) (accepted_count s) i no_write h
+  write-at i h = get_or_tabulate (write_in s) (accepted_count s) i no_write h
 
   pub entry_in : (i : ℕ) → i < accepted_count s → get_or (entries_in s) i (entry no_write false) ≡ entry (write_in s i) (stored_in s i)
   unfolding entries_in
-  entry_in i h = get_d_tabulate (λ k. entry (write_in s k) (stored_in s k)) (accepted_count s) i (entry no_write false) h
+  entry_in i h = get_or_tabulate (λ k. entry (write_in s k) (stored_in s k)) (accepted_count s) i (entry no_write false) h
 
   pub flag-in : (i : ℕ) → i < accepted_count s → flag_at (entries_in s) i ≡ stored_in s i
   unfolding flag_at

@@ -6,7 +6,7 @@ use native.Mathlib.Omega.{arith}
 use lib.ListN.{length}
 use lib.Seq.{ext_get_or}
 use Rattle.relation.specs.Lists.{tabulate}
-use Rattle.relation.proofs.ListLaws.{length-tabulate, get_d_tabulate}
+use Rattle.relation.proofs.ListLaws.{length-tabulate, get_or_tabulate}
 use Rattle.model.specs.Limits.{words}
 use Rattle.model.specs.declared.Write.{Write}
 use Rattle.model.specs.declared.Rule.{Rule}
@@ -61,7 +61,7 @@ abbrev pub Bounded : List ℕ → Type 0
 Bounded b = (i : ℕ) → byte b i < 256
 
 spelled : (b : List ℕ) (n : ℕ) → length b ≡ n → tabulate (byte b) n ≡ b
-spelled b n e = ext_get_or 0 _ _ (length-tabulate (byte b) n ∙ sym e) (λ i h. get_d_tabulate (byte b) n i 0 (omega (arith, length-tabulate (byte b) n)))
+spelled b n e = ext_get_or 0 _ _ (length-tabulate (byte b) n ∙ sym e) (λ i h. get_or_tabulate (byte b) n i 0 (omega (arith, length-tabulate (byte b) n)))
 
 module _ (b : List ℕ) (small : Bounded b) where
   word_digits : (i : ℕ) → bytes4 (word b i) ≡ byte b i ∷ byte b (i + 1) ∷ byte b (i + 2) ∷ byte b (i + 2 + 1) ∷ []

@@ -8,7 +8,7 @@ use lib.Dec.{leb}
 use lib.ListN.{length, get_or, take, length-map, get_or-map}
 use lib.Seq.{get_or-take, length-take-le}
 use borrow.Author.Tests.{leb-true, not-false}
-use Rattle.relation.proofs.ListLaws.{and_left, and_right, length-tabulate, get_d_other}
+use Rattle.relation.proofs.ListLaws.{and_left, and_right, length-tabulate, get_or_other}
 use Rattle.model.specs.declared.Refusal.{Refusal}
 use Rattle.model.specs.Limits.{most_rules, most_tests}
 use Rattle.model.specs.Test.{Test, File}
@@ -74,7 +74,7 @@ module _ (s : List ℕ) (p : Places) (e : scan_of s ≡ answer p) where
   pub held_test : (i : ℕ) → i < length p.tests → test_of held-file i ≡ test_at s (extent_of p.tests i)
   held_test i h =
       ap (λ (l : List Test). get_or l i no_test) held-tests
-      ∙ get_d_other (map (test_at s) p.tests) i no_test (test_at s no_extent) (omega (arith, length-map p.tests (test_at s)))
+      ∙ get_or_other (map (test_at s) p.tests) i no_test (test_at s no_extent) (omega (arith, length-map p.tests (test_at s)))
       ∙ get_or-map (test_at s) p.tests i no_extent
 
 -- ---- the code's answer

@@ -15,7 +15,7 @@ use Rattle.relation.specs.Best.{Smallest, fewer, smallest_below}
 use Rattle.relation.specs.Bits.{mask_of}
 use Rattle.relation.proofs.BestLaws.{best_same, smallest_is}
 use Rattle.relation.proofs.BitLaws.{mask_below}
-use Rattle.relation.proofs.ListLaws.{get_d_tabulate}
+use Rattle.relation.proofs.ListLaws.{get_or_tabulate}
 use Rattle.model.specs.declared.Rule.{Rule}
 use Rattle.model.specs.declared.Check.{Check}
 use Rattle.model.specs.declared.Refusal.{Refusal}
@@ -63,7 +63,7 @@ use Rattle.judge_cases.specs.Judge.{Case, case_of, case_in, case_at, judgement_f
 pub narrow_rows : (rules : List Rule) (column rows : List ℕ) (n : ℕ) → take n rows ≡ rows_from rules column n n → Narrow rows n
 unfolding Narrow rows_from row_of
 narrow_rows rules column rows n e i h =
-    rw (← get_or-take n rows i 0 h, e, get_d_tabulate (λ i. mask_of (λ j. depends_on rules (labelled (get_or column i 0)) (labelled (get_or column j 0))) n) n i 0 h)
+    rw (← get_or-take n rows i 0 h, e, get_or_tabulate (λ i. mask_of (λ j. depends_on rules (labelled (get_or column i 0)) (labelled (get_or column j 0))) n) n i 0 h)
     (mask_below (λ j. depends_on rules (labelled (get_or column i 0)) (labelled (get_or column j 0))) n)
 
 -- ---- a loaded test, and rows that decide which of its schedules count

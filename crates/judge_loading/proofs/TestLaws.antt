@@ -9,7 +9,7 @@ use lib.ListN.{length, get_or, take, set, replicate}
 use lib.Pow.{pow_pos}
 use lib.Seq.{get_or-set_same, get_or-set_other}
 use borrow.Author.Rules.{rules}
-use Rattle.relation.proofs.ListLaws.{below_extend, get_d_tabulate}
+use Rattle.relation.proofs.ListLaws.{below_extend, get_or_tabulate}
 use Rattle.model.specs.declared.Write.{Write}
 use Rattle.model.specs.declared.Check.{Check}
 use Rattle.model.specs.Limits.{disk_blocks, most_initial, most_checks}
@@ -29,7 +29,7 @@ use Rattle.judge_loading.specs.Loaded.{LoadsTest, LoadsChecks}
 module _ (s : List ℕ) (from : ℕ) where
   write-here : (n i : ℕ) → i < n → write_at (writes_at s from n) i ≡ write_field s (field_place s from i)
   unfolding fields_at
-  write-here n i h = get_d_tabulate (λ j. write_field s (field_place s from j)) n i no_write h
+  write-here n i h = get_or_tabulate (λ j. write_field s (field_place s from j)) n i no_write h
 
   -- the first i of n writes are in a column, by what it has to say of each
   abbrev pub Stored : ℕ → List ℕ → Type 0

@@ -9,7 +9,7 @@ use lib.Seq.{get_or-take}
 use Rattle.relation.specs.Bits.{bit, mask_of}
 use Rattle.relation.specs.Lists.{all_below}
 use Rattle.relation.specs.Union.{part_of}
-use Rattle.relation.proofs.ListLaws.{all_below_ext, get_d_tabulate}
+use Rattle.relation.proofs.ListLaws.{all_below_ext, get_or_tabulate}
 use Rattle.relation.proofs.MaskLaws.{mask_part}
 use Rattle.model.specs.declared.Rule.{Rule}
 use Rattle.model.specs.declared.Write.{Write}
@@ -28,7 +28,7 @@ module _ (rules : List Rule) (ws : List Write) (column rows : List ℕ) (n : ℕ
   row_at : (i : ℕ) → i < n → get_or rows i 0 ≡ mask_of (on i) n
   unfolding rows_from row_of
   row_at i h =
-      sym (get_or-take n rows i 0 h) ∙ ap (λ (l : List ℕ). get_or l i 0) e ∙ get_d_tabulate (λ k. mask_of (on k) n) n i 0 h
+      sym (get_or-take n rows i 0 h) ∙ ap (λ (l : List ℕ). get_or l i 0) e ∙ get_or_tabulate (λ k. mask_of (on k) n) n i 0 h
 
   same-on : (i j : ℕ) → i < n → j < n → on i j ≡ depends_on rules (label_at ws i) (label_at ws j)
   unfolding Labels

@@ -11,7 +11,7 @@ use lib.Dec.{lit<}
 use lib.ListN.{length, replicate, length-replicate, get_or-replicate}
 use lib.Seq.{get_or-append-add}
 use borrow.Author.Tests.{eq-eqb, ne_eqb}
-use Rattle.relation.proofs.ListLaws.{and_intro, get_d_tabulate}
+use Rattle.relation.proofs.ListLaws.{and_intro, get_or_tabulate}
 use Rattle.relation.proofs.Cases.{not_no}
 use Rattle.model.specs.Limits.{disk_blocks}
 use Rattle.model.specs.declared.Check.TheVariants.{Range}
@@ -28,7 +28,7 @@ use Rattle.log_get.proofs.Theorems.{get-answers, refused_gets, answered_undamage
 
 block-at : (disk : List ℕ) (a : ℕ) → a < disk_blocks → block_at (blocks_of disk) a ≡ block_in disk a
 unfolding blocks_of
-block-at disk a h = get_d_tabulate (block_in disk) disk_blocks a 0 h
+block-at disk a h = get_or_tabulate (block_in disk) disk_blocks a 0 h
 
 abbrev RangeOf : List ℕ → ℕ → Type 0
 RangeOf disk superblock = RangeHolds (blocks_of disk) (first_of superblock) (second_of superblock)

@@ -14,7 +14,7 @@ use Rattle.relation.specs.Bits.{bit, mask_of}
 use Rattle.relation.specs.Lists.{any_below}
 use Rattle.relation.specs.Transitive.{Plus, one, more, Ring}
 use Rattle.relation.specs.Finite.{Below, related, rows_of, joined, round, closed, loops, has_ring, reaches}
-use Rattle.relation.proofs.ListLaws.{or_cases, or_left, or_right, and_left, and_right, and_intro, bool_equal, below_suc, below_extend, any_below-true, any_below_intro, any_below-false, any_below_ext, get_d_tabulate}
+use Rattle.relation.proofs.ListLaws.{or_cases, or_left, or_right, and_left, and_right, and_intro, bool_equal, below_suc, below_extend, any_below-true, any_below_intro, any_below-false, any_below_ext, get_or_tabulate}
 use Rattle.relation.proofs.BitLaws.{bit-zero, bit-or, bit_mask}
 use Rattle.relation.proofs.TransitiveLaws.{plus_trans, plus_snoc, plus_map}
 
@@ -112,7 +112,7 @@ plus_closed rows n i j w = via_closed rows n i j (plus_via (related rows) n w)
 
 pub related-rows : (R : ℕ → ℕ → Bool) (n i j : ℕ) → i < n → j < n → related (rows_of R n) i j ≡ R i j
 unfolding related rows_of
-related-rows R n i j hi hj = rw (get_d_tabulate (λ x. mask_of (R x) n) n i 0 hi, bit_mask (R i) n j, lt-ltb j n hj)
+related-rows R n i j hi hj = rw (get_or_tabulate (λ x. mask_of (R x) n) n i 0 hi, bit_mask (R i) n j, lt-ltb j n hj)
 
 abbrev pub Agree : ℕ → (ℕ → ℕ → Bool) → (ℕ → ℕ → Bool) → Type 0
 Agree n R S = (i j : ℕ) → i < n → j < n → R i j ≡ S i j
@@ -121,7 +121,7 @@ Agree n R S = (i j : ℕ) → i < n → j < n → R i j ≡ S i j
 module _ (R : ℕ → ℕ → Bool) (n : ℕ) (rows : List ℕ) (e : take n rows ≡ rows_of R n) where
   pub table_row : (i : ℕ) → i < n → get_or rows i 0 ≡ mask_of (R i) n
   unfolding rows_of
-  table_row i h = sym (get_or-take n rows i 0 h) ∙ ap (λ (l : List ℕ). get_or l i 0) e ∙ get_d_tabulate (λ x. mask_of (R x) n) n i 0 h
+  table_row i h = sym (get_or-take n rows i 0 h) ∙ ap (λ (l : List ℕ). get_or l i 0) e ∙ get_or_tabulate (λ x. mask_of (R x) n) n i 0 h
 
   pub table_related : Agree n (related rows) R
   unfolding related

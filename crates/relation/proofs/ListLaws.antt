@@ -134,12 +134,12 @@ module _ {A : Type 0} where
   length-tabulate f zero = refl
   length-tabulate f (suc n) = rw (length-append (tabulate f n) (f n ∷ [])) (omega (arith, length-tabulate f n))
 
-  pub get_d_tabulate : (f : ℕ → A) (n i : ℕ) (d : A) → i < n → get_or (tabulate f n) i d ≡ f i
+  pub get_or_tabulate : (f : ℕ → A) (n i : ℕ) (d : A) → i < n → get_or (tabulate f n) i d ≡ f i
   unfolding tabulate
-  get_d_tabulate f zero i d h = absurd (omega arith)
-  get_d_tabulate f (suc n) i d h = ⊎_elim
+  get_or_tabulate f zero i d h = absurd (omega arith)
+  get_or_tabulate f (suc n) i d h = ⊎_elim
       (λ q. rw q (get_or_at (tabulate f n) (f n) [] d n (length-tabulate f n)))
-      (λ l. get_or-append (tabulate f n) (f n ∷ []) d i (omega (arith, length-tabulate f n)) ∙ get_d_tabulate f n i d l)
+      (λ l. get_or-append (tabulate f n) (f n ∷ []) d i (omega (arith, length-tabulate f n)) ∙ get_or_tabulate f n i d l)
       (below_suc i n h)
 
   -- ---- a list's members
@@ -219,7 +219,7 @@ map-tabulate g f zero = refl
 map-tabulate g f (suc n) = map_snoc g (tabulate f n) (f n) ∙ ap (λ (r : List _). r ++ (g (f n) ∷ [])) (map-tabulate g f n)
 
 -- an entry that is there does not ask what stands for a missing one
-pub get_d_other : {A : Type 0} (l : List A) (i : ℕ) (d e : A) → i < length l → get_or l i d ≡ get_or l i e
-get_d_other [] i d e h = absurd (omega arith)
-get_d_other (x ∷ l) zero d e h = refl
-get_d_other (x ∷ l) (suc i) d e h = get_d_other l i d e (omega arith)
+pub get_or_other : {A : Type 0} (l : List A) (i : ℕ) (d e : A) → i < length l → get_or l i d ≡ get_or l i e
+get_or_other [] i d e h = absurd (omega arith)
+get_or_other (x ∷ l) zero d e h = refl
+get_or_other (x ∷ l) (suc i) d e h = get_or_other l i d e (omega arith)

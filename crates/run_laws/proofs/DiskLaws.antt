@@ -16,7 +16,7 @@ use borrow.Author.Tests.{lt-ltb, le-ltb}
 use Rattle.relation.specs.Bits.{bit}
 use Rattle.relation.specs.Lists.{tabulate}
 use Rattle.relation.proofs.BitLaws.{bit-suc, bit_mask, mask_below}
-use Rattle.relation.proofs.ListLaws.{length-tabulate, get_d_tabulate}
+use Rattle.relation.proofs.ListLaws.{length-tabulate, get_or_tabulate}
 use Rattle.model.specs.declared.Write.{Write}
 use Rattle.model.specs.declared.Rule.{Rule}
 use Rattle.model.specs.Limits.{disk_blocks}
@@ -148,10 +148,10 @@ module _ (d : List ℕ) (w : Write) (size : length d ≡ disk_length) (fits : Wr
     where
       block : (k : ℕ) → k < disk_blocks → get_or (tabulate (block_in (stored_on d w)) disk_blocks) k 0 ≡ get_or (set (tabulate (block_in d) disk_blocks) w.address w.block) k 0
       block k h =
-          get_d_tabulate (block_in (stored_on d w)) disk_blocks k 0 h
+          get_or_tabulate (block_in (stored_on d w)) disk_blocks k 0 h
           ∙ elim (ℕ_discrete k w.address) [
             | yes z ↦ rw z (block_same ∙ sym (get_or-set_same (tabulate (block_in d) disk_blocks) w.address w.block 0 (rw (length-tabulate (block_in d) disk_blocks) fits.address)))
-            | no n ↦ block_else k n ∙ sym (get_or-set_other (tabulate (block_in d) disk_blocks) w.address k w.block 0 n ∙ get_d_tabulate (block_in d) disk_blocks k 0 h)
+            | no n ↦ block_else k n ∙ sym (get_or-set_other (tabulate (block_in d) disk_blocks) w.address k w.block 0 n ∙ get_or_tabulate (block_in d) disk_blocks k 0 h)
           ]
 
 pub length-applied : (b : Book) (d : List ℕ) → length (applied b d) ≡ length d
