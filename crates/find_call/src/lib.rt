@@ -73,7 +73,7 @@ fn put_narrow_rule(buffer: &mut [u8], at: usize, rule: Rule) -> usize
     file_writing::put_bytes(buffer, at, &field)
 }
 
-// .., with names of two.
+// .., with names of two. (The two differ in their layouts, which no parameter tells: each has its law.)
 fn put_wide_rule(buffer: &mut [u8], at: usize, rule: Rule) -> usize
     requires { (at + longest_rule ≤ length buffer.old) × (rule.predicate < 256) }
     ensures { Wrote buffer.old at (field_bytes 10 (wide_rule_bytes rule)) buffer.new result }

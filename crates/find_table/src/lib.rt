@@ -236,8 +236,8 @@ fn lower_within(table: &mut [u64; SET_WORDS], b: usize, words: usize)
     }
 }
 
-// The same where the sets with candidate b are in a word of their own. (A word that its own loop does not walk
-// to alone is read here: by numbers.)
+// The same where the sets with candidate b are in a word of their own. (By numbers, since another word of the
+// table is read; and a function of its own, since here nothing is shifted.)
 fn lower_across(table: &mut [u64; SET_WORDS], b: usize, words: usize)
     requires { ((6 ≤ b) × (b < most_candidates)) × (words ≤ set_words) }
     ensures { Lowered b table.old table.new words }

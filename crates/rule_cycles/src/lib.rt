@@ -29,7 +29,7 @@ fn having(rules: &[Rule], predicate: u16) -> u64
     mask
 }
 
-// The rules with a first name.
+// The rules with a first name. (It and `having` ask another field each: a closure for it would be no shorter.)
 fn starting(rules: &[Rule], name: u16) -> u64
     requires { length rules.now ≤ most_rules }
     ensures { result ≡ mask_of (starts rules.now name) (length rules.now) }
