@@ -22,7 +22,7 @@ use Rattle.model.specs.declared.Rule.{Rule}
 use Rattle.model.specs.declared.Check.{Check}
 use Rattle.model.specs.declared.Refusal.{Refusal}
 use Rattle.model.specs.declared.Cause.TheVariants.{CyclicRules, NoSuchTest}
-use Rattle.model.specs.Limits.{most_rules, most_tests, most_main, most_checks, most_schedules}
+use Rattle.model.specs.Limits.{most_rules, most_tests, most_main, most_schedules}
 use Rattle.model.specs.Answer.{Outcome, answer, refused, number_of, at_zero}
 use Rattle.model.specs.Rules.{depends_on}
 use Rattle.model.specs.Cyclic.{cyclic}
@@ -51,8 +51,7 @@ use Rattle.judge_search.specs.Verdict.{verdict_by}
 use Rattle.judge_search.specs.Search.{verdict_below}
 use Rattle.judge_cases.specs.declared.Opened.{Opened}
 use Rattle.judge_cases.specs.declared.Selected.{Selected}
-use Rattle.judge_cases.specs.declared.LoadedCase.{LoadedCase}
-use Rattle.judge_cases.specs.Judge.{Case, case_of, case_in, case_at, judgement_for, verdict_for, judgement_of, verdict_of, LoadsCase, SmallRefusal, judged_file, OpensTo, OpensFile, SelectsTo, Selects, judged_of, decided_of, FewNumbers, Few, FewDecided}
+use Rattle.judge_cases.specs.Judge.{Case, case_of, case_in, case_at, judgement_for, verdict_for, judgement_of, verdict_of, SmallRefusal, judged_file, OpensTo, OpensFile, SelectsTo, Selects, judged_of, decided_of, FewNumbers, Few, FewDecided}
 
 -- ---- the rows
 
@@ -125,26 +124,19 @@ module _ (counts : ℕ → Bool) (s : List ℕ) (e : Extent) (i : Inside s e) wh
 
 -- ---- the same for the rows of rules, which decide which schedules are valid
 
-module _ (rules : List Rule) (s : List ℕ) (e : Extent) (r : LoadedCase) (l : LoadsCase (case_at rules s e) r) where
-  same-valid : (x : ℕ) → valid_rows r.rows r.test.main x ≡ valid rules (test_at s e).main x
-  same-valid x = valid-rows rules (test_at s e).main r.test.labels r.rows r.test.main l.test.main l.test.labels l.rows x
+module _ (rules : List Rule) (s : List ℕ) (e : Extent) (test : Loaded) (rows : List ℕ) (cs : List Check) (el : LoadsTest (test_at s e) test)
+    (er : take test.main rows ≡ rows_from rules test.labels test.main test.main)
+    (ec : LoadsChecks (test_at s e) cs) where
+  same-valid : (x : ℕ) → valid_rows rows test.main x ≡ valid rules (test_at s e).main x
+  same-valid x = valid-rows rules (test_at s e).main test.labels rows test.main el.main el.labels er x
 
-  pub case-main : r.test.main ≤ most_main
-  case-main = l.test.main-most
-
-  pub case-checks : r.test.checks ≤ most_checks
-  case-checks = l.test.checks-most
-
-  pub case-narrow : Narrow r.rows r.test.main
-  case-narrow = narrow_rows rules r.test.labels r.rows r.test.main l.rows
-
-  pub judges_all : (j : Judgement) → j ≡ tallied (valid_rows r.rows r.test.main) (bad_loaded r.test r.rows r.checks) (2 ^ r.test.main) → j ≡ judgement_of (case_at rules s e)
+  pub judges_all : (j : Judgement) → j ≡ tallied (valid_rows rows test.main) (bad_loaded test rows cs) (2 ^ test.main) → j ≡ judgement_of (case_at rules s e)
   unfolding judgement_of
-  judges_all j t = t ∙ judged-by (valid rules (test_at s e).main) s e r.test r.rows r.checks l.test same-valid l.checks
+  judges_all j t = t ∙ judged-by (valid rules (test_at s e).main) s e test rows cs el same-valid ec
 
-  pub decides_all : (v : Option ℕ) → v ≡ verdict_below (bad_loaded r.test r.rows r.checks) (2 ^ r.test.main) → v ≡ verdict_of (case_at rules s e)
+  pub decides_all : (v : Option ℕ) → v ≡ verdict_below (bad_loaded test rows cs) (2 ^ test.main) → v ≡ verdict_of (case_at rules s e)
   unfolding verdict_of
-  decides_all v t = t ∙ decided-by (valid rules (test_at s e).main) s e r.test r.rows r.checks l.test same-valid l.checks
+  decides_all v t = t ∙ decided-by (valid rules (test_at s e).main) s e test rows cs el same-valid ec
 
 module _ (rules : List Rule) (s : List ℕ) (e : Extent) (i : Inside s e) where
   pub judges_few : (j : Judgement) → j ≡ judgement_of (case_at rules s e) → FewNumbers j
@@ -155,11 +147,12 @@ module _ (rules : List Rule) (s : List ℕ) (e : Extent) (i : Inside s e) where
   unfolding verdict_of
   decides_few v p = rw p (verdict-few (valid rules (test_at s e).main) s e i)
 
-pub loaded_few : (rules : List Rule) (s : List ℕ) (e : Extent) (r : LoadedCase) (j : Judgement) → Inside s e → LoadsCase (case_at rules s e) r
-    → j ≡ tallied (valid_rows r.rows r.test.main) (bad_loaded r.test r.rows r.checks) (2 ^ r.test.main) → FewNumbers j
-loaded_few rules s e r j i l t = judges_few rules s e i j (judges_all rules s e r l j t)
+pub loaded_few : (rules : List Rule) (s : List ℕ) (e : Extent) (test : Loaded) (rows : List ℕ) (cs : List Check) (j : Judgement) → Inside s e → LoadsTest (test_at s e) test
+    → take test.main rows ≡ rows_from rules test.labels test.main test.main → LoadsChecks (test_at s e) cs
+    → j ≡ tallied (valid_rows rows test.main) (bad_loaded test rows cs) (2 ^ test.main) → FewNumbers j
+loaded_few rules s e test rows cs j i el er ec t = judges_few rules s e i j (judges_all rules s e test rows cs el er ec j t)
 
-pub ruleset loops = (rules, case-main, case-checks, case-narrow, judges_all, decides_all, loaded_few)
+pub ruleset loops = (rules, narrow_rows, judges_all, decides_all, loaded_few)
 
 -- ---- a file opened
 

@@ -1,5 +1,5 @@
 -- Judging one test of a file.
-use Rattle.std.specs.Prelude.{ℕ, ◌-◌, ◌≤◌, ◌≡◌, Bool, cond, ◌&&◌, List, leb, length, take, Option, None, Some, Result, Ok, Err}
+use Rattle.std.specs.Prelude.{ℕ, ◌-◌, ◌≤◌, ◌≡◌, Bool, cond, ◌&&◌, List, leb, length, Option, None, Some, Result, Ok, Err}
 use Rattle.model.specs.declared.Rule.{Rule}
 use Rattle.model.specs.declared.Refusal.{Refusal}
 use Rattle.model.specs.Limits.{most_rules, most_schedules}
@@ -15,11 +15,8 @@ use Rattle.file_reader.specs.Limits.{longest}
 use Rattle.rule_match.specs.Held.{rules_of}
 use Rattle.judge_counting.specs.declared.Judgement.{Judgement}
 use Rattle.judge_search.specs.Verdict.{verdict_by}
-use Rattle.judge_loading.specs.Loaded.{LoadsTest, LoadsChecks}
-use Rattle.judge_rows.specs.Rows.{rows_from}
 use Rattle.judge_cases.specs.declared.Opened.{Opened}
 use Rattle.judge_cases.specs.declared.Selected.{Selected}
-use Rattle.judge_cases.specs.declared.LoadedCase.{LoadedCase}
 
 -- a test and the rules it is judged under
 pub record Case : Type 0 where
@@ -57,12 +54,6 @@ verdict_of c = verdict_for (valid c.rules c.test.main) c.test
 -- the case that stands at an extent of a file
 abbrev pub case_at : List Rule → List ℕ → Extent → Case
 case_at rules s e = record { rules = rules; test = test_at s e }
-
--- a case loaded: the test, its checks, and what each main write depends on, row by row
-pub record LoadsCase (c : Case) (r : LoadedCase) : Type 0 where
-  pub test : LoadsTest c.test r.test
-  pub checks : LoadsChecks c.test r.checks
-  pub rows : take r.test.main r.rows ≡ rows_from c.rules r.test.labels r.test.main r.test.main
 
 -- a refusal that a judge gives: its number is at most 9, its place at most the longest file's length
 abbrev pub SmallRefusal : Refusal → Type 0

@@ -750,7 +750,7 @@ fn other_turns_are_noticed() {
 
 /// What is done once for a file, or once for a test of it, or once for a state, and who does it: each of
 /// these is done once too, up to the routines that nothing of the kit calls.
-const DONE_ONCE: [(&str, &[&str]); 56] = [
+const DONE_ONCE: [(&str, &[&str]); 55] = [
     (
         "read",
         &[
@@ -793,16 +793,17 @@ const DONE_ONCE: [(&str, &[&str]); 56] = [
             // The finder loads each test twice: here for its labels.
             "find_candidates::collect",
             "find_table::mark_test",
-            "judge_cases::load_case",
+            "judge_cases::judge_test",
+            "judge_cases::decide_test",
         ],
     ),
     (
         "load_checks",
-        &["find_table::mark_test", "judge_cases::load_case"],
-    ),
-    (
-        "load_case",
-        &["judge_cases::judge_test", "judge_cases::decide_test"],
+        &[
+            "find_table::mark_test",
+            "judge_cases::judge_test",
+            "judge_cases::decide_test",
+        ],
     ),
     (
         "judge_test",

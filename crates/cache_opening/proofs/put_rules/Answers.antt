@@ -12,7 +12,7 @@ pub loop-i-preserved : goal.loop-i-preserved
 loop-i-preserved c = (
   search putting,
   search putting,
-  rules-more _ _ _ _ _ c.put_rule.ensures c.rule_place.ensures c.loop-i.invariant.2 (search putting) (search putting) (search putting),
+  rules-more c.args.rules _ _ _ _ c.put_rule.ensures c.rule_place.ensures c.loop-i.invariant.2 (search putting) (search putting) (search putting),
 )
 
 pub returns : goal.returns
