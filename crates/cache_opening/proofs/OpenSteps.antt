@@ -146,7 +146,4 @@ module _ (file : List ℕ) (x : Result Contents Refusal) (g : Scans (scan_of fil
         let found = accepted file x g c e in
         rw (i, ← accepted-at file c found) (holding-limits file (accepted-file file c found) (accepted-read file c found)).0.known
 
-    pub held-few : (held : Rules) → held.count ≡ c.rules → held.count ≤ most_rules
-    held-few held k = let m = rules-few in omega arith
-
-pub ruleset opening = (rules, open_short, open_refused, open_tests, open_made, refusal-fits, rules-few, rules_fields, held-known, held-few)
+pub ruleset opening = (rules, open_short, open_refused, open_tests, open_made, refusal-fits, rules-few, rules_fields, held-known)
