@@ -8,7 +8,6 @@ ghost use Rattle.model.specs.Rules.{label, stands, matches};
 mod held;
 
 pub use held::none;
-
 use model::Rule;
 
 // Rules, as many as a file can have.
