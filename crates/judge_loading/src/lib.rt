@@ -24,7 +24,10 @@ pub struct Loaded {
     pub checks: usize,
 }
 
-// The n writes whose fields stand from `from` on, as two columns, and where they end.
+// The n writes whose fields stand from `from` on, as two columns, and where they end. (Of its own in the program
+// too: `load_test`, which calls it twice, is then short enough to stand in its callers, and its columns are not
+// cleared twice.)
+#[inline(never)]
 fn load_writes(
     stores: &mut [u64; model::MOST_INITIAL],
     labels: &mut [u64; model::MOST_INITIAL],
@@ -46,6 +49,7 @@ fn load_writes(
 }
 
 // The test that stands at an extent, without its checks.
+#[inline]
 pub fn load_test(file: &[u8], e: Extent) -> Loaded
     requires { Inside file.now e }
     ensures { LoadsTest (test_at file.now e) result }
