@@ -118,7 +118,7 @@ fn run_from(
 }
 
 // The rows of the first n writes before any rule: the earlier ones to the same address. And the tables that serve
-// every rule. (The loop over the rules stands with the caller, which has them, so that they are not copied.)
+// every rule, which the caller goes through: `add_run`.
 pub fn prepare(rows: &mut [u64; model::MOST_HELD], tables: &mut Tables, columns: &Columns, n: usize)
     requires { Blank bounds tables.old.belows × (n ≤ most_held) }
     ensures { Prepared columns.now.names n tables.new × (Filled (earlier_at columns.now.addresses) n rows.new × (Filled (rank_at columns.now.epochs) n tables.new.ranks × Filled (below_mask tables.new.ranks n) bounds tables.new.belows)) }

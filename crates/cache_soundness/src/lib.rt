@@ -19,9 +19,7 @@ use rule_match::Rules;
 fn is_known(rules: Rules) -> bool
     ensures { result ≡ known (rules_of rules) }
 {
-    rules.items[..rules.count]
-        .iter()
-        .all(|rule| rule.predicate <= 2)
+    rules.as_slice().iter().all(|rule| rule.predicate <= 2)
 }
 
 // Whether the row of i, where i is in a mask, is part of the mask.

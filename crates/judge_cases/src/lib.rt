@@ -30,9 +30,9 @@ struct Selected {
     test: Extent,
 }
 
-// This and `decide_test` load a test alike, each for itself: a function that loads one for both, and gives
-// it as a struct, copies 3 KB and took 110 to 200 ns more of some 450 to 750.
-// All of a test's schedules counted, under these rules.
+// All of a test's schedules counted, under these rules. (This and `decide_test` load a test alike, each for itself:
+// a function that loads one for both, and gives it as a struct, copies 3 KB and took 110 to 200 ns more of some
+// 450 to 750.)
 pub fn judge_test(file: &[u8], rules: Rules, e: Extent) -> Judgement
     requires { Inside file.now e }
     ensures { (result ≡ judgement_of (case_at (rules_of rules) file.now e)) × FewNumbers result }

@@ -107,7 +107,7 @@ pub fn count_all(
     checks: [Check; MOST_CHECKS],
     m: usize,
 ) -> Judgement
-    requires { (n ≤ most_main) × ((m ≤ most_checks) × (Narrow rows.now n × (length rows.now ≡ 64))) }
+    requires { (n ≤ most_main) × ((m ≤ most_checks) × Narrow rows.now n) }
     ensures { result ≡ tallied (valid_rows rows.now n) (bad_rows rows.now n base (held_from stores.now 0 n) (take m checks)) (2 ^ n) }
 {
     let mut dependencies = [0u64; 64];

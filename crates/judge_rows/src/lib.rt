@@ -42,8 +42,8 @@ fn rule_row(rule: Rule, labels: &[u64; model::MOST_INITIAL], n: usize, one: u64)
     mask
 }
 
-// The dependencies of the first n labels of a column, computed once. (The loop over rules stands here, and in no
-// function of its own, so that the rules are not copied for each label.)
+// The dependencies of the first n labels of a column, computed once. (The rules are gone through by place, as the
+// laws about them are: over a slice of those that are held the proof did not close.)
 pub fn fill(rows: &mut [u64; 64], rules: Rules, labels: &[u64; model::MOST_INITIAL], n: usize)
     requires { n ≤ 64 }
     ensures { take n rows.new ≡ rows_from (rules_of rules) labels.now n n }

@@ -1,6 +1,6 @@
 -- The search: no schedule before a place of the list leaves an inconsistent disk. So the first that does has the least rank of the bad ones.
 use mathlib.Core.Path.{◌≡◌, refl, sym, ap, ◌∙◌}
-use mathlib.Core.Bool.{Bool, true, false, and-false}
+use mathlib.Core.Bool.{Bool, true, false, not}
 use mathlib.Core.List.{List, [], ◌∷◌}
 use Prim.Native.Nat.{ℕ, zero, suc, ◌+◌, ◌-◌, ◌%◌, ◌^◌, ◌≤◌, ◌<◌}
 use native.Mathlib.Numerals.{add-one}
@@ -10,20 +10,20 @@ use lib.Dec.{eqb, ltb}
 use lib.ListN.{length, get_or, take}
 use lib.Pow.{pow_mono}
 use borrow.Author.Rules.{rules}
-use Rattle.std.specs.Prelude.{Option, None, Some, MatchBool}
-use Rattle.std.specs.List.{AllWithin, HoldsAt}
+use Rattle.std.specs.Prelude.{Option, None, Some}
 use Rattle.std.proofs.Common.{get_or-take, length-take-le}
-use borrow.Author.Tests.{eqb-true, lt-ltb, ltb-true}
+use lib.Seq.{take-suc, take_all}
+use borrow.Author.Tests.{eqb-true, lt-ltb, ltb-true, not-true, not-false}
 use Rattle.relation.specs.Best.{smallest_below}
 use Rattle.relation.specs.Rank.{small_sets, rank}
 use Rattle.relation.specs.Lists.{all}
 use Rattle.relation.proofs.BestLaws.{rank-set, least_smallest, passes_none}
-use Rattle.relation.proofs.ListLaws.{clash, untrue, below_extend, and_left, and_right, and_intro}
+use Rattle.relation.proofs.ListLaws.{clash, untrue, below_extend, and_left, and_right, and_intro, all_true, all_append, index_mem}
 use Rattle.model.specs.declared.Write.{Write}
 use Rattle.model.specs.declared.Check.{Check}
 use Rattle.model.specs.Limits.{disk_blocks, most_main}
 use Rattle.model.specs.Schedule.{run}
-use Rattle.model.specs.Check.{consistent}
+use Rattle.model.specs.Check.{consistent, holds}
 use Rattle.judge_disks.specs.Packed.{held_from}
 use Rattle.judge_schedules.specs.Valid.{valid_rows, bad_rows}
 use Rattle.judge_suspects.specs.Suspects.{most_listed, Has, Rising, Suspects}
@@ -82,15 +82,25 @@ stops_never p list k many c l i b = c.none i (omega (arith, l, b))
 
 pub ruleset searching = (rules, repeated-first, repeated-next, clear_none, clear_again, stops_never)
 
--- ---- all checks
+-- ---- the checks of a schedule
 
-pub all_by : (p : Check → Bool) (cs : List Check) (r : Bool) → MatchBool r (AllWithin (λ c. p c ≡ true) cs 0 (length cs)) ((k : ℕ) × (k < length cs) × HoldsAt (λ c. p c ≡ false) cs k) → r ≡ all p cs
-unfolding all
-all_by p [] true h = refl
-all_by p [] false h = absurd (omega (arith, h.1))
-all_by p (x ∷ xs) true h = sym (and_intro (p x) (all p xs) (h 0 x (omega arith) (omega arith)) (sym (all_by p xs true (λ k d l b. h (suc k) d (omega arith) (omega arith)))))
-all_by p (x ∷ xs) false (zero, b, f) = rw (f x) refl
-all_by p (x ∷ xs) false (suc k, b, f) = rw (← all_by p xs false (k, omega arith, f)) (sym (and-false (p x)))
+module _ (d : List ℕ) (cs : List Check) (z : Check) (i : ℕ) where
+  pub checks_more : (b : Bool) → i < length cs → consistent (take i cs) d ≡ true → b ≡ holds d (get_or cs i z) → not b ≡ false → consistent (take (i + 1) cs) d ≡ true
+  unfolding consistent
+  checks_more b h p e q =
+      rw (add-one i, take-suc cs i z h, all_append (holds d) (take i cs) (get_or cs i z ∷ []))
+      (and_intro (all (holds d) (take i cs)) _ p (unfold all in and_intro (holds d (get_or cs i z)) true (sym e ∙ not-false b q) refl))
+
+  pub checks_passed : length cs ≤ i → consistent (take i cs) d ≡ true → true ≡ consistent cs d
+  checks_passed h p = sym p ∙ ap (λ (l : List Check). consistent l d) (take_all i cs h)
+
+  pub checks_failed : (b : Bool) → i < length cs → b ≡ holds d (get_or cs i z) → not b ≡ true → false ≡ consistent cs d
+  unfolding consistent
+  checks_failed b h e q = go (all (holds d) cs) refl
+    where
+      go : (t : Bool) → all (holds d) cs ≡ t → false ≡ t
+      go true p = sym (not-true b q) ∙ e ∙ all_true (holds d) p (get_or cs i z) (index_mem cs i z h refl)
+      go false p = refl
 
 -- ---- the first ones of an array
 

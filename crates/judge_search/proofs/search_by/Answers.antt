@@ -1,25 +1,43 @@
 -- `judge_search::search_by` meets its contract: each schedule is applied to the base, asked, and taken back.
-use mathlib.Core.Path.{refl, ◌∙◌}
+use mathlib.Core.Path.{refl, ap, ◌∙◌}
+use mathlib.Core.Bool.{not}
 use native.Mathlib.Omega.{arith}
+use Rattle.model.specs.declared.Check.TheVariants.{Range}
+use Rattle.judge_checks.proofs.CheckSteps.{checks-start}
 use Rattle.judge_disks.proofs.RestoreLaws.{restored-run, ran}
-use Rattle.judge_search.proofs.SearchLaws.{searching, clear_pass, stops_here}
+use Rattle.judge_search.proofs.SearchLaws.{searching, clear_pass, stops_here, checks_more, checks_passed, checks_failed}
 use Rattle.judge_search.proofs.search_by.Goals as goal
 
 pub search-preserved-then-is_repeated : goal.search-preserved-then-is_repeated
 search-preserved-then-is_repeated c = search searching
 
-pub search-preserved : goal.search-preserved
-search-preserved c =
-    let o = c.search in
-    let a = c.args in
-    let r = ran _ _ _ o.disk _ o.invariant.0 c.apply.ensures in (
-      c.restore.ensures ∙ restored-run a.stores.now a.base.now 0 a.n _ c.apply.new.disk (search searching) r,
-      clear_pass _ _ _ _ o.k _ c.apply.new.disk _ refl r c.is_consistent.ensures o.invariant.1 c.if-not-is_consistent.false,
+pub checks-init : goal.checks-init
+checks-init c = search (searching, ran, checks-start)
+
+pub checks-preserved : goal.checks-preserved
+checks-preserved c =
+    let l = c.checks in (
+      l.invariant.0,
+      l.invariant.1,
+      checks_more c.apply.new.disk c.args.checks.now (Range 0) l.c-index c.check_holds.result (omega arith) l.invariant.2 c.check_holds.ensures (ap not c.if-not-check_holds.false),
     )
 
-pub returns-then-not-is_consistent : goal.returns-then-not-is_consistent
-returns-then-not-is_consistent c =
-    stops_here _ _ _ _ c.search.k _ c.apply.new.disk _ refl (ran _ _ _ c.search.disk _ c.search.invariant.0 c.apply.ensures) c.is_consistent.ensures _ c.search.invariant.1 (omega arith) c.if-not-is_consistent.true
+pub search-preserved : goal.search-preserved
+search-preserved c =
+    let l = c.checks in
+    let o = c.search in
+    let a = c.args in
+    let disk = c.apply.new.disk in (
+      c.restore.ensures ∙ restored-run a.stores.now a.base.now 0 a.n _ disk (search searching) l.invariant.0,
+      l.invariant.1,
+      clear_pass _ _ _ _ o.k _ disk _ refl l.invariant.0 (checks_passed disk a.checks.now (Range 0) l.c-index (omega arith) l.invariant.2) o.invariant.2 refl,
+    )
 
-pub returns : goal.returns
-returns c = search searching
+pub returns-then-not-check_holds : goal.returns-then-not-check_holds
+returns-then-not-check_holds c =
+    let l = c.checks in
+    let disk = c.apply.new.disk in
+    stops_here _ _ _ _ c.search.k _ disk _ refl l.invariant.0 (checks_failed disk c.args.checks.now (Range 0) l.c-index c.check_holds.result (omega arith) c.check_holds.ensures (ap not c.if-not-check_holds.true)) _ c.search.invariant.2 (omega arith) refl
+
+pub returns-after-search : goal.returns-after-search
+returns-after-search c = search searching
