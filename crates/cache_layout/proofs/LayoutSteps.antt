@@ -2,19 +2,15 @@
 use mathlib.Core.Path.{◌≡◌, refl, sym, ◌∙◌}
 use mathlib.Core.Bool.{Bool, true, false, cond, not}
 use mathlib.Core.List.{List}
-use Prim.Native.Nat.{ℕ, ◌+◌, ◌-◌, ◌≤◌, ◌<◌}
+use Prim.Native.Nat.{ℕ, suc, ◌+◌, ◌-◌, ◌≤◌, ◌<◌}
 use native.Mathlib.Numerals.{add-one}
 use native.Mathlib.Omega.{arith}
 use lib.Dec.{eqb}
-use lib.ListN.{length, get_or, drop, length-drop}
-use lib.Seq.{length-take-le, get_or-take, get_or-drop}
 use borrow.Author.Rules.{rules}
 use borrow.Author.Tests.{eq-eqb, ne_eqb, le-leb, lt-leb, not-true, not-false}
-use Rattle.std.specs.Bool.{MatchBool}
-use Rattle.std.specs.List.{slice_range, AllWithin, HoldsAt}
 use Rattle.relation.specs.Bits.{with_bit, mask_of}
 use Rattle.relation.specs.Lists.{all_below}
-use Rattle.relation.proofs.ListLaws.{all_below-not, all_below_intro, and_intro}
+use Rattle.relation.proofs.ListLaws.{all_below-not, and_intro}
 use Rattle.file_format.specs.Bytes.{byte}
 use Rattle.cache_model.specs.State.{flag_place, accepted_count, write_base, stored_in}
 use Rattle.cache_layout.specs.Flags.{zeros, flag_fits}
@@ -62,22 +58,30 @@ pub ruleset flags = (rules, stored-begun, stored_more, stored-done)
 
 -- ---- are_zero
 
-module _ (s : List ℕ) (from end : ℕ) (inside : end ≤ length s) where
-  part_size : length (slice_range s from end) ≡ end - from
-  part_size = length-take-le (end - from) (drop from s) (rw length-drop (omega arith))
+module _ (s : List ℕ) (from : ℕ) where
+  pub zero-begun : zeros s from (from - from) ≡ true
+  unfolding zeros all_below
+  zero-begun = let z : from - from ≡ 0 = omega arith in rw z
 
-  part_byte : (k : ℕ) → k < end - from → get_or (slice_range s from end) k 0 ≡ byte s (from + k)
-  part_byte k h = get_or-take (end - from) (drop from s) k 0 h ∙ get_or-drop from s k 0
-
-  -- what `all` answers of the bytes between two places
-  pub all_zero : (r : Bool) → MatchBool r (AllWithin (λ x. x ≡ 0) (slice_range s from end) 0 (length (slice_range s from end))) ((k : ℕ) × (k < length (slice_range s from end)) × HoldsAt (λ x. x ≡ 0 → ⊥) (slice_range s from end) k)
-      → r ≡ zeros s from (end - from)
+  pub zero_stop : (k end : ℕ) → from ≤ k → k < end → (byte s k ≡ 0 → ⊥) → false ≡ zeros s from (end - from)
   unfolding zeros
-  all_zero true h =
-      sym (all_below_intro (λ k. eqb (byte s (from + k)) 0) (end - from) (λ k b. eq-eqb (byte s (from + k)) 0 (sym (part_byte k b) ∙ h k 0 (omega arith) (omega (arith, part_size)))))
-  all_zero false (k, b, f) =
-      let c : k < end - from = omega (arith, part_size) in
-      not-all (λ x. eqb (byte s (from + x)) 0) (end - from) k c (ne_eqb (byte s (from + k)) 0 (λ e. f 0 (part_byte k c ∙ e)))
+  zero_stop k end a b f =
+      let z : from + (k - from) ≡ k = omega arith in
+      not-all (λ x. eqb (byte s (from + x)) 0) (end - from) (k - from) (omega arith) (rw z (ne_eqb (byte s k) 0 f))
+
+  pub zero_more : (k : ℕ) → from ≤ k → zeros s from (k - from) ≡ true → byte s k ≡ 0 → zeros s from (k + 1 - from) ≡ true
+  unfolding zeros all_below
+  zero_more k a h e =
+      let z : k + 1 - from ≡ suc (k - from) = omega arith in
+      let y : from + (k - from) ≡ k = omega arith in
+      rw z (and_intro _ _ h (rw (y, eq-eqb (byte s k) 0 e)))
+
+  pub zero-done : (k end : ℕ) → k ≤ end → end ≤ k → zeros s from (k - from) ≡ true → true ≡ zeros s from (end - from)
+  zero-done k end a b h =
+      let q : k ≡ end = omega arith in
+      sym (rw q at h)
+
+pub ruleset zeroes = (rules, zero-begun, zero_stop, zero_more, zero-done)
 
 -- ---- flags_fit
 

@@ -22,12 +22,18 @@ pub fn stored_mask(state: &[u8]) -> u64
     mask
 }
 
-// Whether the bytes from `from` up to `end` are zero.
+// Whether the bytes from `from` up to `end` are zero. (By their places: `iter().all(..)` takes five instructions a
+// byte in place of three, which a call on a state that holds few writes feels.)
 fn are_zero(state: &[u8], from: usize, end: usize) -> bool
     requires { (from ≤ end) × (end ≤ length state.now) }
     ensures { result ≡ zeros state.now from (end - from) }
 {
-    state[from..end].iter().all(|b| *b == 0)
+    for k in from..end {
+        if state[k] != 0 {
+            return false;
+        }
+    }
+    true
 }
 
 // Whether the last byte of each accepted write's place is a flag.

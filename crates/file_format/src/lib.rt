@@ -138,11 +138,11 @@ impl Kind {
         match tag {
             1 | 8 => Some(Kind::Initial),
             2 | 9 => Some(Kind::Main),
-            3 | 10 => Some(Kind::Rule),
+            3 | LAST_TAG => Some(Kind::Rule),
             4 => Some(Kind::Range),
             5 => Some(Kind::Pair),
             6 => Some(Kind::Pointer),
-            7 => Some(Kind::End),
+            END_TAG => Some(Kind::End),
             _ => None,
         }
     }

@@ -80,11 +80,11 @@ fn advance(kind: Kind, next: usize, st: ScanState) -> ScanState
 
 fn end_scan(
     length: usize,
-    tests: [Extent; model::MOST_TESTS],
+    tests: &[Extent; model::MOST_TESTS],
     st: ScanState,
 ) -> Result<Contents, Refusal>
     requires { Within st.counts }
-    ensures { Scans (ended length st (take st.counts.tests tests)) result }
+    ensures { Scans (ended length st (take st.counts.tests tests.now)) result }
 {
     let c = st.counts;
     if c.begun {
@@ -96,7 +96,7 @@ fn end_scan(
     Ok(Contents {
         rules: c.rules,
         count: c.tests,
-        tests,
+        tests: *tests,
     })
 }
 
@@ -119,7 +119,7 @@ pub fn read(s: &[u8]) -> Result<Contents, Refusal>
         st = advance(kind, next, st);
         at = next;
     }
-    end_scan(s.len(), tests, st)
+    end_scan(s.len(), &tests, st)
 }
 
 // Test numbers count from 1; the reader's from 0.

@@ -10,7 +10,7 @@ use lib.ListN.{length, length-append, get_or, take, drop, set, drop_of_length-le
 use Rattle.std.specs.List.{prefix_len, take_while}
 use Rattle.std.proofs.lemmas.List.Folds.{length-prefix_len}
 use Rattle.std.proofs.Common.{length-drop}
-use Rattle.std.proofs.lemmas.List.{drop-take, drop-append-le, take_at, drop_at}
+use Rattle.std.proofs.lemmas.List.{drop-take}
 use Rattle.std.specs.Int.{from_bool}
 use lib.Seq.{length-take-le, take_all, take-append-le, get_or-take, take-suc, take-set-le, take-suc-set, take-take, drop-cons}
 use borrow.Author.Rules.{rules}
@@ -77,26 +77,19 @@ module _ (c : Rules) (k : ℕ) (rule : Rule) where
       let d = length-drop k (rules_of c) in
       omega arith
 
-  -- a rule put behind all, and turned round with those from place k on
-  pub spliced : (part turned rest : List Rule) → length c.items ≡ most_rules → c.count < most_rules → k ≤ c.count
-      → part ≡ take (c.count + 1 - k) (drop k (set c.items c.count rule)) → turned ≡ drop (length part - 1) part ++ take (length part - 1) part
-      → take (c.count + 1) (take k (set c.items c.count rule) ++ (turned ++ rest)) ≡ behind c k rule
-  spliced part turned rest all few h e q =
+  -- a rule put at place k, and those from there on copied behind it
+  pub spliced : (copied rest : List Rule) → length c.items ≡ most_rules → c.count < most_rules → k ≤ c.count
+      → copied ≡ take (c.count - k) (drop k c.items)
+      → take (c.count + 1) (take (k + 1) (set c.items k rule) ++ (copied ++ rest)) ≡ behind c k rule
+  spliced copied rest all few h e =
       let held = rules_of c in
       let n = behind-length all few h in
-      let size = held-length c all (omega arith) in
       let tail = drop k held in
-      let z : k + (c.count + 1 - k) ≡ c.count + 1 = omega arith in
-      let part-is : part ≡ tail ++ (rule ∷ [])
-      = e ∙ sym (drop-take k (c.count + 1 - k) (set c.items c.count rule)) ∙ ap (λ (n : ℕ). drop k (take n (set c.items c.count rule))) z
-      ∙ ap (drop k) (pushed c.items c.count rule all few) ∙ drop-append-le k held (rule ∷ []) (omega arith) in
-      let last : length part - 1 ≡ length tail = rw part-is (omega (arith, length-append tail (rule ∷ []))) in
-      let turned-is : turned ≡ rule ∷ tail
-      = q ∙ rw (last, part-is, drop_at tail (rule ∷ []) (length tail) refl, take_at tail (rule ∷ []) (length tail) refl) in
-      let front : take k (set c.items c.count rule) ≡ take k held
-      = take-set-le k c.items c.count rule h ∙ sym (take-take k c.count c.items h) in
-      let whole : take k (set c.items c.count rule) ++ (turned ++ rest) ≡ behind c k rule ++ rest
-      = rw (front, turned-is) (sym (append_assoc (take k held) (rule ∷ tail) rest)) in
+      let copied-is : copied ≡ tail = e ∙ sym (drop-take k (c.count - k) c.items) ∙ ap (λ (n : ℕ). drop k (take n c.items)) (omega arith) in
+      let front : take (k + 1) (set c.items k rule) ≡ take k held ++ (rule ∷ [])
+      = pushed c.items k rule all (omega arith) ∙ ap (λ (l : List Rule). l ++ (rule ∷ [])) (sym (take-take k c.count c.items h)) in
+      let whole : take (k + 1) (set c.items k rule) ++ (copied ++ rest) ≡ behind c k rule ++ rest
+      = rw (front, copied-is, append_assoc (take k held) (rule ∷ []) (tail ++ rest), append_assoc (take k held) (rule ∷ tail) rest) refl in
       rw (whole, take-append-le (c.count + 1) (behind c k rule) rest (omega arith)) (take_all (c.count + 1) (behind c k rule) (omega arith))
 
 -- ---- insert

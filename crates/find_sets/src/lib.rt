@@ -30,13 +30,14 @@ fn place(c: &Rules, rule: Rule) -> usize
         .count()
 }
 
-// A rule put behind the first k.
+// A rule put behind the first k. (Not by `rotate_right`: the library would need memmove from outside.)
 fn splice(c: &mut Rules, k: usize, rule: Rule)
     requires { (c.old.count < most_rules) × (k ≤ c.old.count) }
     ensures { (rules_of c.new ≡ take k (rules_of c.old) ++ (rule ∷ drop k (rules_of c.old))) × (c.new.count ≡ c.old.count + 1) }
 {
-    c.items[c.count] = rule;
-    c.items[k..c.count + 1].rotate_right(1);
+    let held = c.items;
+    c.items[k] = rule;
+    c.items[k + 1..c.count + 1].copy_from_slice(&held[k..c.count]);
     c.count += 1;
 }
 

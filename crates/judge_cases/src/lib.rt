@@ -25,9 +25,9 @@ pub struct Opened {
 
 // Where the test stands that a call asks for, and its file's rules.
 #[derive(Clone, Copy)]
-struct Selected {
-    rules: Rules,
-    test: Extent,
+pub struct Selected {
+    pub rules: Rules,
+    pub test: Extent,
 }
 
 // All of a test's schedules counted, under these rules. (This and `decide_test` load a test alike, each for itself:

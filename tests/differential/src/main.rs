@@ -13,6 +13,7 @@ mod lent;
 mod lines;
 mod locate;
 mod names;
+mod needs;
 mod paths;
 mod precedence;
 mod program;
@@ -47,6 +48,7 @@ fn parts() -> Vec<Part> {
     ];
     let stacks = judge && JUDGE_LINES.is_some() && FIND.is_some();
     parts.push(part("stack", stacks, stacks::suites()));
+    parts.push(part("what it needs", judge, needs::suites()));
     parts.extend(receiver::parts());
     let all = parts.iter().all(|part| part.is_there);
     parts.push(part("precedence of refusals", all, precedence::suites()));

@@ -1,7 +1,5 @@
 // What firmware asks of the library: that it needs next to nothing from outside, and little stack.
 
-use std::process::Command;
-
 use reference::cache::{self, DISK, STATE};
 use reference::damage::{self, Limit};
 use reference::file::MOST_RULES;
@@ -12,9 +10,9 @@ use reference::states::{self, Source};
 use super::columns;
 use super::opening::file_of;
 use crate::answer;
-use crate::harness::{require, Outcome, Run, Suite};
+use crate::harness::{Outcome, Run, Suite};
 use crate::lent::Lent;
-use crate::paths;
+use crate::needs;
 use crate::stack::Deepest;
 
 /// Bytes of stack that a call may use.
@@ -36,22 +34,7 @@ pub fn suites() -> Vec<Suite> {
 }
 
 fn needed_symbols(run: &mut Run) -> Outcome {
-    run.next_case();
-    let archive = paths::target().join("staticlib/libreceiver.a");
-    let listing = Command::new("nm").args(["-u", "-P"]).arg(archive).output();
-    let listing = listing.map_or_else(|error| error.to_string().into(), |output| output.stdout);
-    let listing = String::from_utf8_lossy(&listing).into_owned();
-    // A line of a member's name ends with a colon and has no blank.
-    let symbols: Vec<&str> = listing
-        .lines()
-        .filter_map(|line| line.split_once(' ').map(|(symbol, _)| symbol))
-        .collect();
-    run.note(symbols.join(" "));
-    require(
-        !listing.is_empty() && symbols.iter().all(|symbol| NEEDED.contains(symbol)),
-        &format!("{NEEDED:?} at most"),
-        listing,
-    )
+    needs::at_most(run, "receiver", &NEEDED)
 }
 
 fn slice(lent: &mut Lent) -> (u64, u64) {
