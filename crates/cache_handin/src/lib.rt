@@ -49,7 +49,7 @@ fn fault_behind(
     requires { ((n < most_held) × (take n rows.now ≡ rows_of (needs (rules_of rules) (writes_of columns.now n)) n)) × ((cyclic (rules_of rules) ≡ false) × (needs_ring (rules_of rules) (writes_of columns.now n) ≡ false)) }
     ensures { fault_number result ≡ cond (late (rules_of rules) (writes_of columns.now n) (bit stored) w) 17 (cond (needs_ring (rules_of rules) (writes_of columns.now n ++ (w ∷ []))) 18 0) }
 {
-    let dependents = cache_needs::dependents(rules, columns, n, w);
+    let dependents = cache_needs::dependents(rules, &columns.names, &columns.epochs, n, w);
     if dependents & stored != 0 {
         return Err(Cause::Late);
     }

@@ -22,8 +22,9 @@ pub fn stored_mask(state: &[u8]) -> u64
     mask
 }
 
-// Whether the bytes from `from` up to `end` are zero. (By their places: `iter().all(..)` takes five instructions a
-// byte in place of three, which a call on a state that holds few writes feels.)
+// Whether the bytes from `from` up to `end` are zero. (By their places, eleven instructions for four
+// bytes where writes stand: `iter().all(..)` takes five for each byte, which a call on a state that holds few writes
+// feels.)
 fn are_zero(state: &[u8], from: usize, end: usize) -> bool
     requires { (from ≤ end) × (end ≤ length state.now) }
     ensures { result ≡ zeros state.now from (end - from) }

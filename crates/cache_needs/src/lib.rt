@@ -9,7 +9,7 @@ ghost use Rattle.relation.specs.Finite.{rows_of};
 ghost use Rattle.model.specs.Limits.{most_rules, most_held};
 ghost use Rattle.model.specs.Needs.{needs};
 ghost use Rattle.rule_match.specs.Held.{item_at, rules_of};
-ghost use Rattle.cache_masks.specs.Columns.{writes_of};
+ghost use Rattle.cache_masks.specs.Columns.{columned, writes_of};
 ghost use Rattle.cache_masks.specs.Masks.{same_mask, same_at};
 ghost use Rattle.cache_masks.specs.Ranks.{rank_at, below_mask, bounds};
 ghost use Rattle.cache_needs.specs.Needed.{needed_mask, dependent_mask};
@@ -182,19 +182,25 @@ pub fn needed(rules: Rules, columns: &Columns, n: usize, w: Write) -> u64
     mask
 }
 
-// Which of the first n writes depend on w. (Names and epochs are turned round, and no address counts: one function
-// of both, with all that as parameters, would be no plainer.)
-pub fn dependents(rules: Rules, columns: &Columns, n: usize, w: Write) -> u64
+// Which of the first n writes depend on w, by their names and epochs, whatever their addresses are. (One function of
+// this and `needed`, with names and epochs turned round and no address counting as parameters, would be no plainer.)
+pub fn dependents(
+    rules: Rules,
+    names: &[u16; model::MOST_HELD],
+    epochs: &[u32; model::MOST_HELD],
+    n: usize,
+    w: Write,
+) -> u64
     requires { n ≤ most_held }
-    ensures { result ≡ dependent_mask (rules_of rules) (writes_of columns.now n) w n }
+    ensures { (addresses : List ℕ) → result ≡ dependent_mask (rules_of rules) (columned addresses names.now epochs.now n) w n }
 {
-    let compared = cache_masks::turned(cache_masks::compare_epochs(&columns.epochs, w.epoch, n));
+    let compared = cache_masks::turned(cache_masks::compare_epochs(epochs, w.epoch, n));
     let mut mask: u64 = 0;
     for k in 0..rules.count {
         let rule = rules.items[k];
         let standing = cache_masks::standing(compared, rule.predicate);
         let on = w.name == rule.second;
-        mask = with_named(mask, on, &columns.names, rule.first, n, standing);
+        mask = with_named(mask, on, names, rule.first, n, standing);
     }
     mask
 }

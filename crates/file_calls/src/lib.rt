@@ -7,7 +7,7 @@ ghost use Rattle.model.specs.Answer.{coded};
 ghost use Rattle.file_calls.specs.File.{read_answer, packed_extent, locate_answer, cyclic_answer, Packed};
 
 use file_format::Extent;
-use model::Cause;
+use model::{Cause, Refusal};
 
 // How many rules, and 256 times how many tests, a file holds.
 pub fn read_counts(file: &[u8]) -> u64
@@ -15,7 +15,7 @@ pub fn read_counts(file: &[u8]) -> u64
 {
     match file_reader::read(file) {
         Ok(contents) => contents.rules as u64 + 256 * (contents.count as u64),
-        Err(why) => model::code_of(why),
+        Err(why) => why.code(),
     }
 }
 
@@ -38,11 +38,11 @@ pub fn locate_test(file: &[u8], test: u64) -> u64
     match file_reader::read(file) {
         Ok(contents) => {
             if !file_reader::has_test(contents.count, test) {
-                return model::code_of(Cause::NoSuchTest.into());
+                return Refusal::from(Cause::NoSuchTest).code();
             }
             pack(contents.tests[file_reader::from_zero(test)])
         }
-        Err(why) => model::code_of(why),
+        Err(why) => why.code(),
     }
 }
 
@@ -55,6 +55,6 @@ pub fn cyclic_rules(file: &[u8]) -> u64
             let rules = file_loading::file_rules(file, contents.rules);
             u64::from(rule_cycles::is_cyclic(rules))
         }
-        Err(why) => model::code_of(why),
+        Err(why) => why.code(),
     }
 }

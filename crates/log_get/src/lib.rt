@@ -7,7 +7,7 @@ ghost use Rattle.model.specs.Check.{damaged};
 ghost use Rattle.file_format.specs.Bytes.{disk_length, block_in};
 ghost use Rattle.log_get.specs.Get.{keyed, get_from, get_answer, found_value};
 
-use model::Cause;
+use model::{Cause, Refusal};
 
 // What get answers for a key without a value: its answer is one number, for C.
 const NO_VALUE: u64 = 65536;
@@ -51,13 +51,13 @@ pub fn get(disk: &[u8], key: u16) -> u64
     ensures { result ≡ get_answer disk.now key }
 {
     if disk.len() != file_format::DISK_LENGTH {
-        return model::code_of(Cause::Not1024Bytes.into());
+        return Refusal::from(Cause::Not1024Bytes).code();
     }
     let b = block_at(disk, 0);
     let head = judge_checks::first_of(b);
     let tail = judge_checks::second_of(b);
     if judge_checks::is_damaged(head, tail) {
-        return model::code_of(Cause::LogDamaged.into());
+        return Refusal::from(Cause::LogDamaged).code();
     }
     match find_key(disk, key, head, tail) {
         Some(value) => value as u64,

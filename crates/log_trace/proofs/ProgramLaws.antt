@@ -216,9 +216,9 @@ module _ (i m l : List ℕ) (x : Result (Unit {0}) Cause) (e : fault_number x �
       rw (by-fault i m l, ← f, b, s, test-bytes i m (length i / block_length) (length m / block_length)) refl
 
 -- the three parts of a test
-pub test-wrote : (i m : List ℕ) (n k p : ℕ) (l l₁ l₂ l₃ : List ℕ) (r₁ r₂ r₃ : ℕ) → p ≡ n
-    → Wrote l 0 (program_fields 1 1 0 i n) l₁ r₁ → Wrote l₁ r₁ (program_fields 2 (1 + p) p m k) l₂ r₂ → Wrote l₂ r₂ end_fields l₃ r₃ → Wrote l 0 (test_fields i m n k) l₃ r₃
+pub test-wrote : (i m : List ℕ) (n k p q : ℕ) (l l₁ l₂ l₃ : List ℕ) (r₁ r₂ r₃ : ℕ) → p ≡ n → q ≡ k
+    → Wrote l 0 (program_fields 1 1 0 i p) l₁ r₁ → Wrote l₁ r₁ (program_fields 2 (1 + p) p m q) l₂ r₂ → Wrote l₂ r₂ end_fields l₃ r₃ → Wrote l 0 (test_fields i m n k) l₃ r₃
 unfolding test_fields
-test-wrote i m n k p l l₁ l₂ l₃ r₁ r₂ r₃ e a b c = wrote_then _ _ _ _ _ _ _ _ a (wrote_then _ _ _ _ _ _ _ _ (rw e at b) c)
+test-wrote i m n k p q l l₁ l₂ l₃ r₁ r₂ r₃ d e a b c = wrote_then _ _ _ _ _ _ _ _ (rw d at a) (wrote_then _ _ _ _ _ _ _ _ (rw (d, e) at b) c)
 
 pub ruleset faults = (rules, fault-initial, fault-main, fault-room, fault-none, few-initial, few-main, small-enough, trace-refused, trace-written, test-wrote)

@@ -9,7 +9,7 @@ ghost use Rattle.file_writing.specs.Writing.{Wrote};
 ghost use Rattle.log_trace.specs.Traced.{empty_below, size_of, test_fields, trace_fault, trace_out, trace_answer};
 
 use file_format::Kind;
-use model::Cause;
+use model::{Cause, Refusal};
 
 // How many puts a program has.
 fn puts_in(program: &[u8]) -> usize
@@ -66,8 +66,16 @@ fn put_test(out: &mut [u8], initial: &[u8], main: &[u8]) -> usize
     ensures { Wrote out.old 0 (test_fields initial.now main.now (length initial.now / block_length) (length main.now / block_length)) out.new result × (result ≡ size_of (length initial.now / block_length) (length main.now / block_length)) }
 {
     let n = puts_in(initial);
-    let next = log_puts::put_program(out, 0, Kind::Initial, initial, 1, 0);
-    let end = log_puts::put_program(out, next, Kind::Main, main, 1 + (n as u8), n as u32);
+    let next = log_puts::put_program(out, 0, Kind::Initial as u8, initial, n, 1, 0);
+    let end = log_puts::put_program(
+        out,
+        next,
+        Kind::Main as u8,
+        main,
+        puts_in(main),
+        1 + (n as u8),
+        n as u32,
+    );
     log_puts::put_end(out, end)
 }
 
@@ -78,7 +86,7 @@ pub fn trace(initial: &[u8], main: &[u8], buffer: &mut [u8]) -> u64
     ensures { trace_out result buffer.new ≡ trace_answer initial.now main.now buffer.old }
 {
     if let Err(cause) = trace_fault(initial, main, buffer.len()) {
-        return model::code_of(cause.into());
+        return Refusal::from(cause).code();
     }
     put_test(buffer, initial, main) as u64
 }

@@ -129,12 +129,22 @@ pub fn refuse(number: u64, place: u64) -> u64
     9223372036854775808 + number * WORDS + place
 }
 
-// A refusal as one number.
-pub fn code_of(r: Refusal) -> u64
-    requires { r.place < words }
-    ensures { result ≡ refusal (number_of r.cause) r.place }
+// A refusal as one number, by any number that a byte holds, a cause's or not.
+pub fn code_of(number: u8, place: usize) -> u64
+    requires { place < words }
+    ensures { result ≡ refusal number place }
 {
-    refuse(u64::from(r.cause.number()), r.place as u64)
+    refuse(u64::from(number), place as u64)
+}
+
+impl Refusal {
+    // This refusal as one number.
+    pub fn code(self) -> u64
+        requires { self.place < words }
+        ensures { result ≡ refusal (number_of self.cause) self.place }
+    {
+        code_of(self.cause.number(), self.place)
+    }
 }
 
 // What a call answers, a number below bit 63 or a refusal, as one number.
@@ -144,6 +154,6 @@ pub fn coded(answer: Result<u64, Refusal>) -> u64
 {
     match answer {
         Ok(number) => number,
-        Err(why) => code_of(why),
+        Err(why) => why.code(),
     }
 }

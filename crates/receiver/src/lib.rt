@@ -17,7 +17,7 @@ pub fn pelzhondy_step(state: &mut [u8], disk: &mut [u8]) -> u64
     let mut rows = [0u64; model::MOST_HELD];
     match cache_steps::look(&mut rows, state, disk) {
         Ok(stored) => cache_steps::place(cache_steps::step_sound(state, disk, &rows, stored)),
-        Err(cause) => model::code_of(Refusal::from(cause)),
+        Err(cause) => Refusal::from(cause).code(),
     }
 }
 
@@ -29,7 +29,7 @@ pub fn pelzhondy_drain(state: &mut [u8], disk: &mut [u8]) -> u64
     let mut rows = [0u64; model::MOST_HELD];
     match cache_steps::look(&mut rows, state, disk) {
         Ok(stored) => cache_steps::drain_sound(state, disk, &rows, stored),
-        Err(cause) => model::code_of(Refusal::from(cause)),
+        Err(cause) => Refusal::from(cause).code(),
     }
 }
 
@@ -46,7 +46,7 @@ pub fn pelzhondy_hand_in(
 {
     let w = cache_stores::given(address, name, epoch, first, second);
     if let Err(cause) = cache_handin::hand_fault(state, w) {
-        return model::code_of(Refusal::from(cause));
+        return Refusal::from(cause).code();
     }
     cache_stores::append(state, w)
 }

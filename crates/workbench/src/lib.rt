@@ -10,7 +10,7 @@ ghost use Rattle.workbench.specs.Printed.{printed, printed_of};
 ghost use Rattle.judge_answers.specs.Judged.{judge_answer, verdict_answer};
 ghost use Rattle.file_calls.specs.File.{read_answer, locate_answer, cyclic_answer};
 
-use model::Cause;
+use model::{Cause, Refusal};
 
 // How many rules, and 256 times how many tests, a file holds.
 pub fn pelzhondy_read(file: &[u8]) -> u64
@@ -42,7 +42,7 @@ pub fn pelzhondy_judge(file: &[u8], test: u64) -> u64
 {
     match judge_cases::judge(file, test) {
         Ok(j) => judge_answers::code_of(j),
-        Err(why) => model::code_of(why),
+        Err(why) => why.code(),
     }
 }
 
@@ -53,7 +53,7 @@ pub fn pelzhondy_verdict(file: &[u8], test: u64) -> u64
 {
     match judge_cases::decide(file, test) {
         Ok(v) => judge_answers::code_of_verdict(v),
-        Err(why) => model::code_of(why),
+        Err(why) => why.code(),
     }
 }
 
@@ -63,7 +63,7 @@ pub fn pelzhondy_judge_lines(file: &[u8], out: &mut [u8]) -> u64
     ensures { printed result out.new ≡ printed_of file.now out.old }
 {
     if out.len() < judge_text::TEXT_LENGTH {
-        return model::code_of(Cause::BufferTooShort.into());
+        return Refusal::from(Cause::BufferTooShort).code();
     }
     judge_text::judge_lines(file, out) as u64
 }

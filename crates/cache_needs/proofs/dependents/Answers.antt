@@ -3,7 +3,7 @@ use Rattle.cache_needs.proofs.NeedSteps.{needing}
 use Rattle.cache_needs.proofs.dependents.Goals as goal
 
 pub loop-k-init : goal.loop-k-init
-loop-k-init c = search needing
+loop-k-init c = (search needing, λ addresses. search needing)
 
 pub loop-k-preserved : goal.loop-k-preserved
-loop-k-preserved c = search needing
+loop-k-preserved c = (search needing, λ addresses. search needing)

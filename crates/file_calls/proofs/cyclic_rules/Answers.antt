@@ -8,8 +8,8 @@ file_rules-rules-requires c = search answers
 pub is_cyclic-requires : goal.is_cyclic-requires
 is_cyclic-requires c = search answers
 
-pub code_of-requires : goal.code_of-requires
-code_of-requires c = search answers
+pub code-requires : goal.code-requires
+code-requires c = search answers
 
 pub returns-in-Ok : goal.returns-in-Ok
 returns-in-Ok c = search answers

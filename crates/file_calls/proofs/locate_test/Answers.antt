@@ -14,8 +14,8 @@ bounds-contents-from_zero c = search answers
 pub pack-requires : goal.pack-requires
 pack-requires c = search answers
 
-pub code_of-requires-in-Err : goal.code_of-requires-in-Err
-code_of-requires-in-Err c = search answers
+pub code-requires-in-Err : goal.code-requires-in-Err
+code-requires-in-Err c = search answers
 
 pub returns-else-not-has_test : goal.returns-else-not-has_test
 returns-else-not-has_test c = search answers

@@ -8,8 +8,8 @@ overflow_mul-result c = search answers
 pub overflow_add-result : goal.overflow_add-result
 overflow_add-result c = search answers
 
-pub code_of-requires : goal.code_of-requires
-code_of-requires c = search answers
+pub code-requires : goal.code-requires
+code-requires c = search answers
 
 pub returns-in-Ok : goal.returns-in-Ok
 returns-in-Ok c = search answers

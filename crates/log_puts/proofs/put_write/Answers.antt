@@ -5,7 +5,7 @@ use Rattle.log_puts.proofs.put_write.Goals as goal
 
 pub returns : goal.returns
 returns c =
-    let w = write-wrote _ _ _ _ _ _ _ _ _ _ (rw c.tag_of.ensures at c.put_bytes-next.ensures) c.put_word-next.ensures c.put_word.ensures in
+    let w = write-wrote _ _ _ _ _ _ _ _ _ _ c.put_bytes-next.ensures c.put_word-next.ensures c.put_word.ensures in
     let f0 = c.put_bytes-next.ensures.place in
     let f1 = c.put_word-next.ensures.place in
     let f2 = c.put_word.ensures.place in

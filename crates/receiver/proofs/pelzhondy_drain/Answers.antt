@@ -12,4 +12,4 @@ returns-in-Ok c = call_made _ _ drained _ _ _ c.in-Ok.ensures.0 c.drain_sound.en
 
 pub returns-in-Err : goal.returns-in-Err
 unfolding drain_of
-returns-in-Err c = rw (c.code_of.ensures, c.from.ensures) (call-refused _ _ drained _ c.in-Err.ensures)
+returns-in-Err c = rw (c.code.ensures, c.from.ensures) (call-refused _ _ drained _ c.in-Err.ensures)

@@ -7,7 +7,7 @@ pub append-requires : goal.append-requires
 append-requires c = hand_room _ _ _ c.in_default.ensures refl
 
 pub returns-in-Err : goal.returns-in-Err
-returns-in-Err c = given-refused _ _ _ _ c.given-w.ensures _ c.in-Err.ensures (rw c.from.ensures at c.code_of.ensures)
+returns-in-Err c = given-refused _ _ _ _ c.given-w.ensures _ c.in-Err.ensures (rw c.from.ensures at c.code.ensures)
 
 pub returns : goal.returns
 returns c = given-taken _ _ _ _ c.given-w.ensures _ c.in_default.ensures c.append.ensures.0 c.append.ensures.1

@@ -12,4 +12,4 @@ returns-in-Ok c = rw c.place.ensures (call_made _ _ stepped _ _ _ c.in-Ok.ensure
 
 pub returns-in-Err : goal.returns-in-Err
 unfolding step_of
-returns-in-Err c = rw (c.code_of.ensures, c.from.ensures) (call-refused _ _ stepped _ c.in-Err.ensures)
+returns-in-Err c = rw (c.code.ensures, c.from.ensures) (call-refused _ _ stepped _ c.in-Err.ensures)

@@ -5,8 +5,8 @@ use Rattle.workbench.proofs.pelzhondy_judge.Goals as goal
 pub code_of-requires : goal.code_of-requires
 code_of-requires c = search judged
 
-pub code_of-requires-in-Err : goal.code_of-requires-in-Err
-code_of-requires-in-Err c = search judged
+pub code-requires : goal.code-requires
+code-requires c = search judged
 
 pub returns-in-Ok : goal.returns-in-Ok
 returns-in-Ok c = search judged
